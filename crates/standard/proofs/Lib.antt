@@ -1,0 +1,2 @@
+pub mod KnownValues
+pub mod BitLaws

@@ -1,0 +1,61 @@
+-- The known values of document 01 that are to be proved: rows of what the definitions give and what the paper states.
+-- Assumes nothing.
+use mathlib.Core.Bool.{Bool, true, false}
+use mathlib.Core.List.{List, [], _∷_, map, flatMap}
+use Prim.Native.Nat.{ℕ, suc, _-_}
+use lib.ListN.{length, getD, take, drop}
+use Rattle.standard.specs.Bits.{low-first, high-first, bitsOf, valueOf, bitsIn, pack, bytesFor}
+use Rattle.standard.specs.Field.{mul}
+use Rattle.standard.specs.Photon.{serial, aes}
+use Rattle.standard.specs.Spongent.{lCounters, goesTo}
+use Rattle.standard.specs.Sponge.{Variant, startState, messageBlocks, outputBlocks}
+use Rattle.standard.specs.Variants.{variant, spongent88}
+use Rattle.standard.specs.LowestFreeBit.{lowestFreeBit}
+
+-- what a definition gives, and what the paper says that it is
+pub record Row : Type 0 where
+  pub gives : List ℕ
+  pub stated : List ℕ
+
+-- the blocks of a message as numbers, their first bit the most significant
+abbrev pub blockValues : ℕ → List ℕ → List ℕ
+blockValues v m = map (valueOf high-first) (messageBlocks (variant v) m)
+
+-- the last 24 bits of the start state
+abbrev pub startEnd : ℕ → ℕ
+startEnd v = valueOf high-first (drop (variant v .t - 24) (startState (variant v)))
+
+-- the places of the bits that are set, from i on
+abbrev pub places : ℕ → List Bool → List ℕ
+places i [] = []
+places i (true ∷ s) = i ∷ places (suc i) s
+places i (false ∷ s) = places (suc i) s
+
+abbrev pub knownValues : List Row
+knownValues =
+    -- the empty message: variant 1, variant 6 in the padding in use, and by the wording of document 01
+    record { gives = blockValues 1 []; stated = 0x80000 ∷ [] }
+    ∷ record { gives = blockValues 6 []; stated = 0x80 ∷ [] }
+    ∷ record { gives = flatMap (λ b. b) (lowestFreeBit 8 []); stated = 0x01 ∷ [] }
+    -- bytes AB CD in variants 1 and 3; byte AB in variant 8, in use and by the wording of document 01
+    ∷ record { gives = blockValues 1 (0xab ∷ 0xcd ∷ []); stated = 0xabcd8 ∷ [] }
+    ∷ record { gives = blockValues 3 (0xab ∷ 0xcd ∷ []); stated = 0xabcd80000 ∷ [] }
+    ∷ record { gives = blockValues 8 (0xab ∷ []); stated = 0xab80 ∷ [] }
+    ∷ record { gives = flatMap (λ b. b) (lowestFreeBit 16 (0xab ∷ [])); stated = 0xab ∷ 0x01 ∷ [] }
+    -- five bytes in variant 1: three blocks, the last 80000
+    ∷ record { gives = blockValues 1 (1 ∷ 2 ∷ 3 ∷ 4 ∷ 5 ∷ []); stated = 0x01020 ∷ 0x30405 ∷ 0x80000 ∷ [] }
+    -- the last 24 bits of the start
+    ∷ record { gives = startEnd 1 ∷ startEnd 4 ∷ []; stated = 0x141410 ∷ 0x382020 ∷ [] }
+    -- variant 6: the counter, and the places that 05 sets in reverse
+    ∷ record { gives = take 5 (lCounters spongent88); stated = 0x05 ∷ 0x0a ∷ 0x14 ∷ 0x29 ∷ 0x13 ∷ [] }
+    ∷ record { gives = places 0 (bitsOf high-first 88 0x05); stated = 85 ∷ 87 ∷ [] }
+    -- t = 88: where the bits 1, 4, 86 and 87 go
+    ∷ record { gives = map (goesTo 88 22) (1 ∷ 4 ∷ 86 ∷ 87 ∷ []); stated = 22 ∷ 1 ∷ 65 ∷ 87 ∷ [] }
+    -- the AES S-box, and products in both fields
+    ∷ record { gives = getD aes 0xab 0 ∷ []; stated = 0x62 ∷ [] }
+    ∷ record { gives = mul 16 0x13 2 9 ∷ mul 256 0x11b 0x02 0x8d ∷ []; stated = 1 ∷ 0x01 ∷ [] }
+    -- d = 5: one multiplication of a column
+    ∷ record { gives = serial 16 0x13 (1 ∷ 2 ∷ 9 ∷ 9 ∷ 2 ∷ []) (0 ∷ 0 ∷ 0 ∷ 0 ∷ 1 ∷ []); stated = 0 ∷ 0 ∷ 0 ∷ 1 ∷ 2 ∷ [] }
+    -- variant 3: five output blocks, the last giving 16 bits
+    ∷ record { gives = map length (outputBlocks (variant 3) (startState (variant 3))); stated = 36 ∷ 36 ∷ 36 ∷ 36 ∷ 16 ∷ [] }
+    ∷ []
