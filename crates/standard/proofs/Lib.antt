@@ -1,2 +1,4 @@
-pub mod KnownValues
+pub mod Tests
 pub mod BitLaws
+pub mod Undo
+pub mod KnownValues

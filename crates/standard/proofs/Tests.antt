@@ -1,0 +1,55 @@
+-- A rule of every number below n, by one test that is computed at each; and what holds of each variant's number.
+-- Assumes nothing.
+use mathlib.Core.Path.{_≡_, subst, sym}
+use mathlib.Core.Bool.{Bool, true, false, _&&_}
+use mathlib.Core.Logic.{⊎-elim}
+use Prim.Native.Nat.{ℕ, zero, suc, _≤_, _<_}
+use native.Mathlib.Nat.{le-of-suc-le-suc, not-suc-le-zero, eq-or-lt-of-le}
+use native.Mathlib.Omega.{arith}
+use lib.Dec.{T, eqb, ltb, eqb→eq, leb→le}
+
+pub and-left : (a b : Bool) → T (a && b) → T a
+and-left true b t = tt
+and-left false b t = t
+
+pub and-right : (a b : Bool) → T (a && b) → T b
+and-right true b t = t
+and-right false b t = absurd t
+
+abbrev pub below : (ℕ → Bool) → ℕ → Bool
+below f zero = true
+below f (suc n) = f n && below f n
+
+pub below-at : (f : ℕ → Bool) (n : ℕ) → T (below f n) → (k : ℕ) → k < n → T (f k)
+below-at f zero t k h = absurd (not-suc-le-zero h)
+below-at f (suc n) t k h =
+    ⊎-elim (λ e. subst (λ (m : ℕ). T (f m)) (sym e) (and-left (f n) (below f n) t))
+    (λ l. below-at f n (and-right (f n) (below f n) t) k l) (eq-or-lt-of-le (le-of-suc-le-suc h))
+
+-- two functions agree below n
+pub same-below : (f g : ℕ → ℕ) (n : ℕ) → T (below (λ k. eqb (f k) (g k)) n) → (k : ℕ) → k < n → f k ≡ g k
+same-below f g n t k h = eqb→eq (f k) (g k) (below-at (λ m. eqb (f m) (g m)) n t k h)
+
+-- a function stays below a bound below n
+pub bound-below : (f : ℕ → ℕ) (b n : ℕ) → T (below (λ k. ltb (f k) b) n) → (k : ℕ) → k < n → f k < b
+bound-below f b n t k h = leb→le (suc (f k)) b (below-at (λ m. ltb (f m) b) n t k h)
+
+-- what holds of each of 1 to 5 holds of every number between
+pub one-to-five : (P : ℕ → Type 0) → P 1 → P 2 → P 3 → P 4 → P 5 → (v : ℕ) → 1 ≤ v → v ≤ 5 → P v
+one-to-five P a b c d e zero l h = absurd (not-suc-le-zero l)
+one-to-five P a b c d e (suc zero) l h = a
+one-to-five P a b c d e (suc (suc zero)) l h = b
+one-to-five P a b c d e (suc (suc (suc zero))) l h = c
+one-to-five P a b c d e (suc (suc (suc (suc zero)))) l h = d
+one-to-five P a b c d e (suc (suc (suc (suc (suc zero))))) l h = e
+one-to-five P a b c d e (suc (suc (suc (suc (suc (suc v)))))) l h = absurd (omega arith)
+
+-- and of each of 6 to 10
+pub six-to-ten : (P : ℕ → Type 0) → P 6 → P 7 → P 8 → P 9 → P 10 → (v : ℕ) → 6 ≤ v → v ≤ 10 → P v
+six-to-ten P a b c d e zero l h = absurd (omega arith)
+six-to-ten P a b c d e (suc zero) l h = absurd (omega arith)
+six-to-ten P a b c d e (suc (suc zero)) l h = absurd (omega arith)
+six-to-ten P a b c d e (suc (suc (suc zero))) l h = absurd (omega arith)
+six-to-ten P a b c d e (suc (suc (suc (suc zero)))) l h = absurd (omega arith)
+six-to-ten P a b c d e (suc (suc (suc (suc (suc v))))) l h =
+    one-to-five (λ n. P (suc (suc (suc (suc (suc n)))))) a b c d e v (omega arith) (omega arith)
