@@ -343,7 +343,7 @@ bit-xor a b =
     ap bit (ap (λ (x : ℕ). x % 2) (xor-step a b) ∙ digits-mod (bitXor (a / 2) (b / 2)) (differ-lt (a % 2) (b % 2) (omega arith) (omega arith)))
     ∙ bit-differ (a % 2) (b % 2) (omega arith) (omega arith)
 
-xor-back : (u v : Bool) → xor u (xor u v) ≡ v
+pub xor-back : (u v : Bool) → xor u (xor u v) ≡ v
 unfolding xor
 xor-back true true = refl
 xor-back true false = refl

@@ -1,12 +1,13 @@
 -- A rule of every number below n, by one test that is computed at each; and what holds of each variant's number.
 -- Assumes nothing.
-use mathlib.Core.Path.{_≡_, subst, sym}
+use mathlib.Core.Path.{_≡_, refl, subst, sym}
 use mathlib.Core.Bool.{Bool, true, false, _&&_}
-use mathlib.Core.Logic.{⊎-elim}
+use mathlib.Core.Logic.{_⊎_, inl, inr, ⊎-elim}
 use Prim.Native.Nat.{ℕ, zero, suc, _≤_, _<_}
 use native.Mathlib.Nat.{le-of-suc-le-suc, not-suc-le-zero, eq-or-lt-of-le}
 use native.Mathlib.Omega.{arith}
 use lib.Dec.{T, eqb, ltb, eqb→eq, leb→le}
+use borrow.Author.Tests.{ltb-true, ltb-false}
 
 pub and-left : (a b : Bool) → T (a && b) → T a
 and-left true b t = tt
@@ -15,6 +16,13 @@ and-left false b t = t
 pub and-right : (a b : Bool) → T (a && b) → T b
 and-right true b t = t
 and-right false b t = absurd t
+
+pub lt-or-le : (n m : ℕ) → (n < m) ⊎ (m ≤ n)
+lt-or-le n m = go (ltb n m) refl
+  where
+    go : (b : Bool) → ltb n m ≡ b → (n < m) ⊎ (m ≤ n)
+    go true e = inl (ltb-true n m e)
+    go false e = inr (ltb-false n m e)
 
 abbrev pub below : (ℕ → Bool) → ℕ → Bool
 below f zero = true

@@ -1,0 +1,62 @@
+-- Bits read from the same bytes in another order: nothing is lost, and the way back is the same.
+-- Assumes nothing.
+use mathlib.Core.Path.{_≡_, refl, sym, ap, ap₂, _∙_, subst}
+use mathlib.Core.Bool.{Bool}
+use mathlib.Core.List.{List}
+use mathlib.Core.Logic.{_⊎_, inl, inr, ⊎-elim}
+use Prim.Native.Nat.{ℕ, _+_, _*_, _/_, _%_, _≤_}
+use native.Mathlib.Omega.{arith}
+use lib.ListN.{length, take}
+use lib.Seq.{take-all}
+use Rattle.standard.specs.Bits.{Order, low-first, high-first, bitsIn, pack, unpack, bytesFor, reordered}
+use Rattle.standard.proofs.BitLaws.{length-pack, length-bitsIn, length-unpack, unpack-pack, pack-bitsIn, pack-bytes}
+
+enough : (n : ℕ) → n ≤ bytesFor n * 8
+enough n = omega arith
+
+enough′ : (n : ℕ) → n ≤ 8 * bytesFor n
+enough′ n = omega arith
+
+pub length-reordered : (a b : Order) (bs : List Bool) → length (reordered a b bs) ≡ length bs
+unfolding reordered
+length-reordered a b bs =
+    length-unpack b (length bs) (pack a (bytesFor (length bs)) bs)
+    (subst (λ (m : ℕ). length bs ≤ 8 * m) (sym (length-pack a (bytesFor (length bs)) bs)) (enough′ (length bs)))
+
+pub reordered-same : (a : Order) (bs : List Bool) → reordered a a bs ≡ bs
+unfolding reordered
+reordered-same a bs = unpack-pack a (bytesFor (length bs)) bs (enough (length bs))
+
+-- whole bytes, read in the order b, are the same bytes
+bytes-again : (a b : Order) (n : ℕ) (bs : List Bool) → length bs ≡ 8 * n → pack b n (unpack b (length bs) (pack a n bs)) ≡ pack a n bs
+unfolding unpack
+bytes-again a b n bs e =
+    let bytes : List ℕ = pack a n bs in
+    let len : length bytes ≡ n = length-pack a n bs in
+    ap (pack b n) (take-all (length bs) (bitsIn b bytes) (omega (arith, length-bitsIn b bytes)))
+    ∙ ap (λ (m : ℕ). pack b m (bitsIn b bytes)) (sym len)
+    ∙ pack-bitsIn b bytes (pack-bytes a n bs)
+
+pub reordered-back : (a b : Order) (bs : List Bool) → length bs % 8 ≡ 0 → reordered b a (reordered a b bs) ≡ bs
+unfolding reordered
+reordered-back a b bs e =
+    let n : ℕ = bytesFor (length bs) in
+    let whole : length bs ≡ 8 * n = omega arith in
+    let again : List Bool = unpack b (length bs) (pack a n bs) in
+    let len : length again ≡ length bs = length-reordered a b bs in
+    ap (λ (m : ℕ). unpack a m (pack b (bytesFor m) again)) len
+    ∙ ap (unpack a (length bs)) (bytes-again a b n bs whole)
+    ∙ unpack-pack a n bs (enough (length bs))
+
+-- Bits may be reordered and put back where the two orders are one, or the bits fill whole bytes.
+pub reordered-injective : (a b : Order) (r : ℕ) → (a ≡ b) ⊎ (r % 8 ≡ 0) → (x y : List Bool) → length x ≡ r → length y ≡ r
+    → reordered a b x ≡ reordered a b y → x ≡ y
+reordered-injective a b r w x y lx ly e =
+    ⊎-elim
+    (λ same. sym (reordered-same a x)
+      ∙ subst (λ (c : Order). reordered a c x ≡ reordered a c y) (sym same) e
+      ∙ reordered-same a y)
+    (λ whole. sym (reordered-back a b x (ap (λ (m : ℕ). m % 8) lx ∙ whole))
+      ∙ ap (reordered b a) e
+      ∙ reordered-back a b y (ap (λ (m : ℕ). m % 8) ly ∙ whole))
+    w

@@ -1,0 +1,101 @@
+//! PHOTON and SPONGENT of ISO/IEC 29192-5, written from the standard's rules.
+//!
+//! This is the second version that the proved library is compared with, so
+//! it takes other ways to the same results: constants come from their shift
+//! registers, the mixing matrix is a matrix power, inverses are solved for
+//! or read backwards, and the sponge works on lists of bits.
+//!
+//! Variants go by the numbers 1 to 10 of [`VARIANTS`]. A call that is
+//! refused gives its refusal number and leaves the caller's bytes as they
+//! were.
+
+#![forbid(unsafe_code)]
+#![warn(missing_docs)]
+
+pub mod bits;
+pub mod field;
+pub mod image;
+pub mod lookup;
+pub mod matrix;
+pub mod padding;
+pub mod photon;
+pub mod printed;
+pub mod sbox;
+pub mod sponge;
+pub mod spongent;
+pub mod variants;
+
+pub use padding::Padding;
+pub use printed::{padding_table, vector_lines};
+pub use variants::{variant, Family, Variant, VARIANTS};
+
+/// The number of a call that was not refused.
+pub const DONE: u8 = 0;
+/// Refusal: the variant number is not 1 to 10.
+pub const UNKNOWN_VARIANT: u8 = 1;
+/// Refusal: the message has more than [`MESSAGE_LIMIT`] bytes.
+pub const TOO_LONG: u8 = 4;
+/// Refusal: the image has the wrong length, or a bit set past the state.
+pub const BAD_IMAGE: u8 = 6;
+
+/// The greatest number of message bytes.
+pub const MESSAGE_LIMIT: usize = 16_777_215;
+
+/// Runs the variant's permutation on an image in place. Gives 0, or the
+/// refusal number 1 or 6.
+pub fn permute(number: u8, image: &mut [u8]) -> u8 {
+    change_image(number, image, sponge::permute_state)
+}
+
+/// Runs the inverse of the variant's permutation on an image in place.
+/// Gives 0, or the refusal number 1 or 6.
+pub fn unpermute(number: u8, image: &mut [u8]) -> u8 {
+    change_image(number, image, sponge::unpermute_state)
+}
+
+/// The message's digest, or the refusal number 1 or 4.
+pub fn digest(number: u8, message: &[u8]) -> Result<Vec<u8>, u8> {
+    digest_with(number, Padding::NextBit, message)
+}
+
+/// The image of the state after the message's last block, or the refusal
+/// number 1 or 4.
+pub fn end_state(number: u8, message: &[u8]) -> Result<Vec<u8>, u8> {
+    let variant = message_check(number, message.len())?;
+    let state = sponge::absorb_message(variant, Padding::NextBit, message);
+    Ok(image::of_state(variant, &state))
+}
+
+/// The message's digest under either reading of the padding rule, or the
+/// refusal number 1 or 4.
+pub fn digest_with(number: u8, padding: Padding, message: &[u8]) -> Result<Vec<u8>, u8> {
+    let variant = message_check(number, message.len())?;
+    let state = sponge::absorb_message(variant, padding, message);
+    Ok(bits::pack(
+        bits::Order::HighestFirst,
+        &sponge::squeeze(variant, &state),
+    ))
+}
+
+/// The variant that hashes a message of this many bytes, or the refusal
+/// number 1 or 4.
+pub fn message_check(number: u8, bytes: usize) -> Result<&'static Variant, u8> {
+    let variant = variant(number).ok_or(UNKNOWN_VARIANT)?;
+    if bytes > MESSAGE_LIMIT {
+        return Err(TOO_LONG);
+    }
+    Ok(variant)
+}
+
+/// Replaces the state in an image by what `change` makes of it.
+fn change_image(number: u8, image: &mut [u8], change: fn(&Variant, &mut [bool])) -> u8 {
+    let Some(variant) = variant(number) else {
+        return UNKNOWN_VARIANT;
+    };
+    let Some(mut state) = image::to_state(variant, image) else {
+        return BAD_IMAGE;
+    };
+    change(variant, &mut state);
+    image.copy_from_slice(&image::of_state(variant, &state));
+    DONE
+}
