@@ -8,6 +8,17 @@
 //! Variants go by the numbers 1 to 10 of [`VARIANTS`]. A call that is
 //! refused gives its refusal number and leaves the caller's bytes as they
 //! were.
+//!
+//! ```
+//! use wickslate_reference::{digest, permute};
+//!
+//! let message = b"Sponge + Present = Spongent";
+//! assert_eq!(digest(6, message).unwrap()[..4], [0x69, 0x97, 0x1b, 0xf9]);
+//! assert_eq!(digest(11, message), Err(1));
+//!
+//! let mut image = [0; 12];
+//! assert_eq!(permute(6, &mut image), 6, "an image of SPONGENT-88 has 11 bytes");
+//! ```
 
 #![forbid(unsafe_code)]
 #![warn(missing_docs)]

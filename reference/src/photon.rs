@@ -30,8 +30,10 @@ pub struct Photon {
     cell_bits: usize,
     /// What AddConstants adds in each round, one cell for each row.
     constants: Vec<Vec<u8>>,
+    /// The S-box and its inverse.
     substituted: Vec<u8>,
     restored: Vec<u8>,
+    /// MixColumnsSerial and its inverse.
     mixed: ColumnSums,
     unmixed: ColumnSums,
 }

@@ -46,10 +46,14 @@ const fn parameters(
 /// One SPONGENT permutation, with the tables that its rounds look up.
 pub struct Spongent {
     state_bits: usize,
+    /// A one at every place of the state.
+    inside: Wide,
     /// What cAddition adds in each round.
     constants: Vec<Wide>,
+    /// The S-box on both nibbles of a byte, and its inverse.
     substituted: Vec<u8>,
     restored: Vec<u8>,
+    /// pLayer and its inverse.
     moved: BitMoves,
     returned: BitMoves,
 }
@@ -70,6 +74,7 @@ impl Spongent {
         let substituted = on_both_nibbles(&sbox::SPONGENT);
         Spongent {
             state_bits,
+            inside: with_bits(0..state_bits),
             constants: counters(parameters.first, parameters.polynomial)
                 .take(parameters.rounds)
                 .map(|counter| constant(counter, state_bits))
@@ -104,44 +109,44 @@ impl Spongent {
     }
 
     /// sBoxLayer (clause 5.3.4.3), two nibbles at a time, forward or back by
-    /// the table given.
+    /// the table given. Bytes past the state are kept at zero.
     fn substitute(&self, wide: &Wide, table: &[u8]) -> Wide {
-        let mut result = [0; 5];
-        for place in 0..self.state_bits / 8 {
-            let byte = table[byte_at(wide, place)];
-            result[place / 8] |= u64::from(byte) << (8 * (place % 8));
-        }
-        result
+        std::array::from_fn(|word| {
+            let bytes = wide[word].to_le_bytes();
+            u64::from_le_bytes(bytes.map(|byte| table[usize::from(byte)])) & self.inside[word]
+        })
     }
 }
 
 /// Bits that change places, made ready for bytes: where the bits of each
 /// byte value come to lie, for each place that a byte can have.
 struct BitMoves {
-    /// At `place * 256 + byte`.
-    images: Vec<Wide>,
+    /// For each place, by the value of the byte there.
+    spread: Vec<[Wide; 256]>,
 }
 
 impl BitMoves {
     /// The moves that take bit j to `destinations[j]`.
     fn new(destinations: &[usize]) -> BitMoves {
-        let images = destinations.chunks_exact(8).flat_map(|eight| {
-            (0..256).map(move |byte| {
-                let moved = (0..8).filter(|bit| byte >> bit & 1 == 1);
-                with_bits(moved.map(|bit| eight[bit]))
+        let spread = |eight: &[usize]| {
+            std::array::from_fn(|byte| {
+                let set = (0..8).filter(|bit| byte >> bit & 1 == 1);
+                with_bits(set.map(|bit| eight[bit]))
             })
-        });
+        };
         BitMoves {
-            images: images.collect(),
+            spread: destinations.chunks_exact(8).map(spread).collect(),
         }
     }
 
     /// The state with every bit moved.
     fn apply(&self, wide: &Wide) -> Wide {
-        let places = self.images.chunks_exact(256).enumerate();
-        places.fold([0; 5], |moved, (place, images)| {
-            sum(&moved, &images[byte_at(wide, place)])
-        })
+        let bytes = wide.map(u64::to_le_bytes);
+        let mut moved = [0; 5];
+        for (spread, &byte) in self.spread.iter().zip(bytes.as_flattened()) {
+            moved = sum(&moved, &spread[usize::from(byte)]);
+        }
+        moved
     }
 }
 
@@ -184,11 +189,6 @@ fn on_both_nibbles(nibbles: &[u8; 16]) -> Vec<u8> {
 /// The exclusive or of two states.
 fn sum(a: &Wide, b: &Wide) -> Wide {
     std::array::from_fn(|word| a[word] ^ b[word])
-}
-
-/// Byte `place` of a state.
-fn byte_at(wide: &Wide, place: usize) -> usize {
-    (wide[place / 8] >> (8 * (place % 8)) & 0xff) as usize
 }
 
 /// The state with ones at the places given, each of them once.

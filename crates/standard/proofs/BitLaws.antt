@@ -8,7 +8,7 @@ use native.Mathlib.Nat.{le-of-suc-le-suc, not-suc-le-zero, zero-add, add-zero, s
 use native.Mathlib.Omega.{arith}
 use native.Mathlib.Numerals.{add-one}
 use lib.ListN.{length, getD, take, drop, set, replicate, length-append, length-reverse, length-take, length-drop, length-replicate, List·getD-append, replicate-append-replicate, take-append-drop}
-use lib.Seq.{take-all, take-append-le, drop-append-le, take-at, drop-at, take-append-add, getD-append-add, set-append-left, getD-take, ext-getD, take-append-seam, drop-append-seam, drop-nil, take-nil, drop-append-add}
+use lib.Seq.{take-all, take-append-le, drop-append-le, take-at, drop-at, take-append-add, getD-append-add, set-append-left, getD-take, ext-getD, take-append-seam, drop-append-seam, drop-nil, take-nil, drop-append-add, drop-drop, drop-length}
 use lib.Arith.{lt-one, digits-div, digits-mod, digits-lt, mod-mul}
 use lib.Bits.{bitXor, xor-step, differ, shifted-half, shifted-even}
 use lib.Pow.{shl-exact, pow-pos}
@@ -317,7 +317,7 @@ bitsIn-digit bytes k h =
     ∙ lowBits-at 8 n (k % 8) (omega arith))
     ∙ digit-bit (n / 2 ^ (k % 8))
 
-zeros-of : (w : ℕ) → lowBits w 0 ≡ replicate w false
+pub zeros-of : (w : ℕ) → lowBits w 0 ≡ replicate w false
 unfolding lowBits
 zeros-of zero = refl
 zeros-of (suc w) = ap (λ (l : List Bool). false ∷ l) (zeros-of w)
@@ -434,7 +434,7 @@ xorInto-front zero l (x ∷ a) h = absurd (not-suc-le-zero h)
 xorInto-front (suc t) [] (x ∷ a) h = refl
 xorInto-front (suc t) (y ∷ l) (x ∷ a) h = ap (λ (m : List Bool). xor y x ∷ m) (xorInto-front t l a (le-of-suc-le-suc h))
 
-reverse-replicate : (n : ℕ) → reverse (replicate n false) ≡ replicate n false
+pub reverse-replicate : (n : ℕ) → reverse (replicate n false) ≡ replicate n false
 reverse-replicate zero = refl
 reverse-replicate (suc n) =
     reverse-cons false (replicate n false) ∙ ap (λ (l : List Bool). l ++ (false ∷ [])) (reverse-replicate n)
@@ -537,3 +537,59 @@ bytesXor-more s [] i hb hs = absurd (not-suc-le-zero hb)
 bytesXor-more [] (y ∷ b) i hb hs = absurd (not-suc-le-zero hs)
 bytesXor-more (x ∷ s) (y ∷ b) zero hb hs = ap (λ (l : List ℕ). bitXor x y ∷ l) (sym (bytesXor-none s))
 bytesXor-more (x ∷ s) (y ∷ b) (suc i) hb hs = ap (λ (l : List ℕ). bitXor x y ∷ l) (bytesXor-more s b i (le-of-suc-le-suc hb) (le-of-suc-le-suc hs))
+
+-- ---- packing in two parts
+
+pub pack-add : (o : Order) (n m : ℕ) (bs : List Bool) → pack o (n + m) bs ≡ pack o n bs ++ pack o m (drop (8 * n) bs)
+unfolding pack
+pack-add o zero m bs = ap (λ (k : ℕ). pack o k bs) (zero-add m)
+pack-add o (suc n) m bs =
+    ap (λ (k : ℕ). pack o k bs) (suc-add n m)
+    ∙ ap (λ (l : List ℕ). valueOf o (filled 8 bs) ∷ l)
+      (pack-add o n m (drop 8 bs)
+        ∙ ap (λ (l : List Bool). pack o n (drop 8 bs) ++ pack o m l) (drop-drop (8 * n) 8 bs ∙ ap (λ (k : ℕ). drop k bs) (suc-eight n)))
+
+-- the first bytes of packed bits
+pub take-pack : (o : Order) (n m : ℕ) (bs : List Bool) → n ≤ m → take n (pack o m bs) ≡ pack o n bs
+take-pack o n m bs h =
+    let e : m ≡ n + (m - n) = omega arith in
+    ap (λ (k : ℕ). take n (pack o k bs)) e
+    ∙ ap (take n) (pack-add o n (m - n) bs)
+    ∙ take-at (pack o n bs) (pack o (m - n) (drop (8 * n) bs)) n (length-pack o n bs)
+
+-- bytes of zeros
+zeros-byte : (o : Order) → bitsOf o 8 0 ≡ replicate 8 false
+unfolding bitsOf ordered
+zeros-byte low-first = zeros-of 8
+zeros-byte high-first = ap reverse (zeros-of 8) ∙ reverse-replicate 8
+
+pub bitsIn-zeros : (o : Order) (n : ℕ) → bitsIn o (replicate n 0) ≡ replicate (8 * n) false
+unfolding bitsIn
+bitsIn-zeros o zero = refl
+bitsIn-zeros o (suc n) =
+    ap₂ (λ (k l : List Bool). k ++ l) (zeros-byte o) (bitsIn-zeros o n)
+    ∙ replicate-append-replicate 8 (8 * n) false ∙ ap (λ (k : ℕ). replicate k false) (suc-eight n)
+
+pub zeros-split : (n m : ℕ) → n ≤ m → replicate m false ≡ replicate n false ++ replicate (m - n) false
+zeros-split n m h =
+    let e : m ≡ n + (m - n) = omega arith in
+    ap (λ (k : ℕ). replicate k false) e ∙ sym (replicate-append-replicate n (m - n) false)
+
+zeros-packed : (o : Order) → valueOf o (filled 8 []) ≡ 0
+unfolding valueOf ordered lowValue filled
+zeros-packed low-first = refl
+zeros-packed high-first = refl
+
+pub pack-none : (o : Order) (n : ℕ) → pack o n [] ≡ replicate n 0
+unfolding pack
+pack-none o zero = refl
+pack-none o (suc n) = ap₂ (λ (x : ℕ) (l : List ℕ). x ∷ l) (zeros-packed o) (pack-none o n)
+
+-- bits that fill n bytes, packed in more: zeros stand behind them
+pub pack-whole : (o : Order) (n m : ℕ) (bs : List Bool) → n ≤ m → length bs ≡ 8 * n → pack o m bs ≡ pack o n bs ++ replicate (m - n) 0
+pack-whole o n m bs h l =
+    let e : m ≡ n + (m - n) = omega arith in
+    ap (λ (k : ℕ). pack o k bs) e
+    ∙ pack-add o n (m - n) bs
+    ∙ ap (λ (z : List Bool). pack o n bs ++ pack o (m - n) z) (ap (λ (k : ℕ). drop k bs) (sym l) ∙ drop-length bs)
+    ∙ ap (λ (z : List ℕ). pack o n bs ++ z) (pack-none o (m - n))

@@ -1,0 +1,3 @@
+pub mod Clear
+pub mod Front
+pub mod LayoutLaws

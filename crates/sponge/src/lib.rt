@@ -1,0 +1,162 @@
+// The ten variants on bytes: parameters, states and blocks, and the permutation on an image that a caller lends.
+ghost use mathlib.Core.Path.{_≡_};
+ghost use mathlib.Core.List.{[], _++_};
+ghost use mathlib.Core.Bool.{true};
+ghost use Prim.Native.Nat.{ℕ, _+_, _-_, _*_, _/_, _%_, _^_, _≤_, _<_};
+ghost use lib.ListN.{getD, length, take, drop, replicate};
+ghost use Rattle.standard.specs.Bits.{Order, high-first, bitsIn, reordered, xorInto};
+ghost use Rattle.standard.specs.Rounds.{direction, forward, backward};
+ghost use Rattle.standard.specs.Sponge.{order, permutation, step, imageBytes, stateIn};
+ghost use Rattle.standard.specs.Variants.{variant, known};
+ghost use Rattle.sponge.specs.Refusals.{number, entry};
+ghost use Rattle.sponge.specs.Layout.{stateBytes, blockBytes, blockIn, clear};
+ghost use Rattle.sponge.specs.Images.{imageStatus, permutedImage};
+
+// Done, or the one refusal whose condition holds and whose earlier checks passed.
+pub enum Status {
+    Done,
+    UnknownVariant,
+    Malformed,
+    WrongStage,
+    TooLong,
+    OutputTooShort,
+    BadImage,
+    OutOfRange,
+    NoBlock,
+    BadList,
+    Misordered(u32),
+    PastEnd(u32),
+}
+
+// The number of a refusal, 0 for Done.
+pub fn number_of(s: Status) -> u8
+    ensures { λ r. ⌜ r ≡ number s ⌝ }
+{
+    match s {
+        Status::Done => 0,
+        Status::UnknownVariant => 1,
+        Status::Malformed => 2,
+        Status::WrongStage => 3,
+        Status::TooLong => 4,
+        Status::OutputTooShort => 5,
+        Status::BadImage => 6,
+        Status::OutOfRange => 7,
+        Status::NoBlock => 8,
+        Status::BadList => 9,
+        Status::Misordered(_) => 10,
+        Status::PastEnd(_) => 11,
+    }
+}
+
+// Index 0 stands for no variant.
+const STATE_BITS: [usize; 11] = [0, 100, 144, 196, 256, 288, 88, 136, 176, 240, 272];
+const BLOCK_BITS: [u32; 11] = [0, 20, 16, 36, 32, 32, 8, 8, 16, 16, 16];
+const IMAGE_BYTES: [usize; 11] = [0, 13, 18, 25, 32, 36, 11, 17, 22, 30, 34];
+
+pub fn is_known(v: u8) -> bool
+    ensures { λ r. ⌜ r ≡ known v ⌝ }
+{
+    if v < 1 {
+        return false;
+    }
+    v <= 10
+}
+
+pub fn state_bits(v: u8) -> usize
+    ensures { λ r. ⌜ r ≡ variant v .t ⌝ }
+{
+    if 10 < v {
+        return 0;
+    }
+    STATE_BITS[v as usize]
+}
+
+// The bits that a block takes in.
+pub fn block_bits(v: u8) -> u32
+    ensures { λ r. ⌜ r ≡ variant v .r ⌝ }
+{
+    if 10 < v {
+        return 0;
+    }
+    BLOCK_BITS[v as usize]
+}
+
+pub fn image_bytes(v: u8) -> usize
+    ensures { λ r. ⌜ r ≡ imageBytes (variant v) ⌝ }
+{
+    if 10 < v {
+        return 0;
+    }
+    IMAGE_BYTES[v as usize]
+}
+
+// Whether every byte from k on is zero.
+fn zero_from(bytes: &[u8], k: usize) -> bool
+    ensures { λ r. ⌜ r ≡ clear (bitsIn high-first (drop k (now (bytes .entry)))) ⌝ }
+{
+    let mut i = k;
+    while i < bytes.len() {
+        if bytes[i] != 0 {
+            return false;
+        }
+        i += 1;
+    }
+    true
+}
+
+// Whether no bit from bit c on is set, a byte's highest bit first. Every place asked for is at a whole byte or at its middle.
+pub fn clear_from(bytes: &[u8], c: usize) -> bool
+    requires { ⌜ c % 4 ≡ 0 ⌝ }
+    ensures { λ r. ⌜ r ≡ clear (drop c (bitsIn high-first (now (bytes .entry)))) ⌝ }
+{
+    let k = c / 8;
+    if bytes.len() <= k {
+        return true;
+    }
+    if c % 8 == 0 {
+        return zero_from(bytes, k);
+    }
+    if bytes[k] % 16 != 0 {
+        return false;
+    }
+    zero_from(bytes, k + 1)
+}
+
+// The bytes at the front of 36, zeros behind them.
+fn at_front(bytes: &[u8]) -> [u8; 36]
+    requires { ⌜ length (now bytes) ≤ 36 ⌝ }
+    ensures { λ r. ⌜ r ≡ now (bytes .entry) ++ replicate (36 - length (now (bytes .entry))) 0 ⌝ }
+{
+    let mut out = [0u8; 36];
+    let mut i = 0;
+    while i < bytes.len() {
+        out[i] = bytes[i];
+        i += 1;
+    }
+    out
+}
+
+// The first n bytes of s written over the front of out.
+pub fn copy_front(s: &[u8], n: usize, out: &mut [u8])
+    requires { ⌜ (n ≤ length (now s)) × (n ≤ length (now out)) ⌝ }
+    ensures { λ _. ⌜ now (out .exit) ≡ take n (now (s .entry)) ++ drop n (now (out .entry)) ⌝ }
+{
+    let mut i = 0;
+    while i < n {
+        out[i] = s[i];
+        i += 1;
+    }
+}
+
+// The block's bytes xored into the first bytes of the state.
+fn with_block(s: [u8; 36], b: [u8; 5]) -> [u8; 36]
+    ensures { λ r. ⌜ ((o : Order) → bitsIn o r ≡ xorInto (bitsIn o s) (bitsIn o b)) ⌝ }
+{
+    let mut out = s;
+    let mut i = 0;
+    while i < 5 {
+        out[i] = out[i] ^ b[i];
+        i += 1;
+    }
+    out
+}
