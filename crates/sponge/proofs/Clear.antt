@@ -35,7 +35,7 @@ zeros-clear (suc n) = zeros-clear n
 
 -- ---- the w lowest bits of a number are clear just where they are worth 0
 
-value-mod : (o : Order) (w x : ℕ) → valueOf o (bitsOf o w x) ≡ x % 2 ^ w
+pub value-mod : (o : Order) (w x : ℕ) → valueOf o (bitsOf o w x) ≡ x % 2 ^ w
 unfolding valueOf bitsOf
 value-mod o w x = ap lowValue (ordered-ordered o (lowBits w x)) ∙ lowValue-of w x
 
@@ -100,7 +100,7 @@ whole-byte o s c h =
     ap clear (ap (λ (n : ℕ). drop n (bitsIn o s)) e ∙ bitsIn-drop o (c / 8) s)
 
 -- the lower half of a byte, its highest bit first
-lower-half : (x : ℕ) → drop 4 (bitsOf high-first 8 x) ≡ bitsOf high-first 4 x
+pub lower-half : (x : ℕ) → drop 4 (bitsOf high-first 8 x) ≡ bitsOf high-first 4 x
 unfolding bitsOf ordered
 lower-half x =
     ap (λ (l : List Bool). drop 4 (reverse l)) (lowBits-add 4 4 x)

@@ -1,3 +1,4 @@
 pub mod Clear
 pub mod Front
 pub mod LayoutLaws
+pub mod CellLaws

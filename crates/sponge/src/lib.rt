@@ -10,6 +10,9 @@ ghost use Rattle.standard.specs.Sponge.{order, permutation, step, imageBytes, s
 ghost use Rattle.standard.specs.Variants.{variant, known};
 ghost use Rattle.sponge.specs.Refusals.{number, entry};
 ghost use Rattle.sponge.specs.Layout.{stateBytes, blockBytes, blockIn, clear};
+ghost use mathlib.Core.Logic.{_⊎_};
+ghost use Rattle.sponge.specs.Cells.{cellIn, nth, byteAt};
+ghost use Rattle.standard.specs.Grid.{tab, grid, window, Small};
 ghost use Rattle.sponge.specs.Images.{imageStatus, permutedImage};
 
 // Done, or the one refusal whose condition holds and whose earlier checks passed.
@@ -157,6 +160,102 @@ fn with_block(s: [u8; 36], b: [u8; 5]) -> [u8; 36]
     while i < 5 {
         out[i] = out[i] ^ b[i];
         i += 1;
+    }
+    out
+}
+
+// The n-th cell of w bits, 4 or 8: two cells to a byte, the first high, or one.
+fn cell_of(w: usize, s: [u8; 36], n: usize) -> u8
+    requires { ⌜ (w ≡ 4) ⊎ (w ≡ 8) ⌝ }
+    requires { ⌜ n < 64 ⌝ }
+    ensures { λ r. ⌜ r ≡ cellIn w s n ⌝ }
+{
+    if w == 8 {
+        if 36 <= n {
+            return 0;
+        }
+        return s[n];
+    }
+    let k = n / 2;
+    if n % 2 == 0 {
+        return s[k] / 16;
+    }
+    s[k] % 16
+}
+
+// d cells from the cell `base` on.
+fn read_row(w: usize, s: [u8; 36], d: usize, base: usize) -> [u8; 8]
+    requires { ⌜ (w ≡ 4) ⊎ (w ≡ 8) ⌝ }
+    requires { ⌜ (d ≤ 8) × (base ≤ 56) ⌝ }
+    ensures { λ r. ⌜ ((j : ℕ) → j < d → getD r j 0 ≡ cellIn w s (base + j)) ⌝ }
+{
+    let mut out = [0u8; 8];
+    let mut j = 0;
+    while j < d {
+        out[j] = cell_of(w, s, base + j);
+        j += 1;
+    }
+    out
+}
+
+// The matrix of d rows and columns that the bytes hold.
+fn grid_of(w: usize, s: [u8; 36], d: usize) -> [[u8; 8]; 8]
+    requires { ⌜ (w ≡ 4) ⊎ (w ≡ 8) ⌝ }
+    requires { ⌜ d ≤ 8 ⌝ }
+    ensures { λ r. ⌜ window d r ≡ grid d (λ i j. cellIn w s (i * d + j)) ⌝ }
+{
+    let mut out = [[0u8; 8]; 8];
+    let mut base = 0;
+    let mut i = 0;
+    while i < d {
+        out[i] = read_row(w, s, d, base);
+        base += d;
+        i += 1;
+    }
+    out
+}
+
+// The n-th cell of a matrix, row by row, and 0 past its last.
+fn cell_at(g: [[u8; 8]; 8], d: usize, n: usize) -> u8
+    requires { ⌜ (0 < d) × (d ≤ 8) ⌝ }
+    ensures { λ r. ⌜ r ≡ nth d (window d g) n ⌝ }
+{
+    if d * d <= n {
+        return 0;
+    }
+    let i = n / d;
+    let j = n % d;
+    g[i][j]
+}
+
+// The k-th byte of a matrix's image.
+fn byte_of(w: usize, g: [[u8; 8]; 8], d: usize, k: usize) -> u8
+    requires { ⌜ (w ≡ 4) ⊎ (w ≡ 8) ⌝ }
+    requires { ⌜ (0 < d) × (d ≤ 8) ⌝ }
+    requires { ⌜ Small d (2 ^ w) g ⌝ }
+    requires { ⌜ k < 36 ⌝ }
+    ensures { λ r. ⌜ r ≡ byteAt w d (window d g) k ⌝ }
+{
+    if w == 8 {
+        return cell_at(g, d, k);
+    }
+    let a = cell_at(g, d, k * 2);
+    let b = cell_at(g, d, k * 2 + 1);
+    a * 16 + b
+}
+
+// The bytes that hold the matrix of d rows and columns.
+fn bytes_of(w: usize, g: [[u8; 8]; 8], d: usize) -> [u8; 36]
+    requires { ⌜ (w ≡ 4) ⊎ (w ≡ 8) ⌝ }
+    requires { ⌜ (0 < d) × (d ≤ 8) ⌝ }
+    requires { ⌜ Small d (2 ^ w) g ⌝ }
+    ensures { λ r. ⌜ r ≡ tab 36 (byteAt w d (window d g)) ⌝ }
+{
+    let mut out = [0u8; 36];
+    let mut k = 0;
+    while k < 36 {
+        out[k] = byte_of(w, g, d, k);
+        k += 1;
     }
     out
 }

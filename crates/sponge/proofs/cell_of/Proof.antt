@@ -1,0 +1,44 @@
+-- `sponge::cell_of` meets its contract: a byte, or one of its halves. Assumes nothing.
+use mathlib.Core.Path.{_≡_, sym, ap, _∙_, subst}
+use mathlib.Core.Logic.{⊎-elim}
+use Prim.Native.Nat.{ℕ, _/_, _%_}
+use native.Mathlib.Omega.{arith}
+use Rattle.arrays.proofs.Elements.{bytes-lt}
+use Rattle.sponge.specs.Cells.{cellIn}
+use Rattle.sponge.proofs.CellLaws.{cell-wide, cell-past, cell-even, cell-odd}
+use borrow.Author.Needs.{needs}
+use Rattle.sponge.proofs.cell_of.Statement.{statement}
+use Rattle.sponge.proofs.cell_of.Tie as tie
+
+returns : tie.Need-returns
+returns c = ?
+
+array-read-result : tie.Need-array-read-result
+array-read-result c = search needs
+
+returns-2 : tie.Need-returns-2
+returns-2 c = ?
+
+array-read-result-2 : tie.Need-array-read-result-2
+array-read-result-2 c = search needs
+
+returns-3 : tie.Need-returns-3
+returns-3 c = ?
+
+array-read-result-3 : tie.Need-array-read-result-3
+array-read-result-3 c = search needs
+
+returns-4 : tie.Need-returns-4
+returns-4 c = ?
+
+pub cell-of-spec : {M : Type 1} → statement M
+cell-of-spec =
+    tie.close
+    (tie.spec
+    returns
+    array-read-result
+    returns-2
+    array-read-result-2
+    returns-3
+    array-read-result-3
+    returns-4)
