@@ -5,3 +5,4 @@ pub mod KnownValues
 pub mod Xor
 pub mod Tab
 pub mod FieldLaws
+pub mod SerialLaws
