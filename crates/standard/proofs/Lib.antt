@@ -6,3 +6,4 @@ pub mod Xor
 pub mod Tab
 pub mod FieldLaws
 pub mod SerialLaws
+pub mod PhotonLaws
