@@ -7,3 +7,4 @@ pub mod Tab
 pub mod FieldLaws
 pub mod SerialLaws
 pub mod PhotonLaws
+pub mod PhotonVariants
