@@ -4,7 +4,7 @@ use mathlib.Core.Path.{_≡_, refl, sym, ap, ap₂, _∙_, subst}
 use mathlib.Core.Bool.{Bool, true, false, not, cond}
 use mathlib.Core.List.{List, [], _∷_, _++_, reverse, reverse-cons, reverse-reverse}
 use Prim.Native.Nat.{ℕ, zero, suc, _+_, _-_, _*_, _/_, _%_, _^_, _≤_, _<_}
-use native.Mathlib.Nat.{zero-mul, zero-add, one-mul, add-zero, suc-ne-zero, suc-inj, pow-suc, div-lt-iff-lt-mul, zero-lt-suc}
+use native.Mathlib.Nat.{zero-mul, zero-add, suc-ne-zero, suc-inj, pow-suc, div-lt-iff-lt-mul, zero-lt-suc}
 use native.Mathlib.Omega.{arith}
 use lib.Arith.{lt-one}
 use lib.Dec.{ltb, eqb}
@@ -13,7 +13,7 @@ use lib.Pow.{pow-pos}
 use lib.ListN.{length, length-reverse}
 use borrow.Author.Tests.{ltb-true, ltb-false, lt-ltb, le-ltb}
 use Rattle.standard.specs.Field.{double, times, mul, dot, Modulus}
-use Rattle.standard.proofs.Xor.{xor-assoc, xor-twice, xor-exchange, xor-double}
+use Rattle.standard.proofs.Xor.{xor-assoc, xor-exchange, xor-double}
 use Rattle.standard.proofs.Undo.{All}
 
 cond-lt : (b : Bool) (x y n : ℕ) → x < n → y < n → cond b x y < n
@@ -36,8 +36,8 @@ module _ (s poly : ℕ) (low : 2 ^ s ≤ poly) (high : poly < 2 ^ s * 2) where
   both-over x y lx hx ly hy =
       subst (λ (v : ℕ). v < 2 ^ s)
       (sym
-        (ap₂ bitXor (top-bit x lx) (top-bit y ly) ∙ xor-block s 1 1 (x - 2 ^ s) (y - 2 ^ s) (omega arith) (omega arith)
-        ∙ ap (λ (v : ℕ). v + bitXor (x - 2 ^ s) (y - 2 ^ s)) (zero-mul (2 ^ s)) ∙ zero-add (bitXor (x - 2 ^ s) (y - 2 ^ s))))
+      (ap₂ bitXor (top-bit x lx) (top-bit y ly) ∙ xor-block s 1 1 (x - 2 ^ s) (y - 2 ^ s) (omega arith) (omega arith)
+      ∙ ap (λ (v : ℕ). v + bitXor (x - 2 ^ s) (y - 2 ^ s)) (zero-mul (2 ^ s)) ∙ zero-add (bitXor (x - 2 ^ s) (y - 2 ^ s))))
       (xor-lt s (x - 2 ^ s) (y - 2 ^ s) (omega arith) (omega arith))
 
   one-over : (x y : ℕ) → x < 2 ^ s → 2 ^ s ≤ y → y < 2 ^ s * 2 → 2 ^ s ≤ bitXor x y
@@ -79,7 +79,7 @@ module _ (s poly : ℕ) (low : 2 ^ s ≤ poly) (high : poly < 2 ^ s * 2) where
       double-carry (bitXor x y)
       ∙ ap (λ (v : ℕ). bitXor v (carry (ltb v (2 ^ s)))) (xor-double x y)
       ∙ ap (λ (v : ℕ). bitXor (bitXor (x * 2) (y * 2)) v)
-        (ap carry (fits-xor (x * 2) (y * 2) (omega arith) (omega arith) a b refl refl) ∙ carry-xor a b)
+      (ap carry (fits-xor (x * 2) (y * 2) (omega arith) (omega arith) a b refl refl) ∙ carry-xor a b)
       ∙ xor-exchange (x * 2) (y * 2) (carry a) (carry b)
       ∙ ap₂ bitXor (sym (double-carry x)) (sym (double-carry y))
 

@@ -8,3 +8,5 @@ pub mod FieldLaws
 pub mod SerialLaws
 pub mod PhotonLaws
 pub mod PhotonVariants
+pub mod CutLaws
+pub mod MatrixLaws

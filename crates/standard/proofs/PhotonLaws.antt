@@ -1,12 +1,12 @@
 -- Each step of PHOTON keeps the shape of the state and is undone by its inverse, for any size, cell width, tables and coefficients that
 -- are sound; so are the round and the permutation, in both directions. Assumes nothing.
-use mathlib.Core.Path.{_≡_, refl, sym, ap, ap₂, _∙_, subst}
-use mathlib.Core.List.{List, [], _∷_}
+use mathlib.Core.Path.{_≡_, refl, sym, ap, _∙_, subst}
+use mathlib.Core.List.{List}
 use Prim.Native.Nat.{ℕ, zero, suc, _+_, _-_, _*_, _%_, _^_, _≤_, _<_}
-use native.Mathlib.Nat.{mod-lt, mod-add-mod, add-mul-mod-self-left, mod-eq-of-lt, add-mul, add-assoc, add-comm}
+use native.Mathlib.Nat.{mod-lt, mod-add-mod, add-mul-mod-self-left, mod-eq-of-lt, add-mul}
 use native.Mathlib.Omega.{arith}
 use lib.Bits.{bitXor, xor-lt}
-use lib.ListN.{length, getD}
+use lib.ListN.{getD}
 use Rattle.standard.specs.Rounds.{Direction, forward, backward, opposite}
 use Rattle.standard.specs.Grid.{Grid, at, grid, window, Square, Small}
 use Rattle.standard.specs.Field.{Modulus}
@@ -37,6 +37,7 @@ add-add d rc ic g q = grid-is d _ g q cell
   where
     once : ℕ → ℕ → ℕ
     once i j = inFirst j (bitXor (at g i 0) (bitXor rc (getD ic i 0))) (at g i j)
+
     cell : (i j : ℕ) → i < d → j < d → inFirst j (bitXor (at (grid d once) i 0) (bitXor rc (getD ic i 0))) (at (grid d once) i j) ≡ at g i j
     cell i zero hi hj =
         ap (λ (x : ℕ). bitXor x (bitXor rc (getD ic i 0))) (at-grid d once i 0 hi hj) ∙ xor-twice (at g i 0) (bitXor rc (getD ic i 0))
@@ -85,7 +86,7 @@ unfolding shiftRows
 shift-undo d m m′ e g q =
     grid-is d _ g q
     (λ i j hi hj. at-grid d (λ k l. at g k ((l + m * k) % d)) i ((j + m′ * i) % d) hi (mod-lt (j + m′ * i) (omega arith))
-      ∙ ap (λ (x : ℕ). at g i x) (turn-turn d m m′ i j e hj))
+    ∙ ap (λ (x : ℕ). at g i x) (turn-turn d m m′ i j e hj))
 
 -- ---- the parameters of a variant, and its states
 
@@ -139,7 +140,8 @@ module _ (p : PhotonParameters) (h : Sound p) where
   sub-state w g k =
       record {
         square = sub-square (p .d) (boxFor p w) g;
-        small = sub-small (p .d) (2 ^ p .s) (boxFor p w) (boxFor p (opposite w)) (h .boxes w) g (k .small) }
+        small = sub-small (p .d) (2 ^ p .s) (boxFor p w) (boxFor p (opposite w)) (h .boxes w) g (k .small);
+      }
 
   pub shift-state : (m : ℕ) (g : Grid) → State p g → State p (shiftRows (p .d) m g)
   shift-state m g k = record { square = shift-square (p .d) m g; small = shift-small (p .d) m (2 ^ p .s) g (k .small) }
@@ -151,7 +153,8 @@ module _ (p : PhotonParameters) (h : Sound p) where
   mix-state w g k =
       record {
         square = mixing-square (p .d) (p .s) (p .poly) (h .poly-low) (h .poly-high) (h .pos) w (coefficientsFor p w) g (k .square) (k .small);
-        small = mixing-small (p .d) (p .s) (p .poly) (h .poly-low) (h .poly-high) (h .pos) w (coefficientsFor p w) g (k .square) (k .small) }
+        small = mixing-small (p .d) (p .s) (p .poly) (h .poly-low) (h .poly-high) (h .pos) w (coefficientsFor p w) g (k .square) (k .small);
+      }
 
   -- each step, undone by that of the opposite direction
   pub sub-back : (w : Direction) (g : Grid) → State p g → subCells (p .d) (boxFor p (opposite w)) (subCells (p .d) (boxFor p w) g) ≡ g
@@ -182,7 +185,7 @@ module _ (p : PhotonParameters) (h : Sound p) where
       let ka : State p a = add-state rc hr g k in
       let kb : State p b = sub-state forward a ka in
       ap (λ (x : Grid). addConstants (p .d) rc (p .ic) (subCells (p .d) (p .unbox) (shiftRows (p .d) (p .d - 1) x)))
-        (mix-back forward (shiftRows (p .d) 1 b) (shift-state 1 b kb))
+      (mix-back forward (shiftRows (p .d) 1 b) (shift-state 1 b kb))
       ∙ ap (λ (x : Grid). addConstants (p .d) rc (p .ic) (subCells (p .d) (p .unbox) x)) (shift-back forward b kb)
       ∙ ap (addConstants (p .d) rc (p .ic)) (sub-back forward a ka)
       ∙ add-add (p .d) rc (p .ic) g (k .square)

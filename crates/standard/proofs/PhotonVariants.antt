@@ -1,14 +1,14 @@
 -- The parameters of the five PHOTON variants are sound: one list of tests, computed for each variant.
 -- Assumes nothing.
-use mathlib.Core.Path.{_≡_, refl, sym, ap, subst}
+use mathlib.Core.Path.{refl}
 use mathlib.Core.Bool.{Bool, true, false, _&&_}
 use mathlib.Core.List.{List, [], _∷_, reverse}
-use Prim.Native.Nat.{ℕ, zero, suc, _*_, _^_, _≤_, _<_}
+use Prim.Native.Nat.{ℕ, zero, suc, _*_, _^_}
 use lib.Dec.{T, leb, ltb, eqb, leb→le, ltb→lt, eqb→eq}
 use lib.ListN.{length, getD}
 use Rattle.standard.specs.Rounds.{Direction, forward, backward, opposite}
 use Rattle.standard.specs.Field.{double, times, mul}
-use Rattle.standard.specs.Photon.{PhotonParameters, present, unpresent, aes, unaes}
+use Rattle.standard.specs.Photon.{PhotonParameters, aes, unaes}
 use Rattle.standard.specs.Variants.{photon100, photon144, photon196, photon256, photon288}
 use Rattle.standard.proofs.Tests.{and-left, and-right, below, same-below, bound-below}
 use Rattle.standard.proofs.FieldLaws.{Scaled}
@@ -34,7 +34,8 @@ boxes-of : (top : ℕ) (box unbox : List ℕ) → T (every (boxTests top box unb
 boxes-of top box unbox t =
     record {
       small = bound-below (λ x. getD box x 0) top top (every-at (boxTests top box unbox) t 0);
-      back = same-below (λ x. getD unbox (getD box x 0) 0) (λ x. x) top (every-at (boxTests top box unbox) t 1) }
+      back = same-below (λ x. getD unbox (getD box x 0) 0) (λ x. x) top (every-at (boxTests top box unbox) t 1);
+    }
 
 -- the product by b is u times the product by a
 abbrev scales : ℕ → ℕ → ℕ → ℕ → ℕ → Bool
@@ -50,9 +51,10 @@ scaled-of : (top poly u : ℕ) (zs us : List ℕ) → T (allScale top poly u zs 
 scaled-of top poly u [] [] t = tt
 scaled-of top poly u [] (b ∷ us) t = t
 scaled-of top poly u (a ∷ zs) [] t = t
-scaled-of top poly u (a ∷ zs) (b ∷ us) t =
-    (same-below (λ x. mul top poly b x) (λ x. mul top poly u (mul top poly a x)) top (and-left (scales top poly u a b) (allScale top poly u zs us) t),
-    scaled-of top poly u zs us (and-right (scales top poly u a b) (allScale top poly u zs us) t))
+scaled-of top poly u (a ∷ zs) (b ∷ us) t = (
+  same-below (λ x. mul top poly b x) (λ x. mul top poly u (mul top poly a x)) top (and-left (scales top poly u a b) (allScale top poly u zs us) t),
+  scaled-of top poly u zs us (and-right (scales top poly u a b) (allScale top poly u zs us) t),
+)
 
 abbrev undoTests : ℕ → ℕ → ℕ → List ℕ → List ℕ → List Bool
 undoTests d top poly [] unz = false ∷ []
@@ -73,7 +75,8 @@ undoes-of d top poly (z₀ ∷ zs) (u₀ ∷ us) t =
       unz-is = refl;
       size = eqb→eq (suc (length us)) d (passed 0);
       first = same-below (λ x. mul top poly u₀ (mul top poly z₀ x)) (λ x. x) top (passed 1);
-      others = scaled-of top poly u₀ zs (reverse us) (passed 2) }
+      others = scaled-of top poly u₀ zs (reverse us) (passed 2);
+    }
   where
     passed : (k : ℕ) → T (getD (undoTests d top poly (z₀ ∷ zs) (u₀ ∷ us)) k true)
     passed = every-at (undoTests d top poly (z₀ ∷ zs) (u₀ ∷ us)) t
@@ -100,13 +103,16 @@ sound-of p t =
       poly-high = ltb→lt (p .poly) (2 ^ p .s * 2) (passed 5);
       ic-small = bound-below (λ i. getD (p .ic) i 0) (2 ^ p .s) (p .d) (passed 6);
       boxes = boxes;
-      undoes = undoes }
+      undoes = undoes;
+    }
   where
     passed : (k : ℕ) → T (getD (tests p) k true)
     passed = every-at (tests p) t
+
     boxes : (w : Direction) → Boxes (2 ^ p .s) (boxFor p w) (boxFor p (opposite w))
     boxes forward = boxes-of (2 ^ p .s) (p .box) (p .unbox) (passed 7)
     boxes backward = boxes-of (2 ^ p .s) (p .unbox) (p .box) (passed 8)
+
     undoes : (w : Direction) → Undoes (p .d) (2 ^ p .s) (p .poly) (coefficientsFor p w) (coefficientsFor p (opposite w))
     undoes forward = undoes-of (p .d) (2 ^ p .s) (p .poly) (p .z) (p .unz) (passed 9)
     undoes backward = undoes-of (p .d) (2 ^ p .s) (p .poly) (p .unz) (p .z) (passed 10)

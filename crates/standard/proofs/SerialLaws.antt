@@ -5,7 +5,7 @@ use mathlib.Core.List.{List, [], _∷_, _++_, map, map-map, tail, reverse, rever
 use Prim.Native.Nat.{ℕ, zero, suc, _+_, _-_, _*_, _^_, _≤_, _<_}
 use native.Mathlib.Nat.{suc-inj}
 use native.Mathlib.Omega.{arith}
-use lib.Bits.{bitXor, xor-lt}
+use lib.Bits.{bitXor}
 use lib.ListN.{length, getD, length-append, length-reverse, length-map}
 use Rattle.standard.specs.Rounds.{Direction, forward, backward, opposite, iterate}
 use Rattle.standard.specs.Grid.{Grid, tab, at, transpose, Square, Small}
@@ -50,7 +50,8 @@ module _ (d s poly : ℕ) (low : 2 ^ s ≤ poly) (high : poly < 2 ^ s * 2) where
   serial-column z h (x ∷ xs) k =
       record {
         size = length-append xs _ ∙ omega (arith, k .size);
-        cells = all-append (λ y. y < 2 ^ s) xs _ (k .cells .1) (dot-lt s poly low high z (x ∷ xs) (k .cells), tt) }
+        cells = all-append (λ y. y < 2 ^ s) xs _ (k .cells .1) (dot-lt s poly low high z (x ∷ xs) (k .cells), tt);
+      }
 
   pub upward-column : (f : List ℕ → List ℕ) → ((c : List ℕ) → Column d (2 ^ s) c → Column d (2 ^ s) (f c))
       → (c : List ℕ) → Column d (2 ^ s) c → Column d (2 ^ s) (upward f c)
@@ -66,7 +67,7 @@ module _ (d s poly : ℕ) (low : 2 ^ s ≤ poly) (high : poly < 2 ^ s * 2) where
       let b : ℕ = dot (2 ^ s) poly zs xs in
       ap₂ bitXor
       (mul-xor s poly low high u₀ a b (mul-lt s poly low high z₀ x hx) (dot-lt s poly low high zs xs hxs)
-        ∙ ap (λ (v : ℕ). bitXor v (mul (2 ^ s) poly u₀ b)) (first x hx))
+      ∙ ap (λ (v : ℕ). bitXor v (mul (2 ^ s) poly u₀ b)) (first x hx))
       (dot-reverse (2 ^ s) poly us xs e ∙ dot-scaled s poly low high u₀ zs (reverse us) xs others hxs)
       ∙ xor-twice x (mul (2 ^ s) poly u₀ b)
 
@@ -79,9 +80,9 @@ module _ (d s poly : ℕ) (low : 2 ^ s ≤ poly) (high : poly < 2 ^ s * 2) where
         ap (λ (l : List ℕ). reverse (tail l ++ (dot (2 ^ s) poly unz l ∷ []))) (reverse-append xs (v ∷ []))
         ∙ reverse-append (reverse xs) (dot (2 ^ s) poly unz (v ∷ reverse xs) ∷ [])
         ∙ ap₂ (λ (y : ℕ) (ys : List ℕ). y ∷ ys)
-          (ap₂ (λ (a b : List ℕ). dot (2 ^ s) poly a (dot (2 ^ s) poly b (x ∷ xs) ∷ reverse xs)) (u .unz-is) (u .z-is)
-            ∙ found (u .z₀) (u .u₀) (u .zs) (u .us) (u .first) (u .others) x xs (suc-inj (u .size ∙ sym (k .size))) (k .cells .0) (k .cells .1))
-          (reverse-reverse xs)
+        (ap₂ (λ (a b : List ℕ). dot (2 ^ s) poly a (dot (2 ^ s) poly b (x ∷ xs) ∷ reverse xs)) (u .unz-is) (u .z-is)
+        ∙ found (u .z₀) (u .u₀) (u .zs) (u .us) (u .first) (u .others) x xs (suc-inj (u .size ∙ sym (k .size))) (k .cells .0) (k .cells .1))
+        (reverse-reverse xs)
 
     -- the same read from the bottom up: here it is `unz` that goes first
     pub serial-upward : (c : List ℕ) → Column d (2 ^ s) c → serial (2 ^ s) poly unz (upward (serial (2 ^ s) poly z) c) ≡ c
@@ -117,22 +118,25 @@ row-column : (d top : ℕ) (g : Grid) → Square d g → Small d top g → (i : 
 row-column d top g q m i hi =
     record {
       size = q .cols i hi;
-      cells = all-of (λ x. x < top) (getD g i []) (λ k hk. m .cell i k hi (omega (arith, q .cols i hi))) }
+      cells = all-of (λ x. x < top) (getD g i []) (λ k hk. m .cell i k hi (omega (arith, q .cols i hi)));
+    }
 
 module _ (d top : ℕ) (f : List ℕ → List ℕ) (keeps : (c : List ℕ) → Column d top c → Column d top (f c)) where
   map-square : (g : Grid) → Square d g → Small d top g → Square d (map f g)
   map-square g q m =
       record {
         rows = length-map g f ∙ q .rows;
-        cols = λ i hi. ap length (getD-map f g i [] [] (omega (arith, q .rows))) ∙ keeps (getD g i []) (row-column d top g q m i hi) .size }
+        cols = λ i hi. ap length (getD-map f g i [] [] (omega (arith, q .rows))) ∙ keeps (getD g i []) (row-column d top g q m i hi) .size;
+      }
 
   map-small : (g : Grid) → Square d g → Small d top g → Small d top (map f g)
   map-small g q m =
       record {
         cell = λ i j hi hj.
-          let k = keeps (getD g i []) (row-column d top g q m i hi) in
-          subst (λ (r : List ℕ). getD r j 0 < top) (sym (getD-map f g i [] [] (omega (arith, q .rows))))
-          (all-at (λ x. x < top) (f (getD g i [])) (k .cells) j (omega (arith, k .size))) }
+            let k = keeps (getD g i []) (row-column d top g q m i hi) in
+            subst (λ (r : List ℕ). getD r j 0 < top) (sym (getD-map f g i [] [] (omega (arith, q .rows))))
+            (all-at (λ x. x < top) (f (getD g i [])) (k .cells) j (omega (arith, k .size)));
+      }
 
   pub columns-square : (g : Grid) → Square d (columns d f g)
   unfolding columns
@@ -151,7 +155,7 @@ module _ (d top : ℕ) (f : List ℕ → List ℕ) (keeps : (c : List ℕ) → C
       let tm : Small d top t = transpose-small d top g m in
       ap (λ (x : Grid). transpose d (map f′ x)) (transpose-transpose d (map f t) (map-square t tq tm))
       ∙ ap (λ (x : Grid). transpose d x)
-          (map-undo f f′ [] t (λ k hk. undo (getD t k []) (row-column d top t tq tm k (omega (arith, tq .rows)))))
+      (map-undo f f′ [] t (λ k hk. undo (getD t k []) (row-column d top t tq tm k (omega (arith, tq .rows)))))
       ∙ transpose-transpose d g q
 
 -- ---- the rows in reverse: each column read from the bottom up
@@ -161,8 +165,8 @@ unfolding transpose
 transpose-reverses d g q =
     grid-cong d (λ i j. at (map reverse g) j i) (λ i j. at g j (d - 1 - i))
     (λ i j hi hj. ap (λ (r : List ℕ). getD r i 0) (getD-map reverse g j [] [] (omega (arith, q .rows)))
-      ∙ getD-reverse (getD g j []) i 0 (omega (arith, q .cols j hj))
-      ∙ ap (λ (n : ℕ). getD (getD g j []) (n - 1 - i) 0) (q .cols j hj))
+    ∙ getD-reverse (getD g j []) i 0 (omega (arith, q .cols j hj))
+    ∙ ap (λ (n : ℕ). getD (getD g j []) (n - 1 - i) 0) (q .cols j hj))
     ∙ sym (reverse-tab d (λ i. tab d (λ j. at g j i)))
 
 map-cong : (f f′ : List ℕ → List ℕ) → ((c : List ℕ) → f c ≡ f′ c) → (g : Grid) → map f g ≡ map f′ g
@@ -179,9 +183,9 @@ module _ (d top : ℕ) (f : List ℕ → List ℕ) (keeps : (c : List ℕ) → C
       let rq : Square d (map reverse t) = map-square d top reverse (column-reverse d top) t tq tm in
       let rm : Small d top (map reverse t) = map-small d top reverse (column-reverse d top) t tq tm in
       ap (λ (x : Grid). reverse (transpose d (map f x)))
-        (ap (λ (x : Grid). transpose d (reverse x)) (sym (transpose-transpose d g q))
-        ∙ ap (transpose d) (sym (transpose-reverses d t tq))
-        ∙ transpose-transpose d (map reverse t) rq)
+      (ap (λ (x : Grid). transpose d (reverse x)) (sym (transpose-transpose d g q))
+      ∙ ap (transpose d) (sym (transpose-reverses d t tq))
+      ∙ transpose-transpose d (map reverse t) rq)
       ∙ sym (transpose-reverses d (map f (map reverse t)) (map-square d top f keeps (map reverse t) rq rm))
       ∙ ap (transpose d) (ap (map reverse) (map-map f reverse t) ∙ map-map reverse (λ c. f (reverse c)) t)
 
@@ -217,7 +221,7 @@ module _ (d s poly : ℕ) (low : 2 ^ s ≤ poly) (high : poly < 2 ^ s * 2) (pos 
   mixing-is backward z g q m =
       columns-reverse d (2 ^ s) (iterate d (serial (2 ^ s) poly z)) (steps-column d forward z) g q m
       ∙ ap (transpose d)
-        (map-cong (upward (iterate d (serial (2 ^ s) poly z))) (iterate d (upward (serial (2 ^ s) poly z))) (upward-iterate d (serial (2 ^ s) poly z)) (transpose d g))
+      (map-cong (upward (iterate d (serial (2 ^ s) poly z))) (iterate d (upward (serial (2 ^ s) poly z))) (upward-iterate d (serial (2 ^ s) poly z)) (transpose d g))
 
   module _ (w : Direction) (z : List ℕ) (g : Grid) (q : Square d g) (m : Small d (2 ^ s) g) where
     pub mixing-square : Square d (mixing (2 ^ s) poly d w z g)
@@ -231,4 +235,4 @@ module _ (d s poly : ℕ) (low : 2 ^ s ≤ poly) (high : poly < 2 ^ s * 2) (pos 
         mixing-is (opposite w) unz (mixing (2 ^ s) poly d w z g) mixing-square mixing-small
         ∙ ap (columns d (iterate d (step (2 ^ s) poly (opposite w) unz))) (mixing-is w z g q m)
         ∙ columns-undo d (2 ^ s) (iterate d (step (2 ^ s) poly w z)) (steps-column d w z) (iterate d (step (2 ^ s) poly (opposite w) unz))
-          (iterate-undo (Column d (2 ^ s)) (step (2 ^ s) poly w z) (step (2 ^ s) poly (opposite w) unz) (step-column w z) (step-undo w z unz u) d) g q m
+        (iterate-undo (Column d (2 ^ s)) (step (2 ^ s) poly w z) (step (2 ^ s) poly (opposite w) unz) (step-column w z) (step-undo w z unz u) d) g q m

@@ -3,12 +3,12 @@
 use mathlib.Core.Path.{_≡_, refl, sym, ap, ap₂, _∙_, subst}
 use mathlib.Core.List.{List, [], _∷_, _++_, map, reverse, reverse-cons}
 use mathlib.Core.Logic.{⊎-elim}
-use Prim.Native.Nat.{ℕ, zero, suc, _-_, _≤_, _<_, suc-le-suc}
+use Prim.Native.Nat.{ℕ, zero, suc, _-_, _<_, suc-le-suc}
 use native.Mathlib.Nat.{not-suc-le-zero, le-of-suc-le-suc, zero-lt-suc, eq-or-lt-of-le}
 use native.Mathlib.Omega.{arith}
-use lib.ListN.{length, getD, take, length-reverse, List·getD-append}
+use lib.ListN.{length, getD, length-reverse, List·getD-append}
 use lib.Seq.{getD-at}
-use Rattle.standard.specs.Grid.{Grid, tab, at, grid, cells, window, transpose, Square, Small}
+use Rattle.standard.specs.Grid.{Grid, tab, at, grid, cells, window, Square, Small}
 
 -- ---- lists made by index
 
@@ -44,20 +44,20 @@ module _ {A : Type 0} where
   getD-reverse (x ∷ xs) k z h =
       ap (λ (l : List A). getD l k z) (reverse-cons x xs)
       ∙ ⊎-elim
-        (λ e. let last : suc (length xs) - 1 - k ≡ 0 = omega arith in
-          getD-at (reverse xs) x [] z k (length-reverse xs ∙ sym e) ∙ ap (λ (n : ℕ). getD (x ∷ xs) n z) (sym last))
-        (λ l. let more : suc (length xs) - 1 - k ≡ suc (length xs - 1 - k) = omega arith in
-          List·getD-append (reverse xs) (x ∷ []) z k (omega (arith, length-reverse xs))
-          ∙ getD-reverse xs k z l ∙ ap (λ (n : ℕ). getD (x ∷ xs) n z) (sym more))
-        (eq-or-lt-of-le (le-of-suc-le-suc h))
+      (λ e. let last : suc (length xs) - 1 - k ≡ 0 = omega arith in
+      getD-at (reverse xs) x [] z k (length-reverse xs ∙ sym e) ∙ ap (λ (n : ℕ). getD (x ∷ xs) n z) (sym last))
+      (λ l. let more : suc (length xs) - 1 - k ≡ suc (length xs - 1 - k) = omega arith in
+      List·getD-append (reverse xs) (x ∷ []) z k (omega (arith, length-reverse xs))
+      ∙ getD-reverse xs k z l ∙ ap (λ (n : ℕ). getD (x ∷ xs) n z) (sym more))
+      (eq-or-lt-of-le (le-of-suc-le-suc h))
 
   pub reverse-tab : (n : ℕ) (f : ℕ → A) → reverse (tab n f) ≡ tab n (λ k. f (n - 1 - k))
   reverse-tab n f =
       sym (tab-self n (reverse (tab n f)) (f 0) (length-reverse (tab n f) ∙ length-tab n f))
       ∙ tab-cong n (λ k. getD (reverse (tab n f)) k (f 0)) (λ k. f (n - 1 - k))
-        (λ k h. getD-reverse (tab n f) k (f 0) (subst (λ (m : ℕ). k < m) (sym (length-tab n f)) h)
-          ∙ ap (λ (m : ℕ). getD (tab n f) (m - 1 - k) (f 0)) (length-tab n f)
-          ∙ getD-tab n f (n - 1 - k) (f 0) (omega arith))
+      (λ k h. getD-reverse (tab n f) k (f 0) (subst (λ (m : ℕ). k < m) (sym (length-tab n f)) h)
+      ∙ ap (λ (m : ℕ). getD (tab n f) (m - 1 - k) (f 0)) (length-tab n f)
+      ∙ getD-tab n f (n - 1 - k) (f 0) (omega arith))
 
 pub map-tab : {A B : Type 0} (g : A → B) (m : ℕ) (f : ℕ → A) → map g (tab m f) ≡ tab m (λ k. g (f k))
 map-tab g zero f = refl
@@ -75,7 +75,8 @@ pub square-grid : (d : ℕ) (f : ℕ → ℕ → ℕ) → Square d (grid d f)
 square-grid d f =
     record {
       rows = length-tab d (λ i. tab d (f i));
-      cols = λ i hi. ap length (getD-tab d (λ k. tab d (f k)) i [] hi) ∙ length-tab d (f i) }
+      cols = λ i hi. ap length (getD-tab d (λ k. tab d (f k)) i [] hi) ∙ length-tab d (f i);
+    }
 
 pub small-grid : (d top : ℕ) (f : ℕ → ℕ → ℕ) → ((i j : ℕ) → i < d → j < d → f i j < top) → Small d top (grid d f)
 small-grid d top f h = record { cell = λ i j hi hj. subst (λ (x : ℕ). x < top) (sym (at-grid d f i j hi hj)) (h i j hi hj) }

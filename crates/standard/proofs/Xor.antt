@@ -5,7 +5,7 @@ use Prim.Native.Nat.{ℕ, zero, suc, _+_, _*_, _/_, _%_, _<_}
 use native.Mathlib.Nat.{mod-lt, zero-lt-suc, not-suc-le-zero, le-of-suc-le-suc, add-zero}
 use native.Mathlib.Omega.{arith}
 use lib.Arith.{bin-ind, digits-div, digits-mod}
-use lib.Bits.{bitXor, differ, xor-step, xor-self, xor-zero-l, xor-zero-r, xor-comm, xor-block}
+use lib.Bits.{bitXor, differ, xor-step, xor-self, xor-zero-r, xor-comm, xor-block}
 
 low-bit : (n : ℕ) → n % 2 < 2
 low-bit n = mod-lt n (zero-lt-suc 1)
@@ -34,11 +34,11 @@ xor-odd a b = ap (λ (x : ℕ). x % 2) (xor-step a b) ∙ digits-mod (bitXor (a 
 pub xor-assoc : (a b c : ℕ) → bitXor (bitXor a b) c ≡ bitXor a (bitXor b c)
 xor-assoc a =
     bin-ind (λ (n : ℕ). (b c : ℕ) → bitXor (bitXor n b) c ≡ bitXor n (bitXor b c)) (λ b c. refl)
-      (λ n ih b c. xor-step (bitXor n b) c
-        ∙ ap₂ (λ (x y : ℕ). bitXor x (c / 2) * 2 + differ y (c % 2)) (xor-half n b) (xor-odd n b)
-        ∙ ap₂ (λ (x y : ℕ). x * 2 + y) (ih (b / 2) (c / 2)) (differ-assoc (n % 2) (b % 2) (c % 2) (low-bit n) (low-bit b) (low-bit c))
-        ∙ ap₂ (λ (x y : ℕ). bitXor (n / 2) x * 2 + differ (n % 2) y) (sym (xor-half b c)) (sym (xor-odd b c))
-        ∙ sym (xor-step n (bitXor b c))) a
+    (λ n ih b c. xor-step (bitXor n b) c
+    ∙ ap₂ (λ (x y : ℕ). bitXor x (c / 2) * 2 + differ y (c % 2)) (xor-half n b) (xor-odd n b)
+    ∙ ap₂ (λ (x y : ℕ). x * 2 + y) (ih (b / 2) (c / 2)) (differ-assoc (n % 2) (b % 2) (c % 2) (low-bit n) (low-bit b) (low-bit c))
+    ∙ ap₂ (λ (x y : ℕ). bitXor (n / 2) x * 2 + differ (n % 2) y) (sym (xor-half b c)) (sym (xor-odd b c))
+    ∙ sym (xor-step n (bitXor b c))) a
 
 pub xor-twice : (a b : ℕ) → bitXor (bitXor a b) b ≡ a
 xor-twice a b = xor-assoc a b b ∙ ap (λ (x : ℕ). bitXor a x) (xor-self b) ∙ xor-zero-r a
