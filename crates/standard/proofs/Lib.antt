@@ -4,3 +4,11 @@ pub mod Reordered
 pub mod Undo
 pub mod OneBlock
 pub mod KnownValues
+pub mod Xor
+pub mod Tab
+pub mod FieldLaws
+pub mod SerialLaws
+pub mod PhotonLaws
+pub mod PhotonVariants
+pub mod CutLaws
+pub mod MatrixLaws

@@ -1,0 +1,227 @@
+-- The field's laws: its products are cells, and are linear in the second factor; so is a sum of products.
+-- Assumes nothing.
+use mathlib.Core.Path.{_≡_, refl, sym, ap, ap₂, _∙_, subst}
+use mathlib.Core.Bool.{Bool, true, false, not, cond}
+use mathlib.Core.List.{List, [], _∷_, _++_, reverse, reverse-cons, reverse-reverse}
+use Prim.Native.Nat.{ℕ, zero, suc, _+_, _-_, _*_, _/_, _%_, _^_, _≤_, _<_}
+use native.Mathlib.Nat.{zero-mul, zero-add, suc-ne-zero, suc-inj, pow-suc, div-lt-iff-lt-mul, zero-lt-suc}
+use native.Mathlib.Omega.{arith}
+use lib.Arith.{lt-one}
+use lib.Dec.{ltb, eqb}
+use lib.Bits.{bitXor, xor-lt, xor-block, xor-zero-l, xor-zero-r, xor-self, xor-comm}
+use lib.Pow.{pow-pos}
+use lib.ListN.{length, length-reverse}
+use borrow.Author.Tests.{ltb-true, ltb-false, lt-ltb, le-ltb}
+use Rattle.standard.specs.Field.{double, times, mul, dot, Modulus}
+use Rattle.standard.proofs.Xor.{xor-assoc, xor-exchange, xor-double}
+use Rattle.standard.proofs.Undo.{All}
+
+cond-lt : (b : Bool) (x y n : ℕ) → x < n → y < n → cond b x y < n
+cond-lt true x y n h k = h
+cond-lt false x y n h k = k
+
+-- a sum of two terms fits where both fit, or neither
+abbrev agree : Bool → Bool → Bool
+agree true b = b
+agree false b = not b
+
+-- ---- products of numbers below 2^s, modulo a polynomial of s + 1 bits
+
+module _ (s poly : ℕ) (low : 2 ^ s ≤ poly) (high : poly < 2 ^ s * 2) where
+  -- a number of s + 1 bits, in its highest bit and the rest
+  top-bit : (x : ℕ) → 2 ^ s ≤ x → x ≡ 1 * 2 ^ s + (x - 2 ^ s)
+  top-bit x h = omega arith
+
+  both-over : (x y : ℕ) → 2 ^ s ≤ x → x < 2 ^ s * 2 → 2 ^ s ≤ y → y < 2 ^ s * 2 → bitXor x y < 2 ^ s
+  both-over x y lx hx ly hy =
+      subst (λ (v : ℕ). v < 2 ^ s)
+      (sym
+      (ap₂ bitXor (top-bit x lx) (top-bit y ly) ∙ xor-block s 1 1 (x - 2 ^ s) (y - 2 ^ s) (omega arith) (omega arith)
+      ∙ ap (λ (v : ℕ). v + bitXor (x - 2 ^ s) (y - 2 ^ s)) (zero-mul (2 ^ s)) ∙ zero-add (bitXor (x - 2 ^ s) (y - 2 ^ s))))
+      (xor-lt s (x - 2 ^ s) (y - 2 ^ s) (omega arith) (omega arith))
+
+  one-over : (x y : ℕ) → x < 2 ^ s → 2 ^ s ≤ y → y < 2 ^ s * 2 → 2 ^ s ≤ bitXor x y
+  one-over x y hx ly hy =
+      let below : x ≡ 0 * 2 ^ s + x = sym (ap (λ (v : ℕ). v + x) (zero-mul (2 ^ s)) ∙ zero-add x) in
+      let e : bitXor x y ≡ 1 * 2 ^ s + bitXor x (y - 2 ^ s) = ap₂ bitXor below (top-bit y ly) ∙ xor-block s 0 1 x (y - 2 ^ s) hx (omega arith) in
+      omega arith
+
+  fits-xor : (x y : ℕ) → x < 2 ^ s * 2 → y < 2 ^ s * 2 → (a b : Bool) → ltb x (2 ^ s) ≡ a → ltb y (2 ^ s) ≡ b → ltb (bitXor x y) (2 ^ s) ≡ agree a b
+  fits-xor x y hx hy true true e f = lt-ltb (bitXor x y) (2 ^ s) (xor-lt s x y (ltb-true x (2 ^ s) e) (ltb-true y (2 ^ s) f))
+  fits-xor x y hx hy true false e f = le-ltb (bitXor x y) (2 ^ s) (one-over x y (ltb-true x (2 ^ s) e) (ltb-false y (2 ^ s) f) hy)
+  fits-xor x y hx hy false true e f =
+      le-ltb (bitXor x y) (2 ^ s) (rw (xor-comm x y) (one-over y x (ltb-true y (2 ^ s) f) (ltb-false x (2 ^ s) e) hx))
+  fits-xor x y hx hy false false e f =
+      lt-ltb (bitXor x y) (2 ^ s) (both-over x y (ltb-false x (2 ^ s) e) hx (ltb-false y (2 ^ s) f) hy)
+
+  -- what is added to a double: nothing where it fits, and else the polynomial
+  abbrev carry : Bool → ℕ
+  carry b = cond b 0 poly
+
+  carry-xor : (a b : Bool) → carry (agree a b) ≡ bitXor (carry a) (carry b)
+  carry-xor true true = refl
+  carry-xor true false = sym (xor-zero-l poly)
+  carry-xor false true = sym (xor-zero-r poly)
+  carry-xor false false = sym (xor-self poly)
+
+  double-carry : (x : ℕ) → double (2 ^ s) poly x ≡ bitXor (x * 2) (carry (ltb (x * 2) (2 ^ s)))
+  unfolding double
+  double-carry x = go (ltb (x * 2) (2 ^ s))
+    where
+      go : (b : Bool) → cond b (x * 2) (bitXor (x * 2) poly) ≡ bitXor (x * 2) (cond b 0 poly)
+      go true = sym (xor-zero-r (x * 2))
+      go false = refl
+
+  pub double-xor : (x y : ℕ) → x < 2 ^ s → y < 2 ^ s → double (2 ^ s) poly (bitXor x y) ≡ bitXor (double (2 ^ s) poly x) (double (2 ^ s) poly y)
+  double-xor x y hx hy =
+      let a : Bool = ltb (x * 2) (2 ^ s) in
+      let b : Bool = ltb (y * 2) (2 ^ s) in
+      double-carry (bitXor x y)
+      ∙ ap (λ (v : ℕ). bitXor v (carry (ltb v (2 ^ s)))) (xor-double x y)
+      ∙ ap (λ (v : ℕ). bitXor (bitXor (x * 2) (y * 2)) v)
+      (ap carry (fits-xor (x * 2) (y * 2) (omega arith) (omega arith) a b refl refl) ∙ carry-xor a b)
+      ∙ xor-exchange (x * 2) (y * 2) (carry a) (carry b)
+      ∙ ap₂ bitXor (sym (double-carry x)) (sym (double-carry y))
+
+  pub double-lt : (x : ℕ) → x < 2 ^ s → double (2 ^ s) poly x < 2 ^ s
+  unfolding double
+  double-lt x h = go (ltb (x * 2) (2 ^ s)) refl
+    where
+      go : (b : Bool) → ltb (x * 2) (2 ^ s) ≡ b → cond b (x * 2) (bitXor (x * 2) poly) < 2 ^ s
+      go true e = ltb-true (x * 2) (2 ^ s) e
+      go false e = both-over (x * 2) poly (ltb-false (x * 2) (2 ^ s) e) (omega arith) low high
+
+  times-lt : (n a x : ℕ) → x < 2 ^ s → times (2 ^ s) poly n a x < 2 ^ s
+  unfolding times
+  times-lt zero a x h = pow-pos s
+  times-lt (suc n) a x h =
+      xor-lt s (cond (eqb (a % 2) 1) x 0) (times (2 ^ s) poly n (a / 2) (double (2 ^ s) poly x))
+      (cond-lt (eqb (a % 2) 1) x 0 (2 ^ s) h (pow-pos s))
+      (times-lt n (a / 2) (double (2 ^ s) poly x) (double-lt x h))
+
+  pub mul-lt : (a x : ℕ) → x < 2 ^ s → mul (2 ^ s) poly a x < 2 ^ s
+  unfolding mul
+  mul-lt a x h = times-lt 8 a x h
+
+  cond-xor : (b : Bool) (x y : ℕ) → cond b (bitXor x y) 0 ≡ bitXor (cond b x 0) (cond b y 0)
+  cond-xor true x y = refl
+  cond-xor false x y = refl
+
+  times-xor : (n a x y : ℕ) → x < 2 ^ s → y < 2 ^ s
+      → times (2 ^ s) poly n a (bitXor x y) ≡ bitXor (times (2 ^ s) poly n a x) (times (2 ^ s) poly n a y)
+  unfolding times
+  times-xor zero a x y hx hy = refl
+  times-xor (suc n) a x y hx hy =
+      let b : Bool = eqb (a % 2) 1 in
+      let u : ℕ = double (2 ^ s) poly x in
+      let v : ℕ = double (2 ^ s) poly y in
+      ap₂ bitXor (cond-xor b x y)
+      (ap (times (2 ^ s) poly n (a / 2)) (double-xor x y hx hy) ∙ times-xor n (a / 2) u v (double-lt x hx) (double-lt y hy))
+      ∙ xor-exchange (cond b x 0) (cond b y 0) (times (2 ^ s) poly n (a / 2) u) (times (2 ^ s) poly n (a / 2) v)
+
+  pub mul-xor : (a x y : ℕ) → x < 2 ^ s → y < 2 ^ s → mul (2 ^ s) poly a (bitXor x y) ≡ bitXor (mul (2 ^ s) poly a x) (mul (2 ^ s) poly a y)
+  unfolding mul
+  mul-xor a x y hx hy = times-xor 8 a x y hx hy
+
+  -- 0 is 0 + 0
+  pub mul-zero : (a : ℕ) → mul (2 ^ s) poly a 0 ≡ 0
+  mul-zero a = mul-xor a 0 0 (pow-pos s) (pow-pos s) ∙ xor-self (mul (2 ^ s) poly a 0)
+
+  -- ---- sums of products
+
+  pub dot-lt : (zs xs : List ℕ) → All (λ x. x < 2 ^ s) xs → dot (2 ^ s) poly zs xs < 2 ^ s
+  unfolding dot
+  dot-lt [] xs a = pow-pos s
+  dot-lt (z ∷ zs) [] a = pow-pos s
+  dot-lt (z ∷ zs) (x ∷ xs) a =
+      xor-lt s (mul (2 ^ s) poly z x) (dot (2 ^ s) poly zs xs) (mul-lt z x (a .0)) (dot-lt zs xs (a .1))
+
+-- each product by an entry of `us` is u times the product by the same entry of `zs`
+abbrev pub Scaled : ℕ → ℕ → ℕ → List ℕ → List ℕ → Type 0
+Scaled top poly u [] [] = Unit {0}
+Scaled top poly u [] (b ∷ us) = ⊥
+Scaled top poly u (a ∷ zs) [] = ⊥
+Scaled top poly u (a ∷ zs) (b ∷ us) = ((x : ℕ) → x < top → mul top poly b x ≡ mul top poly u (mul top poly a x)) × Scaled top poly u zs us
+
+module _ (s poly : ℕ) (low : 2 ^ s ≤ poly) (high : poly < 2 ^ s * 2) where
+  pub dot-scaled : (u : ℕ) (zs us xs : List ℕ) → Scaled (2 ^ s) poly u zs us → All (λ x. x < 2 ^ s) xs
+      → dot (2 ^ s) poly us xs ≡ mul (2 ^ s) poly u (dot (2 ^ s) poly zs xs)
+  unfolding dot
+  dot-scaled u [] [] xs h a = sym (mul-zero s poly low high u)
+  dot-scaled u [] (b ∷ us) xs h a = absurd h
+  dot-scaled u (z ∷ zs) [] xs h a = absurd h
+  dot-scaled u (z ∷ zs) (b ∷ us) [] h a = sym (mul-zero s poly low high u)
+  dot-scaled u (z ∷ zs) (b ∷ us) (x ∷ xs) h a =
+      ap₂ bitXor (h .0 x (a .0)) (dot-scaled u zs us xs (h .1) (a .1))
+      ∙ sym (mul-xor s poly low high u (mul (2 ^ s) poly z x) (dot (2 ^ s) poly zs xs) (mul-lt s poly low high z x (a .0)) (dot-lt s poly low high zs xs (a .1)))
+
+module _ (top poly : ℕ) where
+  dot-snoc : (zs xs : List ℕ) (z x : ℕ) → length zs ≡ length xs → dot top poly (zs ++ (z ∷ [])) (xs ++ (x ∷ [])) ≡ bitXor (dot top poly zs xs) (mul top poly z x)
+  unfolding dot
+  dot-snoc [] [] z x e = xor-zero-r (mul top poly z x)
+  dot-snoc [] (y ∷ xs) z x e = absurd (suc-ne-zero (length xs) (sym e))
+  dot-snoc (w ∷ zs) [] z x e = absurd (suc-ne-zero (length zs) e)
+  dot-snoc (w ∷ zs) (y ∷ xs) z x e =
+      ap (λ (v : ℕ). bitXor (mul top poly w y) v) (dot-snoc zs xs z x (suc-inj e))
+      ∙ sym (xor-assoc (mul top poly w y) (dot top poly zs xs) (mul top poly z x))
+
+  dot-reverses : (zs xs : List ℕ) → length zs ≡ length xs → dot top poly (reverse zs) (reverse xs) ≡ dot top poly zs xs
+  unfolding dot
+  dot-reverses [] [] e = refl
+  dot-reverses [] (x ∷ xs) e = absurd (suc-ne-zero (length xs) (sym e))
+  dot-reverses (z ∷ zs) [] e = absurd (suc-ne-zero (length zs) e)
+  dot-reverses (z ∷ zs) (x ∷ xs) e =
+      ap₂ (dot top poly) (reverse-cons z zs) (reverse-cons x xs)
+      ∙ dot-snoc (reverse zs) (reverse xs) z x (length-reverse zs ∙ suc-inj e ∙ sym (length-reverse xs))
+      ∙ ap (λ (v : ℕ). bitXor v (mul top poly z x)) (dot-reverses zs xs (suc-inj e))
+      ∙ xor-comm (dot top poly zs xs) (mul top poly z x)
+
+  pub dot-reverse : (zs xs : List ℕ) → length zs ≡ length xs → dot top poly zs (reverse xs) ≡ dot top poly (reverse zs) xs
+  dot-reverse zs xs e =
+      ap (λ (l : List ℕ). dot top poly l (reverse xs)) (sym (reverse-reverse zs))
+      ∙ dot-reverses (reverse zs) xs (length-reverse zs ∙ e)
+
+  -- ---- the bits of the first factor, one by one
+
+  half-lt : (n a : ℕ) → a < 2 ^ suc n → a / 2 < 2 ^ n
+  half-lt n a h = div-lt-iff-lt-mul (zero-lt-suc 1) .1 (rw (pow-suc 2 n) at h)
+
+  times-none : (n x : ℕ) → times top poly n 0 x ≡ 0
+  unfolding times
+  times-none zero x = refl
+  times-none (suc n) x = times-none n (double top poly x)
+
+  -- bits above the highest that is set add nothing
+  times-enough : (n a x : ℕ) → a < 2 ^ n → times top poly (suc n) a x ≡ times top poly n a x
+  unfolding times
+  times-enough zero a x h = ap (λ (b : ℕ). times top poly 1 b x) (lt-one h)
+  times-enough (suc n) a x h = ap (bitXor (cond (eqb (a % 2) 1) x 0)) (times-enough n (a / 2) (double top poly x) (half-lt n a h))
+
+  pub mul-none : (x : ℕ) → mul top poly 0 x ≡ 0
+  unfolding mul
+  mul-none x = times-none 8 x
+
+  -- one bit of the first factor taken off
+  pub mul-step : (a x : ℕ) → a < 256 → mul top poly a x ≡ bitXor (cond (eqb (a % 2) 1) x 0) (mul top poly (a / 2) (double top poly x))
+  unfolding mul times
+  mul-step a x h = ap (bitXor (cond (eqb (a % 2) 1) x 0)) (sym (times-enough 7 (a / 2) (double top poly x) (half-lt 7 a h)))
+
+-- ---- the bounds at a modulus
+
+module _ (top poly : ℕ) (m : Modulus top poly) where
+  pub top-pos : 0 < top
+  top-pos = subst (λ (t : ℕ). 0 < t) (sym (m .is)) (pow-pos (m .s))
+
+  pub xor-below : (a b : ℕ) → a < top → b < top → bitXor a b < top
+  xor-below a b = subst (λ (t : ℕ). a < t → b < t → bitXor a b < t) (sym (m .is)) (xor-lt (m .s) a b)
+
+  pub double-below : (x : ℕ) → x < top → double top poly x < top
+  double-below x =
+      subst (λ (t : ℕ). t ≤ poly → poly < t * 2 → x < t → double t poly x < t) (sym (m .is)) (λ l h. double-lt (m .s) poly l h x) (m .low) (m .high)
+
+  pub mul-below : (a x : ℕ) → x < top → mul top poly a x < top
+  mul-below a x =
+      subst (λ (t : ℕ). t ≤ poly → poly < t * 2 → x < t → mul t poly a x < t) (sym (m .is)) (λ l h. mul-lt (m .s) poly l h a x) (m .low) (m .high)
+
+  pub cond-below : (b : Bool) (x : ℕ) → x < top → cond b x 0 < top
+  cond-below b x h = cond-lt b x 0 top h top-pos
