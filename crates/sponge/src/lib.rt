@@ -4,15 +4,16 @@ ghost use mathlib.Core.List.{[], _++_};
 ghost use mathlib.Core.Bool.{true};
 ghost use Prim.Native.Nat.{ℕ, _+_, _-_, _*_, _/_, _%_, _^_, _≤_, _<_};
 ghost use lib.ListN.{getD, length, take, drop, replicate};
-ghost use Rattle.standard.specs.Bits.{Order, high-first, bitsIn, reordered, xorInto};
+ghost use Rattle.standard.specs.Bits.{Order, high-first, bitsIn, pack, xorInto};
 ghost use Rattle.standard.specs.Rounds.{direction, forward, backward};
 ghost use Rattle.standard.specs.Sponge.{order, permutation, step, imageBytes, stateIn};
 ghost use Rattle.standard.specs.Variants.{variant, known};
 ghost use Rattle.sponge.specs.Refusals.{number, entry};
 ghost use Rattle.sponge.specs.Layout.{stateBytes, blockBytes, blockIn, clear};
 ghost use mathlib.Core.Logic.{_⊎_};
-ghost use Rattle.sponge.specs.Cells.{cellIn, nth, byteAt};
-ghost use Rattle.standard.specs.Grid.{tab, grid, window, Small};
+ghost use Rattle.sponge.specs.Cells.{cellIn, nth};
+ghost use Rattle.standard.specs.Grid.{window, Small};
+ghost use Rattle.standard.specs.Photon.{matrixOf, bitsOfMatrix};
 ghost use Rattle.sponge.specs.Images.{imageStatus, permutedImage};
 
 // Done, or the one refusal whose condition holds and whose earlier checks passed.
@@ -202,7 +203,7 @@ fn read_row(w: usize, s: [u8; 36], d: usize, base: usize) -> [u8; 8]
 fn grid_of(w: usize, s: [u8; 36], d: usize) -> [[u8; 8]; 8]
     requires { ⌜ (w ≡ 4) ⊎ (w ≡ 8) ⌝ }
     requires { ⌜ d ≤ 8 ⌝ }
-    ensures { λ r. ⌜ window d r ≡ grid d (λ i j. cellIn w s (i * d + j)) ⌝ }
+    ensures { λ r. ⌜ window d r ≡ matrixOf d w (bitsIn high-first s) ⌝ }
 {
     let mut out = [[0u8; 8]; 8];
     let mut base = 0;
@@ -234,7 +235,7 @@ fn byte_of(w: usize, g: [[u8; 8]; 8], d: usize, k: usize) -> u8
     requires { ⌜ (0 < d) × (d ≤ 8) ⌝ }
     requires { ⌜ Small d (2 ^ w) g ⌝ }
     requires { ⌜ k < 36 ⌝ }
-    ensures { λ r. ⌜ r ≡ byteAt w d (window d g) k ⌝ }
+    ensures { λ r. ⌜ r ≡ getD (pack high-first 36 (bitsOfMatrix w (window d g))) k 0 ⌝ }
 {
     if w == 8 {
         return cell_at(g, d, k);
@@ -249,7 +250,7 @@ fn bytes_of(w: usize, g: [[u8; 8]; 8], d: usize) -> [u8; 36]
     requires { ⌜ (w ≡ 4) ⊎ (w ≡ 8) ⌝ }
     requires { ⌜ (0 < d) × (d ≤ 8) ⌝ }
     requires { ⌜ Small d (2 ^ w) g ⌝ }
-    ensures { λ r. ⌜ r ≡ tab 36 (byteAt w d (window d g)) ⌝ }
+    ensures { λ r. ⌜ r ≡ pack high-first 36 (bitsOfMatrix w (window d g)) ⌝ }
 {
     let mut out = [0u8; 36];
     let mut k = 0;
