@@ -1,7 +1,7 @@
 -- The five variants of SPONGENT (Table 9): what the code and the laws ask of their numbers, computed.
 -- Assumes nothing.
-use mathlib.Core.Path.{_≡_, refl}
-use Prim.Native.Nat.{ℕ, _%_, _≤_, _<_}
+use mathlib.Core.Path.{_≡_}
+use Prim.Native.Nat.{_%_, _≤_, _<_}
 use native.Mathlib.Omega.{arith}
 use Rattle.standard.specs.Spongent.{SpongentParameters}
 use Rattle.standard.specs.Variants.{spongent88, spongent136, spongent176, spongent240, spongent272}
