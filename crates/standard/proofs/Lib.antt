@@ -14,5 +14,6 @@ pub mod SpongentLaws
 pub mod SpongentVariants
 pub mod OneBlock
 pub mod Padding
+pub mod Streaming
 pub mod Variants
 pub mod KnownValues
