@@ -3,3 +3,4 @@ pub mod Front
 pub mod LayoutLaws
 pub mod CellLaws
 pub mod MatrixImage
+pub mod SqueezeLaws
