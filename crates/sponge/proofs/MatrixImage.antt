@@ -60,7 +60,7 @@ pack-at (suc n) bs (suc k) h =
     pack-at n (drop 8 bs) k (le-of-suc-le-suc h)
     ∙ ap (λ (l : List Bool). valueOf high-first (filled 8 l)) (drop-drop (k * 8) 8 bs ∙ ap (λ (m : ℕ). drop m bs) e)
 
-filled-take : (w : ℕ) (bs : List Bool) → w ≤ length bs → filled w bs ≡ take w bs
+pub filled-take : (w : ℕ) (bs : List Bool) → w ≤ length bs → filled w bs ≡ take w bs
 unfolding filled
 filled-take zero bs h = refl
 filled-take (suc w) [] h = absurd (not-suc-le-zero h)

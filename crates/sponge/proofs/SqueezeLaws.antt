@@ -9,10 +9,11 @@ use native.Mathlib.Omega.{arith}
 use lib.ListN.{length, take, drop, length-append, length-drop}
 use lib.Seq.{length-take-le, take-add, take-take, take-append-le}
 use Rattle.standard.specs.Bits.{Order, high-first, bitsOf, valueOf, bitsIn, pack, unpack, bytesFor, reordered}
-use Rattle.standard.proofs.BitLaws.{length-bitsIn, length-pack, unpack-pack, bitsOf-valueOf, valueOf-lt, bitsIn-take, take-pack}
+use Rattle.standard.proofs.BitLaws.{length-bitsIn, length-pack, unpack-pack, bitsOf-valueOf, valueOf-lt, bitsIn-take, bitsIn-pack, take-pack, pack-bitsIn, pack-bytes}
 use Rattle.standard.proofs.Reordered.{reordered-same}
 use Rattle.sponge.specs.Cells.{cellIn}
 use Rattle.sponge.proofs.LayoutLaws.{packed-bits}
+use Rattle.sponge.proofs.MatrixImage.{filled-take}
 
 -- bits read back from the bytes that hold them
 pub held-again : (n m : ℕ) (r : List ℕ) (Z : List Bool) → r ≡ pack high-first n Z → length Z ≡ m → m ≤ n * 8 → unpack high-first m r ≡ Z
@@ -20,9 +21,6 @@ held-again n m r Z e l h =
     ap₂ (unpack high-first) (sym l) e ∙ unpack-pack high-first n Z (omega arith)
 
 module _ (s : List ℕ) (size : length s ≡ 36) (i : ℕ) (h : i < 64) where
-  bits : List Bool
-  bits = bitsIn high-first s
-
   four : length (take 4 (drop (i * 4) (bitsIn high-first s))) ≡ 4
   four = length-take-le 4 (drop (i * 4) (bitsIn high-first s)) (omega (arith, length-drop (i * 4) (bitsIn high-first s), length-bitsIn high-first s))
 
@@ -47,6 +45,18 @@ module _ (s : List ℕ) (size : length s ≡ 36) (i : ℕ) (h : i < 64) where
           ∙ sym (take-add (4 * i) 4 (bitsIn high-first s))
           ∙ ap (λ (k : ℕ). take k (bitsIn high-first s)) e)
 
+-- packed bytes depend on the bits that they have room for alone
+packed-front : (o : Order) (k m : ℕ) (S : List Bool) → k * 8 ≤ m → m ≤ length S → pack o k (take m S) ≡ pack o k S
+packed-front o k m S hk hm =
+    again (take m S)
+    ∙ ap (pack o k) (bitsIn-pack o k (take m S) ∙ filled-take (k * 8) (take m S) (omega (arith, length-take-le m S hm)) ∙ take-take (k * 8) m S hk
+      ∙ sym (bitsIn-pack o k S ∙ filled-take (k * 8) S (omega arith)))
+    ∙ sym (again S)
+  where
+    again : (X : List Bool) → pack o k X ≡ pack o k (bitsIn o (pack o k X))
+    again X =
+        sym (ap (λ (n : ℕ). pack o n (bitsIn o (pack o k X))) (sym (length-pack o k X)) ∙ pack-bitsIn o (pack o k X) (pack-bytes o k X))
+
 -- the first m bits of a state, as they are given out, are the first m bits of the bytes that hold it
 pub output-bits : (o : Order) (t m : ℕ) (S : List Bool) → length S ≡ t → t ≤ 288 → m ≤ t → (high-first ≡ o) ⊎ (m % 8 ≡ 0)
     → reordered o high-first (take m S) ≡ take m (bitsIn high-first (pack o 36 S))
@@ -69,4 +79,4 @@ output-bits o t m S lS ht hm w =
     w
   where
     front : (k : ℕ) → m ≡ 8 * k → pack o k (take m S) ≡ take k (pack o 36 S)
-    front k e = ?
+    front k e = packed-front o k m S (omega arith) (omega arith) ∙ sym (take-pack o k 36 S (omega arith))

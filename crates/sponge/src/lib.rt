@@ -11,6 +11,7 @@ ghost use Rattle.standard.specs.Variants.{variant, known};
 ghost use Rattle.sponge.specs.Refusals.{number, entry};
 ghost use Rattle.sponge.specs.Layout.{stateBytes, blockBytes, blockIn, clear};
 ghost use mathlib.Core.Logic.{_⊎_};
+ghost use Rattle.photon.specs.Parameters.{photonOf};
 ghost use Rattle.sponge.specs.Cells.{cellIn, nth};
 ghost use Rattle.standard.specs.Grid.{window, Small};
 ghost use Rattle.standard.specs.Photon.{matrixOf, bitsOfMatrix};
@@ -291,4 +292,86 @@ fn with_front(out: [u8; 32], p: usize, s: [u8; 36], q: usize) -> [u8; 32]
         i += 1;
     }
     r
+}
+
+const CELL_BITS: [usize; 5] = [4, 4, 4, 4, 8];
+
+// The bits of a cell of PHOTON.
+fn cell_bits(v: usize) -> usize
+    requires { ⌜ (1 ≤ v) × (v ≤ 5) ⌝ }
+    ensures { λ r. ⌜ r ≡ photonOf v .s ⌝ }
+{
+    CELL_BITS[v - 1]
+}
+
+// PHOTON on the bytes that hold a state: as a matrix, permuted, and back.
+fn photon_permuted(v: usize, s: [u8; 36], back: bool) -> [u8; 36]
+    requires { ⌜ (1 ≤ v) × (v ≤ 5) ⌝ }
+    ensures { λ r. ⌜ r ≡ stateBytes (variant v) (permutation (variant v) (direction back) (stateIn (variant v) s)) ⌝ }
+{
+    let d = photon::size_of(v);
+    let w = cell_bits(v);
+    let g = grid_of(w, s, d);
+    let h = photon::permuted(v, g, back);
+    bytes_of(w, h, d)
+}
+
+// The permutation of a variant, or its inverse, on the bytes that hold a state.
+pub fn permuted(v: u8, s: [u8; 36], back: bool) -> [u8; 36]
+    requires { ⌜ (1 ≤ v) × (v ≤ 10) ⌝ }
+    requires { ⌜ s ≡ stateBytes (variant v) (stateIn (variant v) s) ⌝ }
+    ensures { λ r. ⌜ r ≡ stateBytes (variant v) (permutation (variant v) (direction back) (stateIn (variant v) s)) ⌝ }
+{
+    if v <= 5 {
+        return photon_permuted(v as usize, s, back);
+    }
+    spongent::permuted(v as usize, s, back)
+}
+
+// The block step on the bytes that hold a state and a block.
+pub fn stepped(v: u8, s: [u8; 36], b: [u8; 5]) -> [u8; 36]
+    requires { ⌜ (1 ≤ v) × (v ≤ 10) ⌝ }
+    requires { ⌜ s ≡ stateBytes (variant v) (stateIn (variant v) s) ⌝ }
+    requires { ⌜ b ≡ blockBytes (blockIn (variant v) b) ⌝ }
+    ensures { λ r. ⌜ r ≡ stateBytes (variant v) (step (variant v) (stateIn (variant v) s) (blockIn (variant v) b)) ⌝ }
+{
+    let taken = with_block(s, b);
+    permuted(v, taken, false)
+}
+
+// Both directions of the public operation: the checks in order, then the bytes through the permutation.
+fn permute_image(variant: u8, image: &mut [u8], back: bool) -> Status
+    ensures { λ r. ⌜ (r ≡ imageStatus variant (now (image .entry)))
+        × (now (image .exit) ≡ permutedImage variant (direction back) (now (image .entry))) ⌝ }
+{
+    if !is_known(variant) {
+        return Status::UnknownVariant;
+    }
+    let n = image_bytes(variant);
+    if image.len() != n {
+        return Status::BadImage;
+    }
+    if !clear_from(image, state_bits(variant)) {
+        return Status::BadImage;
+    }
+    let s = at_front(image);
+    let r = permuted(variant, s, back);
+    copy_front(&r, n, image);
+    Status::Done
+}
+
+// The permutation on an image: refusal 1, then 6. A refusal leaves every byte.
+pub fn permute(variant: u8, image: &mut [u8]) -> Status
+    ensures { λ r. ⌜ (r ≡ imageStatus variant (now (image .entry)))
+        × (now (image .exit) ≡ permutedImage variant forward (now (image .entry))) ⌝ }
+{
+    permute_image(variant, image, false)
+}
+
+// Its inverse: the rounds taken back.
+pub fn unpermute(variant: u8, image: &mut [u8]) -> Status
+    ensures { λ r. ⌜ (r ≡ imageStatus variant (now (image .entry)))
+        × (now (image .exit) ≡ permutedImage variant backward (now (image .entry))) ⌝ }
+{
+    permute_image(variant, image, true)
 }

@@ -1,0 +1,4 @@
+pub mod ParametersOf
+pub mod MixLoops
+pub mod StepsOf
+pub mod RoundsOf

@@ -1,0 +1,69 @@
+-- The steps of a variant as the code makes them, with its size, tables and coefficients looked up; and what each asks of the state.
+-- Assumes nothing.
+use mathlib.Core.Path.{_≡_, sym, ap, ap₂, _∙_, subst}
+use mathlib.Core.Bool.{Bool, true, false, cond}
+use mathlib.Core.List.{List, [], reverse}
+use Prim.Native.Nat.{ℕ, _-_, _^_, _≤_, _<_}
+use native.Mathlib.Omega.{arith}
+use Rattle.standard.specs.Grid.{Grid, cells, window, Square, Small}
+use Rattle.standard.specs.Field.{Modulus}
+use Rattle.standard.specs.Photon.{PhotonParameters, addConstants, subCells, shiftRows, mixColumns}
+use Rattle.standard.proofs.Tab.{getD-reverse, window-square, window-small, small-window}
+use Rattle.standard.proofs.PhotonLaws.{Sound, modulus}
+use Rattle.photon.specs.Parameters.{boxOf, boundOf, BoxNumber}
+use lib.ListN.{getD, length}
+
+module _ (p : PhotonParameters) (n : ℕ) (e : n ≡ p .d) (g r : Grid) where
+  pub add-at : (rc : ℕ) (ic : List ℕ) → cells (p .d) ic ≡ p .ic
+      → window n r ≡ addConstants n rc (cells n ic) (window n g) → window (p .d) r ≡ addConstants (p .d) rc (p .ic) (window (p .d) g)
+  add-at rc ic ei f =
+      subst (λ (i : ℕ). window i r ≡ addConstants i rc (cells i ic) (window i g)) e f
+      ∙ ap (λ (y : List ℕ). addConstants (p .d) rc y (window (p .d) g)) ei
+
+  pub sub-at : (back : Bool) (k : ℕ) → BoxNumber p back k
+      → window n r ≡ subCells n (boxOf k) (window n g) → window (p .d) r ≡ subCells (p .d) (cond back (p .unbox) (p .box)) (window (p .d) g)
+  sub-at back k b f =
+      subst (λ (i : ℕ). window i r ≡ subCells i (boxOf k) (window i g)) e f ∙ ap (λ (y : List ℕ). subCells (p .d) y (window (p .d) g)) (b .table)
+
+  pub shift-at : (m m′ : ℕ) → m ≡ m′ → window n r ≡ shiftRows n m (window n g) → window (p .d) r ≡ shiftRows (p .d) m′ (window (p .d) g)
+  shift-at m m′ em f =
+      subst (λ (i : ℕ). window i r ≡ shiftRows i m (window i g)) e f ∙ ap (λ (k : ℕ). shiftRows (p .d) k (window (p .d) g)) em
+
+  pub mix-at : (top poly : ℕ) (z z′ : List ℕ) → top ≡ 2 ^ p .s → poly ≡ p .poly → cells (p .d) z ≡ z′
+      → window n r ≡ mixColumns top poly n (cells n z) (window n g) → window (p .d) r ≡ mixColumns (2 ^ p .s) (p .poly) (p .d) z′ (window (p .d) g)
+  mix-at top poly z z′ et ep ez f =
+      subst (λ (i : ℕ). window i r ≡ mixColumns top poly i (cells i z) (window i g)) e f
+      ∙ ap₂ (λ (t u : ℕ). mixColumns t u (p .d) (cells (p .d) z) (window (p .d) g)) et ep
+      ∙ ap (λ (y : List ℕ). mixColumns (2 ^ p .s) (p .poly) (p .d) y (window (p .d) g)) ez
+
+  pub flip-at : window n r ≡ reverse (window n g) → window (p .d) r ≡ reverse (window (p .d) g)
+  flip-at f = subst (λ (i : ℕ). window i r ≡ reverse (window i g)) e f
+
+module _ (p : PhotonParameters) (h : Sound p) (n : ℕ) (e : n ≡ p .d) where
+  pub size-fits : n ≤ 8
+  size-fits = omega (arith, h .most)
+
+  pub sub-ready : (back : Bool) (k : ℕ) (g : Grid) → BoxNumber p back k → Small (p .d) (2 ^ p .s) g → ((n ≤ 8) × (k < 4)) × Small n (boundOf k) g
+  sub-ready back k g b m = ((size-fits, b .below), rw (e, b .bound) m)
+
+  pub mix-ready : (top poly : ℕ) (g : Grid) → top ≡ 2 ^ p .s → poly ≡ p .poly → Small (p .d) (2 ^ p .s) g
+      → Modulus top poly × (((0 < n) × (n ≤ 8)) × Small n top g)
+  mix-ready top poly g et ep m = (rw (et, ep) (modulus p h), ((omega (arith, h .pos), size-fits), rw (e, et) m))
+
+-- the rows in reverse are as small
+pub flip-small : (d top : ℕ) (g f : Grid) → window d f ≡ reverse (window d g) → Small d top g → Small d top f
+flip-small d top g f e m =
+    small-window d top f
+    (record {
+      cell = λ i j hi hj.
+          let q : Square d (window d g) = window-square d g in
+          subst (λ (x : ℕ). x < top)
+          (sym
+          (ap (λ (w : Grid). getD (getD w i []) j 0) e
+          ∙ ap (λ (row : List ℕ). getD row j 0) (getD-reverse (window d g) i [] (omega (arith, q .rows)))))
+          (window-small d top g m .cell (length (window d g) - 1 - i) j (omega (arith, q .rows)) hj);
+    })
+
+pub turn-fits : (back : Bool) (n : ℕ) → n ≤ 8 → cond back (n - 1) 1 ≤ 8
+turn-fits true n h = omega arith
+turn-fits false n h = omega arith

@@ -1,0 +1,987 @@
+// The PHOTON permutation and its inverse (5.2.4) on a square of at most eight rows and columns, held in eight rows of eight cells.
+// Each step serves both directions: `back` asks for the inverse.
+ghost use mathlib.Core.Path.{_≡_};
+ghost use mathlib.Core.Bool.{cond};
+ghost use mathlib.Core.List.{map, reverse};
+ghost use Prim.Native.Nat.{ℕ, _+_, _-_, _*_, _%_, _^_, _≤_, _<_};
+ghost use lib.ListN.{getD};
+ghost use lib.Dec.{eqb};
+ghost use Rattle.standard.specs.Rounds.{direction, inTurn, iterate};
+ghost use Rattle.standard.specs.Grid.{at, cells, window, transpose, Small};
+ghost use Rattle.standard.specs.Field.{double, mul, dot, Modulus};
+ghost use Rattle.standard.specs.Photon.{addConstants, subCells, shiftRows, serial, mixColumns, unmixColumns, roundConstants, photonRound, photonRounds};
+ghost use Rattle.photon.specs.Parameters.{photonOf, boxOf, boundOf, BoxNumber};
+
+const PRESENT: [u8; 16] = [12, 5, 6, 11, 9, 0, 10, 13, 3, 14, 15, 8, 4, 7, 1, 2];
+
+const UNPRESENT: [u8; 16] = [5, 14, 15, 8, 12, 1, 2, 13, 11, 4, 6, 3, 0, 7, 9, 10];
+
+const AES: [u8; 256] = [
+    99,
+    124,
+    119,
+    123,
+    242,
+    107,
+    111,
+    197,
+    48,
+    1,
+    103,
+    43,
+    254,
+    215,
+    171,
+    118,
+    202,
+    130,
+    201,
+    125,
+    250,
+    89,
+    71,
+    240,
+    173,
+    212,
+    162,
+    175,
+    156,
+    164,
+    114,
+    192,
+    183,
+    253,
+    147,
+    38,
+    54,
+    63,
+    247,
+    204,
+    52,
+    165,
+    229,
+    241,
+    113,
+    216,
+    49,
+    21,
+    4,
+    199,
+    35,
+    195,
+    24,
+    150,
+    5,
+    154,
+    7,
+    18,
+    128,
+    226,
+    235,
+    39,
+    178,
+    117,
+    9,
+    131,
+    44,
+    26,
+    27,
+    110,
+    90,
+    160,
+    82,
+    59,
+    214,
+    179,
+    41,
+    227,
+    47,
+    132,
+    83,
+    209,
+    0,
+    237,
+    32,
+    252,
+    177,
+    91,
+    106,
+    203,
+    190,
+    57,
+    74,
+    76,
+    88,
+    207,
+    208,
+    239,
+    170,
+    251,
+    67,
+    77,
+    51,
+    133,
+    69,
+    249,
+    2,
+    127,
+    80,
+    60,
+    159,
+    168,
+    81,
+    163,
+    64,
+    143,
+    146,
+    157,
+    56,
+    245,
+    188,
+    182,
+    218,
+    33,
+    16,
+    255,
+    243,
+    210,
+    205,
+    12,
+    19,
+    236,
+    95,
+    151,
+    68,
+    23,
+    196,
+    167,
+    126,
+    61,
+    100,
+    93,
+    25,
+    115,
+    96,
+    129,
+    79,
+    220,
+    34,
+    42,
+    144,
+    136,
+    70,
+    238,
+    184,
+    20,
+    222,
+    94,
+    11,
+    219,
+    224,
+    50,
+    58,
+    10,
+    73,
+    6,
+    36,
+    92,
+    194,
+    211,
+    172,
+    98,
+    145,
+    149,
+    228,
+    121,
+    231,
+    200,
+    55,
+    109,
+    141,
+    213,
+    78,
+    169,
+    108,
+    86,
+    244,
+    234,
+    101,
+    122,
+    174,
+    8,
+    186,
+    120,
+    37,
+    46,
+    28,
+    166,
+    180,
+    198,
+    232,
+    221,
+    116,
+    31,
+    75,
+    189,
+    139,
+    138,
+    112,
+    62,
+    181,
+    102,
+    72,
+    3,
+    246,
+    14,
+    97,
+    53,
+    87,
+    185,
+    134,
+    193,
+    29,
+    158,
+    225,
+    248,
+    152,
+    17,
+    105,
+    217,
+    142,
+    148,
+    155,
+    30,
+    135,
+    233,
+    206,
+    85,
+    40,
+    223,
+    140,
+    161,
+    137,
+    13,
+    191,
+    230,
+    66,
+    104,
+    65,
+    153,
+    45,
+    15,
+    176,
+    84,
+    187,
+    22,
+];
+
+const UNAES: [u8; 256] = [
+    82,
+    9,
+    106,
+    213,
+    48,
+    54,
+    165,
+    56,
+    191,
+    64,
+    163,
+    158,
+    129,
+    243,
+    215,
+    251,
+    124,
+    227,
+    57,
+    130,
+    155,
+    47,
+    255,
+    135,
+    52,
+    142,
+    67,
+    68,
+    196,
+    222,
+    233,
+    203,
+    84,
+    123,
+    148,
+    50,
+    166,
+    194,
+    35,
+    61,
+    238,
+    76,
+    149,
+    11,
+    66,
+    250,
+    195,
+    78,
+    8,
+    46,
+    161,
+    102,
+    40,
+    217,
+    36,
+    178,
+    118,
+    91,
+    162,
+    73,
+    109,
+    139,
+    209,
+    37,
+    114,
+    248,
+    246,
+    100,
+    134,
+    104,
+    152,
+    22,
+    212,
+    164,
+    92,
+    204,
+    93,
+    101,
+    182,
+    146,
+    108,
+    112,
+    72,
+    80,
+    253,
+    237,
+    185,
+    218,
+    94,
+    21,
+    70,
+    87,
+    167,
+    141,
+    157,
+    132,
+    144,
+    216,
+    171,
+    0,
+    140,
+    188,
+    211,
+    10,
+    247,
+    228,
+    88,
+    5,
+    184,
+    179,
+    69,
+    6,
+    208,
+    44,
+    30,
+    143,
+    202,
+    63,
+    15,
+    2,
+    193,
+    175,
+    189,
+    3,
+    1,
+    19,
+    138,
+    107,
+    58,
+    145,
+    17,
+    65,
+    79,
+    103,
+    220,
+    234,
+    151,
+    242,
+    207,
+    206,
+    240,
+    180,
+    230,
+    115,
+    150,
+    172,
+    116,
+    34,
+    231,
+    173,
+    53,
+    133,
+    226,
+    249,
+    55,
+    232,
+    28,
+    117,
+    223,
+    110,
+    71,
+    241,
+    26,
+    113,
+    29,
+    41,
+    197,
+    137,
+    111,
+    183,
+    98,
+    14,
+    170,
+    24,
+    190,
+    27,
+    252,
+    86,
+    62,
+    75,
+    198,
+    210,
+    121,
+    32,
+    154,
+    219,
+    192,
+    254,
+    120,
+    205,
+    90,
+    244,
+    31,
+    221,
+    168,
+    51,
+    136,
+    7,
+    199,
+    49,
+    177,
+    18,
+    16,
+    89,
+    39,
+    128,
+    236,
+    95,
+    96,
+    81,
+    127,
+    169,
+    25,
+    181,
+    74,
+    13,
+    45,
+    229,
+    122,
+    159,
+    147,
+    201,
+    156,
+    239,
+    160,
+    224,
+    59,
+    77,
+    174,
+    42,
+    245,
+    176,
+    200,
+    235,
+    187,
+    60,
+    131,
+    83,
+    153,
+    97,
+    23,
+    43,
+    4,
+    126,
+    186,
+    119,
+    214,
+    38,
+    225,
+    105,
+    20,
+    99,
+    85,
+    33,
+    12,
+    125,
+];
+
+// The tables below have an entry for each variant, 1 to 5. A row of fewer than eight cells is filled with zeros.
+const SIZE: [usize; 5] = [5, 6, 7, 8, 6];
+
+const TOP: [u16; 5] = [16, 16, 16, 16, 256];
+
+const POLY: [u16; 5] = [0x13, 0x13, 0x13, 0x13, 0x11b];
+
+const BOX: [u8; 5] = [0, 0, 0, 0, 2];
+
+const UNBOX: [u8; 5] = [1, 1, 1, 1, 3];
+
+const ROW: [[u8; 8]; 5] = [
+    [0, 1, 3, 6, 4, 0, 0, 0],
+    [0, 1, 3, 7, 6, 4, 0, 0],
+    [0, 1, 2, 5, 3, 6, 4, 0],
+    [0, 1, 3, 7, 15, 14, 12, 8],
+    [0, 1, 3, 7, 6, 4, 0, 0],
+];
+
+const Z: [[u8; 8]; 5] = [
+    [1, 2, 9, 9, 2, 0, 0, 0],
+    [1, 2, 8, 5, 8, 2, 0, 0],
+    [1, 4, 6, 1, 1, 6, 4, 0],
+    [2, 4, 2, 11, 2, 8, 5, 6],
+    [2, 3, 1, 2, 1, 4, 0, 0],
+];
+
+const UNZ: [[u8; 8]; 5] = [
+    [1, 2, 9, 9, 2, 0, 0, 0],
+    [1, 2, 8, 5, 8, 2, 0, 0],
+    [1, 4, 6, 1, 1, 6, 4, 0],
+    [9, 3, 11, 4, 1, 12, 1, 2],
+    [141, 2, 141, 1, 141, 140, 0, 0],
+];
+
+const CONSTANTS: [u8; 12] = [1, 3, 7, 14, 13, 11, 6, 12, 9, 2, 5, 10];
+
+// The number of rows and of columns.
+pub fn size_of(v: usize) -> usize
+    requires { ⌜ (1 ≤ v) × (v ≤ 5) ⌝ }
+    ensures { λ r. ⌜ r ≡ photonOf v .d ⌝ }
+{
+    SIZE[v - 1]
+}
+
+// The bound of a cell: 2 to the number of its bits.
+pub fn top_of(v: usize) -> u16
+    requires { ⌜ (1 ≤ v) × (v ≤ 5) ⌝ }
+    ensures { λ r. ⌜ r ≡ 2 ^ photonOf v .s ⌝ }
+{
+    TOP[v - 1]
+}
+
+fn poly_of(v: usize) -> u16
+    requires { ⌜ (1 ≤ v) × (v ≤ 5) ⌝ }
+    ensures { λ r. ⌜ r ≡ photonOf v .poly ⌝ }
+{
+    POLY[v - 1]
+}
+
+fn box_of(v: usize, back: bool) -> u8
+    requires { ⌜ (1 ≤ v) × (v ≤ 5) ⌝ }
+    ensures { λ r. ⌜ BoxNumber (photonOf v) back r ⌝ }
+{
+    if back { UNBOX[v - 1] } else { BOX[v - 1] }
+}
+
+fn row_constants(v: usize) -> [u8; 8]
+    requires { ⌜ (1 ≤ v) × (v ≤ 5) ⌝ }
+    ensures { λ r. ⌜ cells (photonOf v .d) r ≡ photonOf v .ic ⌝ }
+{
+    ROW[v - 1]
+}
+
+fn coefficients(v: usize, back: bool) -> [u8; 8]
+    requires { ⌜ (1 ≤ v) × (v ≤ 5) ⌝ }
+    ensures { λ r. ⌜ cells (photonOf v .d) r ≡ cond back (photonOf v .unz) (photonOf v .z) ⌝ }
+{
+    if back { UNZ[v - 1] } else { Z[v - 1] }
+}
+
+// The constant of round n: the inverse begins with the last.
+fn round_constant(n: usize, back: bool) -> u8
+    requires { ⌜ n < 12 ⌝ }
+    ensures { λ r. ⌜ r ≡ getD (inTurn (direction back) roundConstants) n 0 ⌝ }
+{
+    if back {
+        CONSTANTS[11 - n]
+    } else {
+        CONSTANTS[n]
+    }
+}
+
+fn wide(x: u8) -> usize
+    ensures { λ r. ⌜ r ≡ x ⌝ }
+{
+    x as usize
+}
+
+// An entry of an S-box: 0 and 1 are the 4-bit box and its inverse, 2 and 3 the 8-bit box and its inverse.
+fn lookup(kind: u8, x: u8) -> u8
+    requires { ⌜ (kind < 4) × (x < boundOf kind) ⌝ }
+    ensures { λ r. ⌜ r ≡ getD (boxOf kind) x 0 ⌝ }
+{
+    let i = wide(x);
+    if kind == 0 {
+        return PRESENT[i];
+    }
+    if kind == 1 {
+        return UNPRESENT[i];
+    }
+    if kind == 2 {
+        return AES[i];
+    }
+    UNAES[i]
+}
+
+fn sub_row(kind: u8, row: [u8; 8], d: usize) -> [u8; 8]
+    requires { ⌜ (d ≤ 8) × (kind < 4) ⌝ }
+    requires { ⌜ ((j : ℕ) → j < d → getD row j 0 < boundOf kind) ⌝ }
+    ensures { λ r. ⌜ ((j : ℕ) → j < d → getD r j 0 ≡ getD (boxOf kind) (getD row j 0) 0) ⌝ }
+{
+    let mut out = row;
+    let mut j = 0;
+    while j < d {
+        out[j] = lookup(kind, out[j]);
+        j += 1;
+    }
+    out
+}
+
+fn sub_cells(kind: u8, g: [[u8; 8]; 8], d: usize) -> [[u8; 8]; 8]
+    requires { ⌜ (d ≤ 8) × (kind < 4) ⌝ }
+    requires { ⌜ Small d (boundOf kind) g ⌝ }
+    ensures { λ r. ⌜ window d r ≡ subCells d (boxOf kind) (window d g) ⌝ }
+{
+    let mut out = g;
+    let mut i = 0;
+    while i < d {
+        out[i] = sub_row(kind, out[i], d);
+        i += 1;
+    }
+    out
+}
+
+fn add_constants(g: [[u8; 8]; 8], d: usize, rc: u8, ic: [u8; 8]) -> [[u8; 8]; 8]
+    requires { ⌜ d ≤ 8 ⌝ }
+    ensures { λ r. ⌜ window d r ≡ addConstants d rc (cells d ic) (window d g) ⌝ }
+{
+    let mut out = g;
+    let mut i = 0;
+    while i < d {
+        out[i][0] = out[i][0] ^ (rc ^ ic[i]);
+        i += 1;
+    }
+    out
+}
+
+// The row turned left by `by` places.
+fn turn_row(row: [u8; 8], d: usize, by: usize) -> [u8; 8]
+    requires { ⌜ (d ≤ 8) × (by ≤ 64) ⌝ }
+    ensures { λ r. ⌜ ((j : ℕ) → j < d → getD r j 0 ≡ getD row ((j + by) % d) 0) ⌝ }
+{
+    let mut out = row;
+    let mut j = 0;
+    while j < d {
+        let k = (j + by) % d;
+        out[j] = row[k];
+        j += 1;
+    }
+    out
+}
+
+fn shift_rows(g: [[u8; 8]; 8], d: usize, m: usize) -> [[u8; 8]; 8]
+    requires { ⌜ (d ≤ 8) × (m ≤ 8) ⌝ }
+    ensures { λ r. ⌜ window d r ≡ shiftRows d m (window d g) ⌝ }
+{
+    let mut out = g;
+    let mut i = 0;
+    while i < d {
+        out[i] = turn_row(out[i], d, m * i);
+        i += 1;
+    }
+    out
+}
+
+fn wide16(x: u8) -> u16
+    ensures { λ r. ⌜ r ≡ x ⌝ }
+{
+    x as u16
+}
+
+fn twice(top: u16, poly: u16, x: u16) -> u16
+    requires { ⌜ (x < top) × (top ≤ 256) ⌝ }
+    ensures { λ r. ⌜ r ≡ double top poly x ⌝ }
+{
+    let y = x * 2;
+    if y < top { y } else { y ^ poly }
+}
+
+// x where the lowest bit of a is set, and else 0.
+fn low_bit(a: u16, x: u16) -> u16
+    ensures { λ r. ⌜ r ≡ cond (eqb (a % 2) 1) x 0 ⌝ }
+{
+    if a % 2 == 1 { x } else { 0 }
+}
+
+// The product in the field. It ends at the highest bit of a, so that a small coefficient is cheap.
+fn product(top: u16, poly: u16, a: u8, x: u8) -> u8
+    requires { ⌜ Modulus top poly ⌝ }
+    requires { ⌜ x < top ⌝ }
+    ensures { λ r. ⌜ r ≡ mul top poly a x ⌝ }
+{
+    let mut sum: u16 = 0;
+    let mut rest = wide16(a);
+    let mut term = wide16(x);
+    while 0 < rest {
+        sum = sum ^ low_bit(rest, term);
+        term = twice(top, poly, term);
+        rest = rest / 2;
+    }
+    sum as u8
+}
+
+fn dot_product(top: u16, poly: u16, d: usize, z: [u8; 8], c: [u8; 8]) -> u8
+    requires { ⌜ Modulus top poly ⌝ }
+    requires { ⌜ d ≤ 8 ⌝ }
+    requires { ⌜ ((j : ℕ) → j < d → getD c j 0 < top) ⌝ }
+    ensures { λ r. ⌜ r ≡ dot top poly (cells d z) (cells d c) ⌝ }
+{
+    let mut sum: u8 = 0;
+    let mut j = 0;
+    while j < d {
+        sum = sum ^ product(top, poly, z[j], c[j]);
+        j += 1;
+    }
+    sum
+}
+
+// Every cell of the first d moves up one; the last stays.
+fn tail_row(c: [u8; 8], d: usize) -> [u8; 8]
+    requires { ⌜ (0 < d) × (d ≤ 8) ⌝ }
+    ensures { λ r. ⌜ ((j : ℕ) → j < d - 1 → getD r j 0 ≡ getD c (j + 1) 0) ⌝ }
+{
+    let mut out = c;
+    let end = d - 1;
+    let mut j = 0;
+    while j < end {
+        out[j] = c[j + 1];
+        j += 1;
+    }
+    out
+}
+
+fn serial_step(top: u16, poly: u16, d: usize, z: [u8; 8], c: [u8; 8]) -> [u8; 8]
+    requires { ⌜ Modulus top poly ⌝ }
+    requires { ⌜ (0 < d) × (d ≤ 8) ⌝ }
+    requires { ⌜ ((j : ℕ) → j < d → getD c j 0 < top) ⌝ }
+    ensures { λ r. ⌜ cells d r ≡ serial top poly (cells d z) (cells d c) ⌝ }
+{
+    let last = dot_product(top, poly, d, z, c);
+    let mut out = tail_row(c, d);
+    let end = d - 1;
+    out[end] = last;
+    out
+}
+
+fn mix_column(top: u16, poly: u16, d: usize, z: [u8; 8], c: [u8; 8]) -> [u8; 8]
+    requires { ⌜ Modulus top poly ⌝ }
+    requires { ⌜ (0 < d) × (d ≤ 8) ⌝ }
+    requires { ⌜ ((j : ℕ) → j < d → getD c j 0 < top) ⌝ }
+    ensures { λ r. ⌜ cells d r ≡ iterate d (serial top poly (cells d z)) (cells d c) ⌝ }
+{
+    let mut out = c;
+    let mut n = 0;
+    while n < d {
+        let next = serial_step(top, poly, d, z, out);
+        out = next;
+        n += 1;
+    }
+    out
+}
+
+// Column j as a row.
+fn column(g: [[u8; 8]; 8], d: usize, j: usize) -> [u8; 8]
+    requires { ⌜ (d ≤ 8) × (j < 8) ⌝ }
+    ensures { λ r. ⌜ ((i : ℕ) → i < d → getD r i 0 ≡ at g i j) ⌝ }
+{
+    let mut out = [0u8; 8];
+    let mut i = 0;
+    while i < d {
+        out[i] = g[i][j];
+        i += 1;
+    }
+    out
+}
+
+// Rows become columns.
+fn turned(g: [[u8; 8]; 8], d: usize) -> [[u8; 8]; 8]
+    requires { ⌜ d ≤ 8 ⌝ }
+    ensures { λ r. ⌜ window d r ≡ transpose d (window d g) ⌝ }
+{
+    let mut out = g;
+    let mut i = 0;
+    while i < d {
+        out[i] = column(g, d, i);
+        i += 1;
+    }
+    out
+}
+
+// The first d rows from the bottom up.
+fn flipped(g: [[u8; 8]; 8], d: usize) -> [[u8; 8]; 8]
+    requires { ⌜ d ≤ 8 ⌝ }
+    ensures { λ r. ⌜ window d r ≡ reverse (window d g) ⌝ }
+{
+    let mut out = g;
+    let mut i = 0;
+    while i < d {
+        let k = d - 1 - i;
+        out[i] = g[k];
+        i += 1;
+    }
+    out
+}
+
+fn mix_rows(g: [[u8; 8]; 8], top: u16, poly: u16, d: usize, z: [u8; 8]) -> [[u8; 8]; 8]
+    requires { ⌜ Modulus top poly ⌝ }
+    requires { ⌜ (0 < d) × (d ≤ 8) ⌝ }
+    requires { ⌜ Small d top g ⌝ }
+    ensures { λ r. ⌜ window d r ≡ map (iterate d (serial top poly (cells d z))) (window d g) ⌝ }
+{
+    let mut out = g;
+    let mut i = 0;
+    while i < d {
+        out[i] = mix_column(top, poly, d, z, out[i]);
+        i += 1;
+    }
+    out
+}
+
+fn mix_columns(g: [[u8; 8]; 8], top: u16, poly: u16, d: usize, z: [u8; 8]) -> [[u8; 8]; 8]
+    requires { ⌜ Modulus top poly ⌝ }
+    requires { ⌜ (0 < d) × (d ≤ 8) ⌝ }
+    requires { ⌜ Small d top g ⌝ }
+    ensures { λ r. ⌜ window d r ≡ mixColumns top poly d (cells d z) (window d g) ⌝ }
+{
+    let t = turned(g, d);
+    let m = mix_rows(t, top, poly, d, z);
+    turned(m, d)
+}
+
+// AddConstants of a variant.
+pub fn constants_added(v: usize, g: [[u8; 8]; 8], rc: u8) -> [[u8; 8]; 8]
+    requires { ⌜ (1 ≤ v) × (v ≤ 5) ⌝ }
+    ensures { λ r. ⌜ window (photonOf v .d) r ≡ addConstants (photonOf v .d) rc (photonOf v .ic) (window (photonOf v .d) g) ⌝ }
+{
+    let d = size_of(v);
+    let ic = row_constants(v);
+    add_constants(g, d, rc, ic)
+}
+
+// SubCells of a variant, or its inverse.
+pub fn cells_substituted(v: usize, g: [[u8; 8]; 8], back: bool) -> [[u8; 8]; 8]
+    requires { ⌜ (1 ≤ v) × (v ≤ 5) ⌝ }
+    requires { ⌜ Small (photonOf v .d) (2 ^ photonOf v .s) g ⌝ }
+    ensures { λ r. ⌜ window (photonOf v .d) r ≡ subCells (photonOf v .d) (cond back (photonOf v .unbox) (photonOf v .box)) (window (photonOf v .d) g) ⌝ }
+{
+    let d = size_of(v);
+    let kind = box_of(v, back);
+    sub_cells(kind, g, d)
+}
+
+// The factor of ShiftRows: row i turns by that many times i places, and the inverse turns on to where the row began.
+fn turn_factor(d: usize, back: bool) -> usize
+    requires { ⌜ 0 < d ⌝ }
+    ensures { λ r. ⌜ r ≡ cond back (d - 1) 1 ⌝ }
+{
+    if back { d - 1 } else { 1 }
+}
+
+// ShiftRows of a variant, or its inverse.
+pub fn rows_shifted(v: usize, g: [[u8; 8]; 8], back: bool) -> [[u8; 8]; 8]
+    requires { ⌜ (1 ≤ v) × (v ≤ 5) ⌝ }
+    ensures { λ r. ⌜ window (photonOf v .d) r ≡ shiftRows (photonOf v .d) (cond back (photonOf v .d - 1) 1) (window (photonOf v .d) g) ⌝ }
+{
+    let d = size_of(v);
+    let m = turn_factor(d, back);
+    shift_rows(g, d, m)
+}
+
+// MixColumnsSerial of a variant.
+pub fn columns_mixed(v: usize, g: [[u8; 8]; 8], back: bool) -> [[u8; 8]; 8]
+    requires { ⌜ (1 ≤ v) × (v ≤ 5) ⌝ }
+    requires { ⌜ Small (photonOf v .d) (2 ^ photonOf v .s) g ⌝ }
+    ensures { λ r. ⌜ window (photonOf v .d) r ≡ mixColumns (2 ^ photonOf v .s) (photonOf v .poly) (photonOf v .d) (cond back (photonOf v .unz) (photonOf v .z)) (window (photonOf v .d) g) ⌝ }
+{
+    let d = size_of(v);
+    let top = top_of(v);
+    let poly = poly_of(v);
+    let z = coefficients(v, back);
+    mix_columns(g, top, poly, d, z)
+}
+
+// The inverse of MixColumnsSerial: the same on the rows from the bottom up, with its own coefficients.
+pub fn columns_unmixed(v: usize, g: [[u8; 8]; 8]) -> [[u8; 8]; 8]
+    requires { ⌜ (1 ≤ v) × (v ≤ 5) ⌝ }
+    requires { ⌜ Small (photonOf v .d) (2 ^ photonOf v .s) g ⌝ }
+    ensures { λ r. ⌜ window (photonOf v .d) r ≡ unmixColumns (2 ^ photonOf v .s) (photonOf v .poly) (photonOf v .d) (photonOf v .unz) (window (photonOf v .d) g) ⌝ }
+{
+    let d = size_of(v);
+    let f = flipped(g, d);
+    let m = columns_mixed(v, f, true);
+    flipped(m, d)
+}
+
+// One round of a variant, or that round taken back.
+pub fn round_of(v: usize, g: [[u8; 8]; 8], rc: u8, back: bool) -> [[u8; 8]; 8]
+    requires { ⌜ (1 ≤ v) × (v ≤ 5) ⌝ }
+    requires { ⌜ Small (photonOf v .d) (2 ^ photonOf v .s) g ⌝ }
+    requires { ⌜ rc < 16 ⌝ }
+    ensures { λ r. ⌜ window (photonOf v .d) r ≡ photonRound (photonOf v) (direction back) (window (photonOf v .d) g) rc ⌝ }
+{
+    if back {
+        let m = columns_unmixed(v, g);
+        let s = rows_shifted(v, m, true);
+        let b = cells_substituted(v, s, true);
+        return constants_added(v, b, rc);
+    }
+    let a = constants_added(v, g, rc);
+    let b = cells_substituted(v, a, false);
+    let s = rows_shifted(v, b, false);
+    columns_mixed(v, s, false)
+}
+
+// The twelve rounds of a variant, or all of them taken back.
+pub fn permuted(v: usize, g: [[u8; 8]; 8], back: bool) -> [[u8; 8]; 8]
+    requires { ⌜ (1 ≤ v) × (v ≤ 5) ⌝ }
+    requires { ⌜ Small (photonOf v .d) (2 ^ photonOf v .s) g ⌝ }
+    ensures { λ r. ⌜ window (photonOf v .d) r ≡ photonRounds (photonOf v) (direction back) (window (photonOf v .d) g) ⌝ }
+{
+    let mut out = g;
+    let mut n = 0;
+    while n < 12 {
+        let rc = round_constant(n, back);
+        let next = round_of(v, out, rc, back);
+        out = next;
+        n += 1;
+    }
+    out
+}
