@@ -2,7 +2,8 @@
 -- Assumes nothing.
 use mathlib.Core.Path.{_≡_, refl, sym, ap, ap₂, _∙_, subst}
 use mathlib.Core.Bool.{Bool, true, false, not, _&&_}
-use mathlib.Core.List.{List, [], _∷_, _++_, reverse, reverse-append}
+use mathlib.Core.List.{List, [], _∷_, _++_, reverse, reverse-append, reverse-cons}
+use mathlib.Core.Logic.{_⊎_, ⊎-elim}
 use Prim.Native.Nat.{ℕ, zero, suc, _+_, _-_, _*_, _/_, _%_, _^_, _≤_, _<_}
 use native.Mathlib.Nat.{div-add-mod', mod-eq-of-lt}
 use native.Mathlib.Omega.{arith}
@@ -123,3 +124,37 @@ half-byte s c h l =
       ∙ drop-append-le 4 (bitsOf high-first 8 x) rest (omega (arith, length-bitsOf high-first 8 x))
       ∙ ap (λ (m : List Bool). m ++ rest) (lower-half x))
     ∙ clear-append (bitsOf high-first 4 x) rest
+
+-- ---- in either order of a byte's bits
+
+clear-reverse : (bs : List Bool) → clear (reverse bs) ≡ clear bs
+clear-reverse [] = refl
+clear-reverse (b ∷ bs) =
+    ap clear (reverse-cons b bs) ∙ clear-append (reverse bs) (b ∷ [])
+    ∙ ap (λ (t : Bool). t && (not b && true)) (clear-reverse bs) ∙ turned (clear bs) b
+  where
+    turned : (t b : Bool) → (t && (not b && true)) ≡ (not b && t)
+    turned true true = refl
+    turned true false = refl
+    turned false true = refl
+    turned false false = refl
+
+clear-byte : (o : Order) (x : ℕ) → clear (bitsOf o 8 x) ≡ clear (bitsOf high-first 8 x)
+unfolding bitsOf ordered
+clear-byte low-first x = sym (clear-reverse (lowBits 8 x))
+clear-byte high-first x = refl
+
+clear-bytes : (o : Order) (s : List ℕ) → clear (bitsIn o s) ≡ clear (bitsIn high-first s)
+unfolding bitsIn
+clear-bytes o [] = refl
+clear-bytes o (x ∷ s) =
+    clear-append (bitsOf o 8 x) (bitsIn o s)
+    ∙ ap₂ (λ (a b : Bool). a && b) (clear-byte o x) (clear-bytes o s)
+    ∙ sym (clear-append (bitsOf high-first 8 x) (bitsIn high-first s))
+
+pub clear-order : (o : Order) (s : List ℕ) (c : ℕ) → (high-first ≡ o) ⊎ (c % 8 ≡ 0) → clear (drop c (bitsIn o s)) ≡ clear (drop c (bitsIn high-first s))
+clear-order o s c w =
+    ⊎-elim
+    (λ e. ap (λ (p : Order). clear (drop c (bitsIn p s))) (sym e))
+    (λ e. whole-byte o s c e ∙ clear-bytes o (drop (c / 8) s) ∙ sym (whole-byte high-first s c e))
+    w

@@ -4,3 +4,5 @@ pub mod LayoutLaws
 pub mod CellLaws
 pub mod MatrixImage
 pub mod SqueezeLaws
+pub mod States
+pub mod ImageLaws

@@ -9,7 +9,7 @@ use native.Mathlib.Omega.{arith}
 use lib.ListN.{length, take, drop, length-append, length-drop}
 use lib.Seq.{length-take-le, take-add, take-take, take-append-le}
 use Rattle.standard.specs.Bits.{Order, high-first, bitsOf, valueOf, bitsIn, pack, unpack, bytesFor, reordered}
-use Rattle.standard.proofs.BitLaws.{length-bitsIn, length-pack, unpack-pack, bitsOf-valueOf, valueOf-lt, bitsIn-take, bitsIn-pack, take-pack, pack-bitsIn, pack-bytes}
+use Rattle.standard.proofs.BitLaws.{length-bitsIn, length-unpack, length-pack, unpack-pack, bitsOf-valueOf, valueOf-lt, bitsIn-take, bitsIn-pack, take-pack, pack-bitsIn, pack-bytes}
 use Rattle.standard.proofs.Reordered.{reordered-same}
 use Rattle.sponge.specs.Cells.{cellIn}
 use Rattle.sponge.proofs.LayoutLaws.{packed-bits}
@@ -19,6 +19,13 @@ use Rattle.sponge.proofs.MatrixImage.{filled-take}
 pub held-again : (n m : ℕ) (r : List ℕ) (Z : List Bool) → r ≡ pack high-first n Z → length Z ≡ m → m ≤ n * 8 → unpack high-first m r ≡ Z
 held-again n m r Z e l h =
     ap₂ (unpack high-first) (sym l) e ∙ unpack-pack high-first n Z (omega arith)
+
+-- how long the digest is after p + i half bytes
+pub fronted-length : (out s : List ℕ) (p i : ℕ) → length out ≡ 32 → length s ≡ 36 → p ≤ 64 → i ≤ 64
+    → length (unpack high-first (4 * p) out ++ take (4 * i) (bitsIn high-first s)) ≡ 4 * (p + i)
+fronted-length out s p i lo ls hp hi =
+    length-append (unpack high-first (4 * p) out) (take (4 * i) (bitsIn high-first s))
+    ∙ omega (arith, length-unpack high-first (4 * p) out (omega arith), length-take-le (4 * i) (bitsIn high-first s) (omega (arith, length-bitsIn high-first s)))
 
 module _ (s : List ℕ) (size : length s ≡ 36) (i : ℕ) (h : i < 64) where
   four : length (take 4 (drop (i * 4) (bitsIn high-first s))) ≡ 4

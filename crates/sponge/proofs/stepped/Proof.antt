@@ -1,0 +1,47 @@
+-- `sponge::stepped` meets its contract: the block is xored in, and the permutation runs. Assumes nothing.
+use mathlib.Core.Path.{_≡_, sym, ap, _∙_}
+use mathlib.Core.Bool.{Bool}
+use mathlib.Core.List.{List}
+use native.Mathlib.Omega.{arith}
+use lib.ListN.{length}
+use Rattle.standard.specs.Bits.{high-first, reordered, xorInto}
+use Rattle.standard.specs.Rounds.{forward}
+use Rattle.standard.specs.Sponge.{order, permutation, step, stateIn}
+use Rattle.standard.specs.Variants.{variant}
+use Rattle.standard.proofs.BitLaws.{length-xorInto}
+use Rattle.arrays.proofs.Elements.{bytes-lt}
+use Rattle.sponge.specs.Layout.{stateBytes, blockIn}
+use Rattle.sponge.proofs.States.{state-length, stored, stored-ready, taken}
+use borrow.Author.Needs.{needs}
+use borrow.Author.Needs.{needs}
+use Rattle.sponge.proofs.stepped.Statement.{statement}
+use Rattle.sponge.proofs.stepped.Tie as tie
+
+with-block-requires : tie.Need-with-block-requires
+with-block-requires c κs = search needs
+
+permuted-requires : tie.Need-permuted-requires
+permuted-requires c κs = 
+    let start = c .before in
+    let a = start .args in
+    let e = taken (a .v) (omega arith) (omega arith) (a .s) (c .with-block .result) (a .b) (omega arith) (omega arith)
+        (bytes-lt 36 (c .with-block .result) _ (c .with-block .ok)) (omega arith) (start .pre .1 .0) (start .pre .1 .1) (c .with-block .ensures) in
+    (start .pre .0,
+    stored-ready (a .v) (omega arith) (omega arith) (c .with-block .result) _
+    (length-xorInto _ _ ∙ state-length (a .v) (omega arith) (omega arith) (a .s) (omega arith)) e)
+
+returns : tie.Need-returns
+unfolding step
+returns c =
+    let start = c .before .before in
+    let a = start .args in
+    let x = c .before .with-block in
+    let e = taken (a .v) (omega arith) (omega arith) (a .s) (x .result) (a .b) (omega arith) (omega arith)
+        (bytes-lt 36 (x .result) _ (x .ok)) (omega arith) (start .pre .1 .0) (start .pre .1 .1) (x .ensures) in
+    c .permuted .ensures
+    ∙ ap (λ (s : List Bool). stateBytes (variant (a .v)) (permutation (variant (a .v)) forward s))
+      (stored (a .v) (omega arith) (omega arith) (x .result) _
+        (length-xorInto _ _ ∙ state-length (a .v) (omega arith) (omega arith) (a .s) (omega arith)) e)
+
+pub stepped-spec : {M : Type 1} → statement M
+stepped-spec = tie.close (tie.spec with-block-requires permuted-requires returns)
