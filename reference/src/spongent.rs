@@ -7,7 +7,8 @@ use std::sync::OnceLock;
 use crate::lookup;
 use crate::sbox;
 
-/// A state: its bit k is bit k % 64 of word k / 64. Bits past t are zero.
+/// A state: its bit k is bit k % 64 of word k / 64. Bits past t mean nothing
+/// and are left out when bits move or are written back.
 type Wide = [u64; 5];
 
 /// The parameters of one permutation (Table 9).
@@ -46,8 +47,6 @@ const fn parameters(
 /// One SPONGENT permutation, with the tables that its rounds look up.
 pub struct Spongent {
     state_bits: usize,
-    /// A one at every place of the state.
-    inside: Wide,
     /// What cAddition adds in each round.
     constants: Vec<Wide>,
     /// The S-box on both nibbles of a byte, and its inverse.
@@ -74,7 +73,6 @@ impl Spongent {
         let substituted = on_both_nibbles(&sbox::SPONGENT);
         Spongent {
             state_bits,
-            inside: with_bits(0..state_bits),
             constants: counters(parameters.first, parameters.polynomial)
                 .take(parameters.rounds)
                 .map(|counter| constant(counter, state_bits))
@@ -91,7 +89,7 @@ impl Spongent {
         let mut wide = wide_of(state);
         for constant in &self.constants {
             wide = sum(&wide, constant);
-            wide = self.substitute(&wide, &self.substituted);
+            wide = substitute(&wide, &self.substituted);
             wide = self.moved.apply(&wide);
         }
         write_wide(&wide, state);
@@ -102,20 +100,17 @@ impl Spongent {
         let mut wide = wide_of(state);
         for constant in self.constants.iter().rev() {
             wide = self.returned.apply(&wide);
-            wide = self.substitute(&wide, &self.restored);
+            wide = substitute(&wide, &self.restored);
             wide = sum(&wide, constant);
         }
         write_wide(&wide, state);
     }
+}
 
-    /// sBoxLayer (clause 5.3.4.3), two nibbles at a time, forward or back by
-    /// the table given. Bytes past the state are kept at zero.
-    fn substitute(&self, wide: &Wide, table: &[u8]) -> Wide {
-        std::array::from_fn(|word| {
-            let bytes = wide[word].to_le_bytes();
-            u64::from_le_bytes(bytes.map(|byte| table[usize::from(byte)])) & self.inside[word]
-        })
-    }
+/// sBoxLayer (clause 5.3.4.3), two nibbles at a time, forward or back by the
+/// table given.
+fn substitute(wide: &Wide, table: &[u8]) -> Wide {
+    wide.map(|word| u64::from_le_bytes(word.to_le_bytes().map(|byte| table[usize::from(byte)])))
 }
 
 /// Bits that change places, made ready for bytes: where the bits of each

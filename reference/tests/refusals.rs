@@ -52,7 +52,9 @@ fn unknown_variants_are_refused_before_images_are_looked_at() {
 fn images_of_a_wrong_length_are_refused() {
     for (number, _, bytes, _) in SIZES {
         for length in [0, bytes - 1, bytes + 1] {
+            // All zeros too, so that only the length can be at fault.
             expect_refused(number, &vec![0xa0; length], 6);
+            expect_refused(number, &vec![0x00; length], 6);
         }
     }
 }

@@ -71,3 +71,7 @@ module _ (s : List ℕ) (bytes : (i : ℕ) → getD s i 0 < 256) (n : ℕ) where
             ∙ ap (λ (l : List Bool). l ++ bitsIn high-first (drop (suc k) s)) (lower-half x))
         ∙ take-at (bitsOf high-first 4 x) (bitsIn high-first (drop (suc k) s)) 4 (length-bitsOf high-first 4 x))
       ∙ value-mod high-first 4 x
+
+-- a width that is not 8 is 4
+pub narrow : (w : ℕ) → (w ≡ 4) ⊎ (w ≡ 8) → (w ≡ 8 → ⊥) → w ≡ 4
+narrow w h n = ⊎-elim (λ e. e) (λ e. absurd (n e)) h

@@ -24,7 +24,7 @@ clear-zeros [] e = refl
 clear-zeros (true ∷ bs) e = cc
 clear-zeros (false ∷ bs) e = ap (λ (l : List Bool). false ∷ l) (clear-zeros bs e)
 
-low-zeros : (n : ℕ) → lowValue (replicate n false) ≡ 0
+pub low-zeros : (n : ℕ) → lowValue (replicate n false) ≡ 0
 unfolding lowValue
 low-zeros zero = refl
 low-zeros (suc n) = ap (λ (x : ℕ). x * 2 + 0) (low-zeros n)

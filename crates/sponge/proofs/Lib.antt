@@ -2,3 +2,5 @@ pub mod Clear
 pub mod Front
 pub mod LayoutLaws
 pub mod CellLaws
+pub mod MatrixImage
+pub mod SqueezeLaws

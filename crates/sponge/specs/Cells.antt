@@ -1,9 +1,7 @@
 -- The cells of a PHOTON state, one after the other, row by row.
 -- Assumes nothing.
-use mathlib.Core.Bool.{cond}
 use mathlib.Core.List.{List}
-use Prim.Native.Nat.{ℕ, _+_, _*_, _/_, _%_}
-use lib.Dec.{eqb}
+use Prim.Native.Nat.{ℕ, _*_, _/_, _%_}
 use lib.ListN.{take, drop}
 use Rattle.standard.specs.Bits.{high-first, valueOf, bitsIn}
 use Rattle.standard.specs.Grid.{Grid, at}
@@ -15,7 +13,3 @@ cellIn w bytes n = valueOf high-first (take w (drop (n * w) (bitsIn high-first b
 -- the n-th cell of a matrix of d rows and columns
 abbrev pub nth : ℕ → Grid → ℕ → ℕ
 nth d g n = at g (n / d) (n % d)
-
--- the k-th byte of a matrix's image: two cells of 4 bits, the first high, or one of 8
-unfoldable pub byteAt : ℕ → ℕ → Grid → ℕ → ℕ
-byteAt w d g k = cond (eqb w 8) (nth d g k) (nth d g (k * 2) * 16 + nth d g (k * 2 + 1))

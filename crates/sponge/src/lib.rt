@@ -4,15 +4,17 @@ ghost use mathlib.Core.List.{[], _++_};
 ghost use mathlib.Core.Bool.{true};
 ghost use Prim.Native.Nat.{ℕ, _+_, _-_, _*_, _/_, _%_, _^_, _≤_, _<_};
 ghost use lib.ListN.{getD, length, take, drop, replicate};
-ghost use Rattle.standard.specs.Bits.{Order, high-first, bitsIn, reordered, xorInto};
+ghost use Rattle.standard.specs.Bits.{Order, high-first, bitsOf, bitsIn, pack, unpack, xorInto};
 ghost use Rattle.standard.specs.Rounds.{direction, forward, backward};
 ghost use Rattle.standard.specs.Sponge.{order, permutation, step, imageBytes, stateIn};
 ghost use Rattle.standard.specs.Variants.{variant, known};
 ghost use Rattle.sponge.specs.Refusals.{number, entry};
 ghost use Rattle.sponge.specs.Layout.{stateBytes, blockBytes, blockIn, clear};
 ghost use mathlib.Core.Logic.{_⊎_};
-ghost use Rattle.sponge.specs.Cells.{cellIn, nth, byteAt};
-ghost use Rattle.standard.specs.Grid.{tab, grid, window, Small};
+ghost use Rattle.photon.specs.Parameters.{photonOf};
+ghost use Rattle.sponge.specs.Cells.{cellIn, nth};
+ghost use Rattle.standard.specs.Grid.{window, Small};
+ghost use Rattle.standard.specs.Photon.{matrixOf, bitsOfMatrix};
 ghost use Rattle.sponge.specs.Images.{imageStatus, permutedImage};
 
 // Done, or the one refusal whose condition holds and whose earlier checks passed.
@@ -202,7 +204,7 @@ fn read_row(w: usize, s: [u8; 36], d: usize, base: usize) -> [u8; 8]
 fn grid_of(w: usize, s: [u8; 36], d: usize) -> [[u8; 8]; 8]
     requires { ⌜ (w ≡ 4) ⊎ (w ≡ 8) ⌝ }
     requires { ⌜ d ≤ 8 ⌝ }
-    ensures { λ r. ⌜ window d r ≡ grid d (λ i j. cellIn w s (i * d + j)) ⌝ }
+    ensures { λ r. ⌜ window d r ≡ matrixOf d w (bitsIn high-first s) ⌝ }
 {
     let mut out = [[0u8; 8]; 8];
     let mut base = 0;
@@ -234,7 +236,7 @@ fn byte_of(w: usize, g: [[u8; 8]; 8], d: usize, k: usize) -> u8
     requires { ⌜ (0 < d) × (d ≤ 8) ⌝ }
     requires { ⌜ Small d (2 ^ w) g ⌝ }
     requires { ⌜ k < 36 ⌝ }
-    ensures { λ r. ⌜ r ≡ byteAt w d (window d g) k ⌝ }
+    ensures { λ r. ⌜ r ≡ getD (pack high-first 36 (bitsOfMatrix w (window d g))) k 0 ⌝ }
 {
     if w == 8 {
         return cell_at(g, d, k);
@@ -249,7 +251,7 @@ fn bytes_of(w: usize, g: [[u8; 8]; 8], d: usize) -> [u8; 36]
     requires { ⌜ (w ≡ 4) ⊎ (w ≡ 8) ⌝ }
     requires { ⌜ (0 < d) × (d ≤ 8) ⌝ }
     requires { ⌜ Small d (2 ^ w) g ⌝ }
-    ensures { λ r. ⌜ r ≡ tab 36 (byteAt w d (window d g)) ⌝ }
+    ensures { λ r. ⌜ r ≡ pack high-first 36 (bitsOfMatrix w (window d g)) ⌝ }
 {
     let mut out = [0u8; 36];
     let mut k = 0;
@@ -258,4 +260,118 @@ fn bytes_of(w: usize, g: [[u8; 8]; 8], d: usize) -> [u8; 36]
         k += 1;
     }
     out
+}
+
+// The half byte x behind the first p half bytes, which are all that the bytes hold.
+fn with_half(out: [u8; 32], p: usize, x: u8) -> [u8; 32]
+    requires { ⌜ (p < 64) × (x < 16) ⌝ }
+    requires { ⌜ out ≡ pack high-first 32 (unpack high-first (4 * p) out) ⌝ }
+    ensures { λ r. ⌜ r ≡ pack high-first 32 (unpack high-first (4 * p) out ++ bitsOf high-first 4 x) ⌝ }
+{
+    let mut r = out;
+    let k = p / 2;
+    if p % 2 == 0 {
+        r[k] = r[k] ^ (x * 16);
+        return r;
+    }
+    r[k] = r[k] ^ x;
+    r
+}
+
+// The first q half bytes of a state behind the first p half bytes.
+fn with_front(out: [u8; 32], p: usize, s: [u8; 36], q: usize) -> [u8; 32]
+    requires { ⌜ (p + q ≤ 64) × (q ≤ 64) ⌝ }
+    requires { ⌜ out ≡ pack high-first 32 (unpack high-first (4 * p) out) ⌝ }
+    ensures { λ r. ⌜ r ≡ pack high-first 32 (unpack high-first (4 * p) out ++ take (4 * q) (bitsIn high-first s)) ⌝ }
+{
+    let mut r = out;
+    let mut i = 0;
+    while i < q {
+        let next = with_half(r, p + i, cell_of(4, s, i));
+        r = next;
+        i += 1;
+    }
+    r
+}
+
+const CELL_BITS: [usize; 5] = [4, 4, 4, 4, 8];
+
+// The bits of a cell of PHOTON.
+fn cell_bits(v: usize) -> usize
+    requires { ⌜ (1 ≤ v) × (v ≤ 5) ⌝ }
+    ensures { λ r. ⌜ r ≡ photonOf v .s ⌝ }
+{
+    CELL_BITS[v - 1]
+}
+
+// PHOTON on the bytes that hold a state: as a matrix, permuted, and back.
+fn photon_permuted(v: usize, s: [u8; 36], back: bool) -> [u8; 36]
+    requires { ⌜ (1 ≤ v) × (v ≤ 5) ⌝ }
+    ensures { λ r. ⌜ r ≡ stateBytes (variant v) (permutation (variant v) (direction back) (stateIn (variant v) s)) ⌝ }
+{
+    let d = photon::size_of(v);
+    let w = cell_bits(v);
+    let g = grid_of(w, s, d);
+    let h = photon::permuted(v, g, back);
+    bytes_of(w, h, d)
+}
+
+// The permutation of a variant, or its inverse, on the bytes that hold a state.
+pub fn permuted(v: u8, s: [u8; 36], back: bool) -> [u8; 36]
+    requires { ⌜ (1 ≤ v) × (v ≤ 10) ⌝ }
+    requires { ⌜ s ≡ stateBytes (variant v) (stateIn (variant v) s) ⌝ }
+    ensures { λ r. ⌜ r ≡ stateBytes (variant v) (permutation (variant v) (direction back) (stateIn (variant v) s)) ⌝ }
+{
+    if v <= 5 {
+        return photon_permuted(v as usize, s, back);
+    }
+    spongent::permuted(v as usize, s, back)
+}
+
+// The block step on the bytes that hold a state and a block.
+pub fn stepped(v: u8, s: [u8; 36], b: [u8; 5]) -> [u8; 36]
+    requires { ⌜ (1 ≤ v) × (v ≤ 10) ⌝ }
+    requires { ⌜ s ≡ stateBytes (variant v) (stateIn (variant v) s) ⌝ }
+    requires { ⌜ b ≡ blockBytes (blockIn (variant v) b) ⌝ }
+    ensures { λ r. ⌜ r ≡ stateBytes (variant v) (step (variant v) (stateIn (variant v) s) (blockIn (variant v) b)) ⌝ }
+{
+    let taken = with_block(s, b);
+    permuted(v, taken, false)
+}
+
+// Both directions of the public operation: the checks in order, then the bytes through the permutation.
+fn permute_image(variant: u8, image: &mut [u8], back: bool) -> Status
+    ensures { λ r. ⌜ (r ≡ imageStatus variant (now (image .entry)))
+        × (now (image .exit) ≡ permutedImage variant (direction back) (now (image .entry))) ⌝ }
+{
+    if !is_known(variant) {
+        return Status::UnknownVariant;
+    }
+    let n = image_bytes(variant);
+    if image.len() != n {
+        return Status::BadImage;
+    }
+    if !clear_from(image, state_bits(variant)) {
+        return Status::BadImage;
+    }
+    let s = at_front(image);
+    let r = permuted(variant, s, back);
+    copy_front(&r, n, image);
+    Status::Done
+}
+
+// The permutation on an image: refusal 1, then 6. A refusal leaves every byte.
+pub fn permute(variant: u8, image: &mut [u8]) -> Status
+    ensures { λ r. ⌜ (r ≡ imageStatus variant (now (image .entry)))
+        × (now (image .exit) ≡ permutedImage variant forward (now (image .entry))) ⌝ }
+{
+    permute_image(variant, image, false)
+}
+
+// Its inverse: the rounds taken back.
+pub fn unpermute(variant: u8, image: &mut [u8]) -> Status
+    ensures { λ r. ⌜ (r ≡ imageStatus variant (now (image .entry)))
+        × (now (image .exit) ≡ permutedImage variant backward (now (image .entry))) ⌝ }
+{
+    permute_image(variant, image, true)
 }

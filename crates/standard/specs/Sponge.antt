@@ -3,8 +3,8 @@
 use mathlib.Core.Path.{_≡_}
 use mathlib.Core.Bool.{Bool, true, false}
 use mathlib.Core.List.{List, [], _∷_, _++_, foldl, flatMap}
-use Prim.Native.Nat.{ℕ, zero, suc, _+_, _-_, _/_, _%_, _<_}
-use lib.ListN.{length, getD, take, replicate}
+use Prim.Native.Nat.{ℕ, zero, suc, _+_, _-_, _*_, _/_, _%_, _<_}
+use lib.ListN.{length, getD, take, drop, replicate}
 use Rattle.standard.specs.Bits.{Order, low-first, high-first, bitsOf, bitsIn, pack, unpack, bytesFor, reordered, cut, xorInto}
 use Rattle.standard.specs.Rounds.{Direction, forward}
 use Rattle.standard.specs.Photon.{PhotonParameters, photonPermutation}
@@ -54,6 +54,10 @@ padded r m = m ++ true ∷ replicate (r - 1 - length m % r) false
 -- the whole blocks of r bits
 unfoldable pub wholeBlocks : ℕ → List Bool → List (List Bool)
 wholeBlocks r bs = cut r (length bs / r) bs
+
+-- the bits behind them, which fill no block
+unfoldable pub restOf : ℕ → List Bool → List Bool
+restOf r bs = drop (length bs / r * r) bs
 
 -- m_0, .., m_{l-1}: the blocks of a message of bytes, each byte read from its most significant bit on
 unfoldable pub messageBlocks : Variant → List ℕ → List (List Bool)

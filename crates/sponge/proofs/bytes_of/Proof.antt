@@ -1,42 +1,53 @@
+-- `sponge::bytes_of` meets its contract: the bytes passed are the packed ones. Assumes nothing.
+use mathlib.Core.Path.{_≡_, refl, sym, _∙_}
+use mathlib.Core.List.{List}
+use Prim.Native.Nat.{ℕ, _-_, _≤_, _<_}
+use native.Mathlib.Omega.{arith}
+use lib.ListN.{getD, length}
+use lib.Seq.{ext-getD}
+use Rattle.standard.specs.Bits.{high-first, pack}
+use Rattle.standard.specs.Grid.{window}
+use Rattle.standard.specs.Photon.{bitsOfMatrix}
+use Rattle.standard.proofs.BitLaws.{length-pack}
+use Rattle.arrays.proofs.Upto.{Upto, upto-none, upto-more}
 use Rattle.sponge.proofs.bytes_of.Statement.{statement}
 use Rattle.sponge.proofs.bytes_of.Tie as tie
-use Rattle.sponge.proofs.bytes_of.Reads as reads
-use Rattle.sponge.proofs.bytes_of.Lts as lts
-use Rattle.sponge.proofs.byte_of.Reads as byte-of-reads
 
 abbrev Inv-loop : tie.InvT-loop
-Inv-loop w g d out₀ k₀ out k = ?
+Inv-loop w g d out₀ k₀ out k = (k ≤ 36) × Upto 0 (λ i x. x ≡ getD (pack high-first 36 (bitsOfMatrix w (window d g))) i 0) 36 k out₀ out
 
 abbrev μ-loop : tie.MeasureT-loop
-μ-loop w g d out₀ k₀ out k = ?
+μ-loop w g d out₀ k₀ out k = 36 - k
 
--- src/lib.rt:256:5
 loop-holds : tie.Need-loop-holds Inv-loop μ-loop
-loop-holds c = ?
+loop-holds c = (omega arith, upto-none _ refl)
 
--- src/lib.rt:257:18
 byte-of-requires : tie.Need-byte-of-requires Inv-loop μ-loop
-byte-of-requires c κs = ?
+byte-of-requires c κs = 
+    let s = c .before .before in
+    (s .pre .0, (s .pre .1 .0, (s .pre .1 .1, omega arith)))
 
--- src/lib.rt:257:9
 array-write-out : tie.Need-array-write-out Inv-loop μ-loop
-array-write-out c = ?
+array-write-out c = omega arith
 
--- src/lib.rt:258:9
 add-k : tie.Need-add-k Inv-loop μ-loop
-add-k c = ?
+add-k c = omega arith
 
--- src/lib.rt:256:5
 loop-less : tie.Need-loop-less Inv-loop μ-loop
-loop-less c = ?
+loop-less c = omega arith
 
--- src/lib.rt:256:5
 loop-again : tie.Need-loop-again Inv-loop μ-loop
-loop-again c = ?
+loop-again c = 
+    let l = c .before .before .loop in
+    (omega arith, upto-more (l .k) _ (l .out) (c .byte-of .result) (omega arith) (c .byte-of .ensures) (l .inv .1))
 
--- src/lib.rt:248:1
 returns : tie.Need-returns Inv-loop μ-loop
-returns c = ?
+returns c = 
+    let l = c .before .loop in
+    let a = c .before .before .args in
+    let bits = bitsOfMatrix (a .w) (window (a .d) (a .g)) in
+    ext-getD 0 (l .out) (pack high-first 36 bits) (l .inv .1 .len ∙ sym (length-pack high-first 36 bits))
+    (λ k h. l .inv .1 .done k (omega (arith, l .inv .1 .len)))
 
 pub bytes-of-spec : {M : Type 1} → statement M
 bytes-of-spec =

@@ -1,40 +1,39 @@
+-- `sponge::cell_at` meets its contract: row n / d, column n % d. Assumes nothing.
+use mathlib.Core.Path.{_≡_, sym, _∙_}
+use native.Mathlib.Omega.{arith}
+use Rattle.standard.proofs.Tab.{at-window, window-square}
+use Rattle.sponge.proofs.MatrixImage.{square-le, row-lt, col-lt, past}
 use borrow.Author.Needs.{needs}
 use Rattle.sponge.proofs.cell_at.Statement.{statement}
 use Rattle.sponge.proofs.cell_at.Tie as tie
-use Rattle.sponge.proofs.cell_at.Reads as reads
-use Rattle.sponge.proofs.cell_at.Lts as lts
 
--- src/lib.rt:223:8
 mul-if1 : tie.Need-mul-if1
-mul-if1 c = ?
+mul-if1 c = omega (arith, square-le (c .args .d) (omega arith))
 
--- src/lib.rt:224:9
 returns : tie.Need-returns
-returns c = ?
+returns c = 
+    let a = c .before .args in
+    sym (past (a .d) _ (window-square (a .d) (a .t1)) (a .n) (c .if1 .taken) (omega arith))
 
--- src/lib.rt:226:13
 div-i : tie.Need-div-i
 div-i c = search needs
 
--- src/lib.rt:227:13
 rem-j : tie.Need-rem-j
 rem-j c = search needs
 
--- src/lib.rt:228:5
 mul-result : tie.Need-mul-result
-mul-result c = ?
+mul-result c = omega (arith, row-lt (c .before .args .d) (c .before .args .n) (c .if1 .left))
 
--- src/lib.rt:228:5
 index-1-result : tie.Need-index-1-result
-index-1-result c = ?
+index-1-result c = omega (arith, row-lt (c .before .args .d) (c .before .args .n) (c .if1 .left))
 
--- src/lib.rt:228:5
 index-2-result : tie.Need-index-2-result
-index-2-result c = ?
+index-2-result c = omega (arith, col-lt (c .before .args .d) (c .before .args .n) (c .if1 .left))
 
--- src/lib.rt:219:1
 returns-2 : tie.Need-returns-2
-returns-2 c = ?
+returns-2 c = 
+    let a = c .before .before .args in
+    sym (at-window (a .d) (a .t1) _ _ (row-lt (a .d) (a .n) (c .before .if1 .left)) (col-lt (a .d) (a .n) (c .before .if1 .left)))
 
 pub cell-at-spec : {M : Type 1} → statement M
 cell-at-spec =

@@ -1,46 +1,44 @@
+-- `sponge::read_row` meets its contract: the cells passed are read. Assumes nothing.
+use mathlib.Core.Path.{_≡_, refl}
+use Prim.Native.Nat.{ℕ, _+_, _-_, _≤_, _<_}
+use native.Mathlib.Omega.{arith}
+use lib.ListN.{getD}
+use Rattle.arrays.proofs.Upto.{Upto, upto-none, upto-more}
+use Rattle.sponge.specs.Cells.{cellIn}
 use Rattle.sponge.proofs.read_row.Statement.{statement}
 use Rattle.sponge.proofs.read_row.Tie as tie
-use Rattle.sponge.proofs.read_row.Reads as reads
-use Rattle.sponge.proofs.read_row.Lts as lts
-use Rattle.sponge.proofs.cell_of.Reads as cell-of-reads
 
 abbrev Inv-loop : tie.InvT-loop
-Inv-loop w s d base out₀ j₀ out j = ?
+Inv-loop w s d base out₀ j₀ out j = (j ≤ d) × Upto 0 (λ k x. x ≡ cellIn w s (base + k)) 8 j out₀ out
 
 abbrev μ-loop : tie.MeasureT-loop
-μ-loop w s d base out₀ j₀ out j = ?
+μ-loop w s d base out₀ j₀ out j = d - j
 
--- src/lib.rt:194:5
 loop-holds : tie.Need-loop-holds Inv-loop μ-loop
-loop-holds c = ?
+loop-holds c = (omega arith, upto-none _ refl)
 
--- src/lib.rt:195:32
 add-cell-of : tie.Need-add-cell-of Inv-loop μ-loop
-add-cell-of c = ?
+add-cell-of c = omega arith
 
--- src/lib.rt:195:18
 cell-of-requires : tie.Need-cell-of-requires Inv-loop μ-loop
-cell-of-requires c κs = ?
+cell-of-requires c κs = (c .before .before .pre .0, omega arith)
 
--- src/lib.rt:195:9
 array-write-out : tie.Need-array-write-out Inv-loop μ-loop
-array-write-out c = ?
+array-write-out c = omega arith
 
--- src/lib.rt:196:9
 add-j : tie.Need-add-j Inv-loop μ-loop
-add-j c = ?
+add-j c = omega arith
 
--- src/lib.rt:194:5
 loop-less : tie.Need-loop-less Inv-loop μ-loop
-loop-less c = ?
+loop-less c = omega arith
 
--- src/lib.rt:194:5
 loop-again : tie.Need-loop-again Inv-loop μ-loop
-loop-again c = ?
+loop-again c = 
+    let l = c .before .before .loop in
+    (omega arith, upto-more (l .j) _ (l .out) (c .cell-of .result) (omega arith) (c .cell-of .ensures) (l .inv .1))
 
--- src/lib.rt:187:1
 returns : tie.Need-returns Inv-loop μ-loop
-returns c = ?
+returns c = λ j h. c .before .loop .inv .1 .done j (omega arith)
 
 pub read-row-spec : {M : Type 1} → statement M
 read-row-spec =

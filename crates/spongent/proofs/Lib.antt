@@ -1,0 +1,5 @@
+pub mod Layers
+pub mod Counter
+pub mod Turns
+pub mod ParametersOf
+pub mod Image

@@ -1,0 +1,55 @@
+-- The variants 6 to 10 are SPONGENT's, with the parameters of `spongentOf`; their sizes, and what the code's tables say of them.
+-- Assumes nothing.
+use mathlib.Core.Path.{_≡_, refl}
+use mathlib.Core.List.{List, [], _∷_}
+use Prim.Native.Nat.{ℕ, _-_, _≤_}
+use lib.ListN.{getD}
+use Rattle.standard.specs.Spongent.{SpongentParameters}
+use Rattle.standard.specs.Sponge.{spongent}
+use Rattle.standard.specs.Variants.{variant}
+use Rattle.standard.proofs.Tests.{six-to-ten}
+use Rattle.standard.proofs.SpongentVariants.{Sizes, sizes-88, sizes-136, sizes-176, sizes-240, sizes-272}
+use Rattle.spongent.specs.Parameters.{spongentOf, tapsOf}
+
+pub family-of : (v : ℕ) → 6 ≤ v → v ≤ 10 → variant v .family ≡ spongent (spongentOf v)
+unfolding variant spongentOf
+family-of = six-to-ten (λ v. variant v .family ≡ spongent (spongentOf v)) refl refl refl refl refl
+
+pub bits-of : (v : ℕ) → 6 ≤ v → v ≤ 10 → variant v .t ≡ spongentOf v .t
+unfolding variant spongentOf
+bits-of = six-to-ten (λ v. variant v .t ≡ spongentOf v .t) refl refl refl refl refl
+
+pub sizes-of : (v : ℕ) → 6 ≤ v → v ≤ 10 → Sizes (spongentOf v)
+unfolding variant spongentOf
+sizes-of = six-to-ten (λ v. Sizes (spongentOf v)) sizes-88 sizes-136 sizes-176 sizes-240 sizes-272
+
+-- the code's tables
+abbrev pub stateBits : List ℕ
+stateBits = 88 ∷ 136 ∷ 176 ∷ 240 ∷ 272 ∷ []
+
+abbrev pub roundCounts : List ℕ
+roundCounts = 45 ∷ 70 ∷ 90 ∷ 120 ∷ 140 ∷ []
+
+abbrev pub widths : List ℕ
+widths = 6 ∷ 7 ∷ 7 ∷ 7 ∷ 8 ∷ []
+
+abbrev pub firsts : List ℕ
+firsts = 0x05 ∷ 0x7a ∷ 0x45 ∷ 0x01 ∷ 0x9e ∷ []
+
+-- they hold p at index i
+pub record Tabled (p : SpongentParameters) (i : ℕ) : Type 0 where
+  pub bits : getD stateBits i 0 ≡ p .t
+  pub count : getD roundCounts i 0 ≡ p .R
+  pub width : getD widths i 0 ≡ p .width
+  pub start : getD firsts i 0 ≡ p .first
+  pub taps : tapsOf (p .width) ≡ p .taps
+
+pub tabled : (v : ℕ) → 6 ≤ v → v ≤ 10 → Tabled (spongentOf v) (v - 6)
+unfolding variant spongentOf tapsOf
+tabled =
+    six-to-ten (λ v. Tabled (spongentOf v) (v - 6))
+    (record { bits = refl; count = refl; width = refl; start = refl; taps = refl })
+    (record { bits = refl; count = refl; width = refl; start = refl; taps = refl })
+    (record { bits = refl; count = refl; width = refl; start = refl; taps = refl })
+    (record { bits = refl; count = refl; width = refl; start = refl; taps = refl })
+    (record { bits = refl; count = refl; width = refl; start = refl; taps = refl })

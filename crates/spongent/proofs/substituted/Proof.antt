@@ -1,0 +1,71 @@
+-- `substituted` is sBoxLayer on the first n bytes. The loop's invariant: the first i bytes are replaced.
+-- Assumes nothing.
+use mathlib.Core.Path.{_≡_, refl, sym, ap, ap₂, _∙_}
+use mathlib.Core.List.{List}
+use Prim.Native.Nat.{ℕ, _-_, _≤_}
+use native.Mathlib.Omega.{arith}
+use native.Mathlib.Numerals.{add-one}
+use lib.ListN.{getD, set}
+use Rattle.standard.specs.Bits.{low-first, bitsIn}
+use Rattle.arrays.proofs.Mapped.{mapped, mapped-at, mapped-set}
+use Rattle.spongent.proofs.Layers.{byteBy, mapped-bits}
+use Rattle.spongent.proofs.substituted.Statement.{statement}
+use Rattle.spongent.proofs.substituted.Tie as tie
+
+abbrev Inv-loop : tie.InvT-loop
+Inv-loop n table out₀ i₀ out i = (i ≤ n) × (out ≡ mapped (byteBy table) i out₀)
+
+abbrev μ-loop : tie.MeasureT-loop
+μ-loop n table out₀ i₀ out i = n - i
+
+loop-holds : tie.Need-loop-holds Inv-loop μ-loop
+loop-holds c = (omega arith, refl)
+
+array-read-substituted-byte : tie.Need-array-read-substituted-byte Inv-loop μ-loop
+array-read-substituted-byte c = omega arith
+
+substituted-byte-requires : tie.Need-substituted-byte-requires Inv-loop μ-loop
+substituted-byte-requires c κs = c .before .before .pre .1
+
+array-write-out : tie.Need-array-write-out Inv-loop μ-loop
+array-write-out c = omega arith
+
+add-i : tie.Need-add-i Inv-loop μ-loop
+add-i c = omega arith
+
+loop-less : tie.Need-loop-less Inv-loop μ-loop
+loop-less c = omega arith
+
+loop-again : tie.Need-loop-again Inv-loop μ-loop
+loop-again c =
+    let a = c .before .before in
+    let f : ℕ → ℕ = byteBy (a .before .args .table) in
+    let i : ℕ = a .loop .i in
+    let s : List ℕ = a .before .args .s in (
+      omega arith,
+      ap₂ (λ (l : List ℕ) (v : ℕ). set l i v) (a .loop .inv .1) (c .substituted-byte .ensures ∙ ap f (ap (λ (l : List ℕ). getD l i 0) (a .loop .inv .1) ∙ mapped-at f i s))
+          ∙ mapped-set f i s (omega arith) ∙ ap (λ (m : ℕ). mapped f m s) (sym (add-one i)),
+    )
+
+returns : tie.Need-returns Inv-loop μ-loop
+returns c =
+    let a = c .before in
+    let f : List ℕ = a .before .args .table in
+    let e : a .loop .i ≡ a .before .args .n = omega arith in
+    ap (bitsIn low-first) (a .loop .inv .1 ∙ ap (λ (m : ℕ). mapped (byteBy f) m (a .before .args .s)) e)
+    ∙ mapped-bits f (a .before .args .n) (a .before .args .s)
+
+pub substituted-spec : {M : Type 1} → statement M
+substituted-spec =
+    tie.close
+    (tie.spec
+    Inv-loop
+    μ-loop
+    loop-holds
+    array-read-substituted-byte
+    substituted-byte-requires
+    array-write-out
+    add-i
+    loop-less
+    loop-again
+    returns)

@@ -1,0 +1,241 @@
+-- SPONGENT for any state of t bits: what each layer keeps, and that the layers, a round and the permutation are undone by their opposites.
+-- Assumes nothing.
+use mathlib.Core.Path.{_≡_, refl, sym, ap, ap₂, _∙_, subst}
+use mathlib.Core.Bool.{Bool, true, false, xor}
+use mathlib.Core.List.{List, [], _∷_, _++_}
+use mathlib.Core.Logic.{⊎-elim, _⊎_}
+use Prim.Native.Nat.{ℕ, zero, suc, _+_, _-_, _*_, _/_, _%_, _^_, _≤_, _<_}
+use native.Mathlib.Nat.{le-of-suc-le-suc, not-suc-le-zero, mul-assoc, mul-comm, div-add-mod', add-mul, mul-add-mod-self-right, mod-eq-of-lt, mod-lt, eq-or-lt-of-le, mul-suc, mul-right-comm}
+use native.Mathlib.Omega.{arith}
+use lib.ListN.{length, getD, set, length-set, length-replicate}
+use lib.Seq.{getD-set-same, getD-set-other, ext-getD}
+use lib.Dec.{T, eqb, ltb}
+use borrow.Author.Tests.{eq-eqb, ne-eqb}
+use Rattle.standard.specs.Bits.{low-first, high-first, lowBits, lowValue, bitsOf, xorInto}
+use Rattle.standard.specs.Rounds.{Direction, forward, backward, opposite}
+use Rattle.standard.specs.Spongent.{cAddition, nibbles, unnibbles, sBoxLayer, goesTo, placed, pLayer, spongentRound, SpongentParameters, lCounters, spongentPermutation}
+use Rattle.standard.proofs.BitLaws.{length-xorInto, xorInto-twice, lowValue-lowBits, lowBits-lowValue, lowValue-lt}
+use Rattle.standard.proofs.Tests.{below, same-below, bound-below}
+use Rattle.standard.proofs.Undo.{All, all-of, rounds-keep, rounds-undo}
+
+-- ---- pLayer
+
+pub length-placed : (f : ℕ → ℕ) (t : ℕ) (s : List Bool) (n : ℕ) → length (placed f t s n) ≡ t
+unfolding placed
+length-placed f t s zero = length-replicate t false
+length-placed f t s (suc j) = length-set (placed f t s j) (f j) (getD s j false) ∙ length-placed f t s j
+
+-- f stays below t, and g takes it back
+pub record Back (t : ℕ) (f g : ℕ → ℕ) : Type 0 where
+  pub within : (j : ℕ) → j < t → f j < t
+  pub back : (j : ℕ) → j < t → g (f j) ≡ j
+
+module _ (f g : ℕ → ℕ) (t : ℕ) (u : Back t f g) (s : List Bool) where
+  -- bit j stands where f says, and no later bit is put there
+  placed-there : (n j : ℕ) → n ≤ t → j < n → getD (placed f t s n) (f j) false ≡ getD s j false
+  unfolding placed
+  placed-there zero j hn h = absurd (not-suc-le-zero h)
+  placed-there (suc n) j hn h =
+      ⊎-elim
+      (λ e. subst (λ (m : ℕ). getD (set (placed f t s n) (f n) (getD s n false)) (f m) false ≡ getD s m false) (sym e)
+      (getD-set-same (placed f t s n) (f n) (getD s n false) false (rw (length-placed f t s n) (u .within n hn))))
+      (λ l. getD-set-other (placed f t s n) (f n) (f j) (getD s n false) false
+      (λ e. let z : j ≡ n = sym (u .back j (omega arith)) ∙ ap g e ∙ u .back n hn in omega arith)
+      ∙ placed-there n j (omega arith) l)
+      (eq-or-lt-of-le (le-of-suc-le-suc h))
+
+module _ (f g : ℕ → ℕ) (t : ℕ) (u : Back t f g) (v : Back t g f) where
+  -- bit k of the result comes from where g says
+  pub placed-at : (s : List Bool) (k : ℕ) → k < t → getD (placed f t s t) k false ≡ getD s (g k) false
+  placed-at s k h =
+      ap (λ (m : ℕ). getD (placed f t s t) m false) (sym (v .back k h)) ∙ placed-there f g t u s t (g k) (omega arith) (v .within k h)
+
+pub placed-undo : (f g : ℕ → ℕ) (t : ℕ) → Back t f g → Back t g f → (s : List Bool) → length s ≡ t → placed g t (placed f t s t) t ≡ s
+placed-undo f g t u v s e =
+    ext-getD false (placed g t (placed f t s t) t) s (length-placed g t (placed f t s t) t ∙ sym e)
+    (λ k h. let h′ : k < t = subst (λ (m : ℕ). k < m) (length-placed g t (placed f t s t) t) h in
+    placed-at g f t v u (placed f t s t) k h′ ∙ placed-at f g t u v s (f k) (u .within k h′) ∙ ap (λ (m : ℕ). getD s m false) (u .back k h′))
+
+mod-mul-mod : (a b n : ℕ) → a % n * b % n ≡ a * b % n
+mod-mul-mod a b n =
+    sym (ap (λ (x : ℕ). x * b % n) (sym (div-add-mod' a n))
+    ∙ ap (λ (x : ℕ). x % n) (add-mul (a / n * n) (a % n) b ∙ ap (λ (x : ℕ). x + a % n * b) (mul-right-comm (a / n) n b))
+    ∙ mul-add-mod-self-right (a / n * b) n (a % n * b))
+
+pub goesTo-last : (t m j : ℕ) → j ≡ t - 1 → goesTo t m j ≡ j
+unfolding goesTo
+goesTo-last t m j e = rw (eq-eqb j (t - 1) e)
+
+pub goesTo-other : (t m j : ℕ) → j < t - 1 → goesTo t m j ≡ j * m % (t - 1)
+unfolding goesTo
+goesTo-other t m j h = rw (ne-eqb j (t - 1) (λ e. omega arith))
+
+last? : (t j : ℕ) → j < t → (j ≡ t - 1) ⊎ (j < t - 1)
+last? t j h = eq-or-lt-of-le (omega arith)
+
+pub goesTo-within : (t m j : ℕ) → j < t → goesTo t m j < t
+goesTo-within t m j h =
+    ⊎-elim (λ e. rw (goesTo-last t m j e) h)
+    (λ l. rw (goesTo-other t m j l) (omega (arith, mod-lt (j * m) {m = t - 1} (omega arith)))) (last? t j h)
+
+times-mod : (j u t : ℕ) → t ≡ suc u → j < u → j * t % u ≡ j
+times-mod j u t e h = rw (e, mul-suc j u) (mul-add-mod-self-right j u j ∙ mod-eq-of-lt h)
+
+-- j * a * b is j * t, and t is 1 modulo t - 1
+goesTo-undo : (t a b : ℕ) → a * b ≡ t → (j : ℕ) → j < t → goesTo t b (goesTo t a j) ≡ j
+goesTo-undo t a b e j h =
+    ⊎-elim
+    (λ l. ap (goesTo t b) (goesTo-last t a j l) ∙ goesTo-last t b j l)
+    (λ l. ap (goesTo t b) (goesTo-other t a j l)
+    ∙ goesTo-other t b (j * a % (t - 1)) (mod-lt (j * a) {m = t - 1} (omega arith))
+    ∙ mod-mul-mod (j * a) b (t - 1)
+    ∙ ap (λ (x : ℕ). x % (t - 1)) (mul-assoc j a b ∙ ap (λ (x : ℕ). j * x) e)
+    ∙ times-mod j (t - 1) t (omega arith) l)
+    (last? t j h)
+
+pub goesTo-back : (t a b : ℕ) → a * b ≡ t → Back t (goesTo t a) (goesTo t b)
+goesTo-back t a b e = record { within = goesTo-within t a; back = goesTo-undo t a b e }
+
+pub length-pLayer : (t m : ℕ) (s : List Bool) → length (pLayer t m s) ≡ t
+unfolding pLayer
+length-pLayer t m s = length-placed (goesTo t m) t s t
+
+pub pLayer-at : (t a b : ℕ) → a * b ≡ t → (s : List Bool) (k : ℕ) → k < t → getD (pLayer t a s) k false ≡ getD s (goesTo t b k) false
+unfolding pLayer
+pLayer-at t a b e s k h = placed-at (goesTo t a) (goesTo t b) t (goesTo-back t a b e) (goesTo-back t b a (mul-comm b a ∙ e)) s k h
+
+pub pLayer-undo : (t a b : ℕ) → a * b ≡ t → (s : List Bool) → length s ≡ t → pLayer t b (pLayer t a s) ≡ s
+unfolding pLayer
+pLayer-undo t a b e s h = placed-undo (goesTo t a) (goesTo t b) t (goesTo-back t a b e) (goesTo-back t b a (mul-comm b a ∙ e)) s h
+
+-- ---- sBoxLayer
+
+pub length-sBoxLayer : (box : List ℕ) (s : List Bool) → length (sBoxLayer box s) ≡ length s
+unfolding sBoxLayer lowBits
+length-sBoxLayer box [] = refl
+length-sBoxLayer box (a ∷ []) = refl
+length-sBoxLayer box (a ∷ b ∷ []) = refl
+length-sBoxLayer box (a ∷ b ∷ c ∷ []) = refl
+length-sBoxLayer box (a ∷ b ∷ c ∷ d ∷ s) = ap (λ (n : ℕ). suc (suc (suc (suc n)))) (length-sBoxLayer box s)
+
+abbrev pub entry : List ℕ → ℕ → ℕ
+entry box x = getD box x 0
+
+-- the second table takes back the nibbles of the first
+module _ (box unbox : List ℕ) (h : Back 16 (entry box) (entry unbox)) where
+  nibble-undo : (bs : List Bool) → length bs ≡ 4 → lowBits 4 (entry unbox (lowValue (lowBits 4 (entry box (lowValue bs))))) ≡ bs
+  nibble-undo bs e =
+      let lt : lowValue bs < 16 = subst (λ (m : ℕ). lowValue bs < 2 ^ m) e (lowValue-lt bs) in
+      ap (λ (x : ℕ). lowBits 4 (entry unbox x)) (lowValue-lowBits 4 (entry box (lowValue bs)) (h .within (lowValue bs) lt))
+      ∙ ap (lowBits 4) (h .back (lowValue bs) lt)
+      ∙ ap (λ (m : ℕ). lowBits m (lowValue bs)) (sym e) ∙ lowBits-lowValue bs
+
+  first-nibble : (y : ℕ) (s : List Bool) → sBoxLayer unbox (lowBits 4 y ++ s) ≡ lowBits 4 (entry unbox (lowValue (lowBits 4 y))) ++ sBoxLayer unbox s
+  unfolding sBoxLayer lowBits
+  first-nibble y s = refl
+
+  pub sBoxLayer-undo : (s : List Bool) → sBoxLayer unbox (sBoxLayer box s) ≡ s
+  unfolding sBoxLayer
+  sBoxLayer-undo [] = refl
+  sBoxLayer-undo (a ∷ []) = refl
+  sBoxLayer-undo (a ∷ b ∷ []) = refl
+  sBoxLayer-undo (a ∷ b ∷ c ∷ []) = refl
+  sBoxLayer-undo (a ∷ b ∷ c ∷ d ∷ s) =
+      first-nibble (entry box (lowValue (a ∷ b ∷ c ∷ d ∷ []))) (sBoxLayer box s)
+      ∙ ap₂ (λ (k l : List Bool). k ++ l) (nibble-undo (a ∷ b ∷ c ∷ d ∷ []) refl) (sBoxLayer-undo s)
+
+-- the rule of two tables, by one test that is computed at each of the 16 entries
+tables-back : (box unbox : List ℕ) → T (below (λ x. ltb (entry box x) 16) 16) → T (below (λ x. eqb (entry unbox (entry box x)) x) 16)
+    → Back 16 (entry box) (entry unbox)
+tables-back box unbox small same =
+    record { within = bound-below (entry box) 16 16 small; back = same-below (λ x. entry unbox (entry box x)) (λ x. x) 16 same }
+
+pub nibbles-back : Back 16 (entry nibbles) (entry unnibbles)
+nibbles-back = tables-back nibbles unnibbles tt tt
+
+pub unnibbles-back : Back 16 (entry unnibbles) (entry nibbles)
+unnibbles-back = tables-back unnibbles nibbles tt tt
+
+-- ---- cAddition
+
+pub length-cAddition : (t c : ℕ) (s : List Bool) → length (cAddition t c s) ≡ length s
+unfolding cAddition
+length-cAddition t c s = length-xorInto (xorInto s (bitsOf low-first t c)) (bitsOf high-first t c) ∙ length-xorInto s (bitsOf low-first t c)
+
+xor-swap : (x y z : Bool) → xor (xor x y) z ≡ xor (xor x z) y
+unfolding xor
+xor-swap true true true = refl
+xor-swap true true false = refl
+xor-swap true false true = refl
+xor-swap true false false = refl
+xor-swap false true true = refl
+xor-swap false true false = refl
+xor-swap false false true = refl
+xor-swap false false false = refl
+
+xorInto-swap : (s a b : List Bool) → xorInto (xorInto s a) b ≡ xorInto (xorInto s b) a
+unfolding xorInto
+xorInto-swap [] a b = refl
+xorInto-swap (x ∷ s) [] [] = refl
+xorInto-swap (x ∷ s) (y ∷ a) [] = refl
+xorInto-swap (x ∷ s) [] (z ∷ b) = refl
+xorInto-swap (x ∷ s) (y ∷ a) (z ∷ b) = ap₂ (λ (u : Bool) (l : List Bool). u ∷ l) (xor-swap x y z) (xorInto-swap s a b)
+
+pub cAddition-twice : (t c : ℕ) (s : List Bool) → cAddition t c (cAddition t c s) ≡ s
+unfolding cAddition
+cAddition-twice t c s =
+    let a : List Bool = bitsOf low-first t c in
+    let b : List Bool = bitsOf high-first t c in
+    ap (λ (l : List Bool). xorInto l b) (xorInto-swap (xorInto s a) b a)
+    ∙ xorInto-twice (xorInto (xorInto s a) a) b ∙ xorInto-twice s a
+
+-- ---- rounds
+
+pub length-spongentRound : (t : ℕ) (w : Direction) (s : List Bool) (c : ℕ) → length (spongentRound t w s c) ≡ t
+unfolding spongentRound
+length-spongentRound t forward s c = length-pLayer t (t / 4) (sBoxLayer nibbles (cAddition t c s))
+length-spongentRound t backward s c =
+    length-cAddition t c (sBoxLayer unnibbles (pLayer t 4 s)) ∙ length-sBoxLayer unnibbles (pLayer t 4 s) ∙ length-pLayer t 4 s
+
+quarter : (t : ℕ) → t % 4 ≡ 0 → t / 4 * 4 ≡ t
+quarter t h = omega arith
+
+pub spongentRound-undo : (t : ℕ) → t % 4 ≡ 0 → (w : Direction) (s : List Bool) (c : ℕ) → length s ≡ t
+    → spongentRound t (opposite w) (spongentRound t w s c) c ≡ s
+unfolding spongentRound
+spongentRound-undo t h forward s c e =
+    ap (λ (l : List Bool). cAddition t c (sBoxLayer unnibbles l))
+    (pLayer-undo t (t / 4) 4 (quarter t h) (sBoxLayer nibbles (cAddition t c s)) (length-sBoxLayer nibbles (cAddition t c s) ∙ length-cAddition t c s ∙ e))
+    ∙ ap (cAddition t c) (sBoxLayer-undo nibbles unnibbles nibbles-back (cAddition t c s))
+    ∙ cAddition-twice t c s
+spongentRound-undo t h backward s c e =
+    ap (λ (l : List Bool). pLayer t (t / 4) (sBoxLayer nibbles l)) (cAddition-twice t c (sBoxLayer unnibbles (pLayer t 4 s)))
+    ∙ ap (pLayer t (t / 4)) (sBoxLayer-undo unnibbles nibbles unnibbles-back (pLayer t 4 s))
+    ∙ pLayer-undo t 4 (t / 4) (mul-comm 4 (t / 4) ∙ quarter t h) s e
+
+-- ---- the permutation
+
+-- the rounds ask nothing of a counter
+abbrev AnyCounter : ℕ → Type 0
+AnyCounter c = Unit {0}
+
+any-counters : (cs : List ℕ) → All AnyCounter cs
+any-counters cs = all-of AnyCounter cs (λ k h. tt)
+
+module _ (p : SpongentParameters) (h : p .t % 4 ≡ 0) where
+  abbrev Sized : List Bool → Type 0
+  Sized s = length s ≡ p .t
+
+  keeps : (w : Direction) (s : List Bool) (c : ℕ) → Sized s → AnyCounter c → Sized (spongentRound (p .t) w s c)
+  keeps w s c e u = length-spongentRound (p .t) w s c
+
+  undo : (w : Direction) (s : List Bool) (c : ℕ) → Sized s → AnyCounter c → spongentRound (p .t) (opposite w) (spongentRound (p .t) w s c) c ≡ s
+  undo w s c e u = spongentRound-undo (p .t) h w s c e
+
+  pub length-spongentPermutation : (w : Direction) (s : List Bool) → length s ≡ p .t → length (spongentPermutation p w s) ≡ p .t
+  unfolding spongentPermutation
+  length-spongentPermutation w s e = rounds-keep Sized AnyCounter (spongentRound (p .t)) keeps undo w (lCounters p) (any-counters (lCounters p)) s e
+
+  pub spongentPermutation-undo : (w : Direction) (s : List Bool) → length s ≡ p .t → spongentPermutation p (opposite w) (spongentPermutation p w s) ≡ s
+  unfolding spongentPermutation
+  spongentPermutation-undo w s e = rounds-undo Sized AnyCounter (spongentRound (p .t)) keeps undo w (lCounters p) (any-counters (lCounters p)) s e
