@@ -1,3 +1,4 @@
+-- Laws that the proofs of the crate's functions share.
 pub mod ParametersOf
 pub mod MixLoops
 pub mod StepsOf
