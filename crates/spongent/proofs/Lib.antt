@@ -3,3 +3,4 @@ pub mod Counter
 pub mod Turns
 pub mod ParametersOf
 pub mod Image
+pub mod Places
