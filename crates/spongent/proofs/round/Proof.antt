@@ -12,7 +12,8 @@ use Rattle.standard.specs.Bits.{low-first, bitsIn}
 use Rattle.standard.specs.Rounds.{direction}
 use Rattle.standard.specs.Spongent.{nibbles, unnibbles, cAddition, sBoxLayer, pLayer, spongentRound}
 use Rattle.standard.proofs.BitLaws.{length-bitsIn}
-use Rattle.standard.proofs.SpongentLaws.{nibbles-back, unnibbles-back, length-pLayer, length-sBoxLayer, length-cAddition}
+use Rattle.standard.proofs.Tests.{bound-below}
+use Rattle.standard.proofs.SpongentLaws.{length-pLayer, length-sBoxLayer, length-cAddition}
 use Rattle.spongent.proofs.Layers.{first-bits, layer-after}
 use Rattle.spongent.proofs.Places.{quarter-divides, quarter-back}
 use Rattle.spongent.proofs.round.Statement.{statement}
@@ -22,7 +23,7 @@ moved-requires : tie.Need-moved-requires
 moved-requires c κs = (omega arith, (omega arith, quarter-divides (c .before .args .t) (omega arith)))
 
 substituted-requires : tie.Need-substituted-requires
-substituted-requires c κs = (omega arith, unnibbles-back .within)
+substituted-requires c κs = (omega arith, bound-below _ 16 16 tt)
 
 with-counter-requires : tie.Need-with-counter-requires
 with-counter-requires c κs = search needs
@@ -52,7 +53,7 @@ with-counter-requires-2 : tie.Need-with-counter-requires-2
 with-counter-requires-2 c κs = search needs
 
 substituted-requires-2 : tie.Need-substituted-requires-2
-substituted-requires-2 c κs = (omega arith, nibbles-back .within)
+substituted-requires-2 c κs = (omega arith, bound-below _ 16 16 tt)
 
 moved-requires-2 : tie.Need-moved-requires-2
 moved-requires-2 c κs = search needs
