@@ -4,18 +4,10 @@ ghost use mathlib.Core.Bool.{false};
 ghost use mathlib.Core.List.{List, _++_};
 ghost use Prim.Native.Nat.{ℕ, _+_, _-_, _*_, _/_, _%_, _<_, _≤_};
 ghost use lib.ListN.{length, getD, take, drop, replicate};
-ghost use Rattle.standard.specs.Bits.{low-first, high-first, digit, bitsIn, bitsOf, lowBits, lowValue, pack, unpack};
+ghost use Rattle.standard.specs.Bits.{low-first, high-first, bitsIn, bitsOf, lowBits, lowValue, pack, unpack};
 ghost use Rattle.standard.specs.Rounds.{direction, inTurn, rounds};
 ghost use Rattle.standard.specs.Spongent.{sBoxLayer, goesTo, pLayer, cAddition, nextCounter, counters, spongentRound, spongentPermutation};
 ghost use Rattle.spongent.specs.Parameters.{spongentOf, tapsOf};
-
-// The bit k of the bytes.
-fn bit_at(s: [u8; 36], k: usize) -> u8
-    requires { ⌜ k < 288 ⌝ }
-    ensures { λ r. ⌜ r ≡ digit (getD (bitsIn low-first s) k false) ⌝ }
-{
-    (s[k / 8] >> (k % 8)) % 2
-}
 
 // The byte with its bits in the reverse order.
 fn reversed(b: u8) -> u8
@@ -95,7 +87,7 @@ fn substituted(s: [u8; 36], n: usize, table: [u8; 16]) -> [u8; 36]
     out
 }
 
-// Where bit j goes by the factor m, or comes from where the factor is that of the inverse.
+// Where the factor m takes bit j: the place that bit j comes from, where m is the factor of the inverse.
 fn goes_to(t: usize, m: usize, j: usize) -> usize
     requires { ⌜ (j < t) × ((t ≤ 288) × (m < t)) ⌝ }
     ensures { λ r. ⌜ (r ≡ goesTo t m j) × (r < t) ⌝ }
@@ -104,7 +96,7 @@ fn goes_to(t: usize, m: usize, j: usize) -> usize
     if j == last { j } else { j * m % last }
 }
 
-// The place of the next bit, from the place p of a bit: no division.
+// The place of the next bit, from the place p of a bit. A division for each bit would take most of the time.
 fn next_place(t: usize, m: usize, p: usize) -> usize
     requires { ⌜ (p < t) × ((t ≤ 288) × (m < t)) ⌝ }
     requires { ⌜ (0 < m) × (t % m ≡ 0) ⌝ }
@@ -124,14 +116,15 @@ fn moved_byte(s: [u8; 36], t: usize, m: usize, j: usize) -> u8
     let mut p = goes_to(t, m, j);
     let mut i: usize = 0;
     while i < 8 {
-        b = b + (bit_at(s, p) << i);
+        let bit = (s[p / 8] >> (p % 8)) % 2;
+        b = b + (bit << i);
         p = next_place(t, m, p);
         i += 1;
     }
     b
 }
 
-// pLayer by the factor t / m on the first t bits, with zeros behind them. It reads each bit from where it comes, so that a byte is written once.
+// pLayer by the factor t / m on the first t bits, with zeros behind them. Each bit is read from where it comes from, so that a byte is written once.
 fn moved(s: [u8; 36], t: usize, m: usize) -> [u8; 36]
     requires { ⌜ (t ≤ 288) × ((t % 8 ≡ 0) × (m < t)) ⌝ }
     requires { ⌜ (0 < m) × (t % m ≡ 0) ⌝ }

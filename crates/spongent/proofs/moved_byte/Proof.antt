@@ -10,34 +10,40 @@ use lib.ListN.{length, getD, take, drop}
 use lib.Seq.{getD-take}
 use Rattle.standard.specs.Bits.{low-first, digit, lowValue, bitsIn}
 use Rattle.standard.specs.Spongent.{goesTo}
+use Rattle.standard.proofs.BitLaws.{bitsIn-digit}
 use Rattle.standard.proofs.SpongentLaws.{length-pLayer, pLayer-at}
 use Rattle.spongent.proofs.Places.{whole, moved, byte-more, byte-fits}
 use Rattle.spongent.proofs.moved_byte.Statement.{statement}
 use Rattle.spongent.proofs.moved_byte.Tie as tie
 
 abbrev Inv-loop : tie.InvT-loop
-Inv-loop s t m j b₀ p₀ i₀ b p i =
+Inv-loop t m j s b₀ p₀ i₀ b p i =
     (i ≤ 8) × (p < t) × (i < 8 → p ≡ goesTo t m (j + i)) × (b ≡ lowValue (take i (drop j (moved s t m))))
 
 abbrev μ-loop : tie.MeasureT-loop
-μ-loop s t m j b₀ p₀ i₀ b p i = 8 - i
+μ-loop t m j s b₀ p₀ i₀ b p i = 8 - i
 
--- one bit more: d, read at p
-module _ (s : List ℕ) (t m j i b p d : ℕ) (div : t % m ≡ 0) (hj : j + 8 ≤ t) (hi : i < 8) (hp : p < t) (ep : p ≡ goesTo t m (j + i))
-    (eb : b ≡ lowValue (take i (drop j (moved s t m)))) (ed : d ≡ digit (getD (bitsIn low-first s) p false)) where
+-- the bit of s at p, as the code reads it
+abbrev bitAt : List ℕ → ℕ → ℕ
+bitAt s p = getD s (p / 8) 0 / 2 ^ (p % 8) % 2
+
+-- one bit more, which comes from p
+module _ (s : List ℕ) (t m j i b p : ℕ) (ls : length s ≡ 36) (most : t ≤ 288) (div : t % m ≡ 0) (hj : j + 8 ≤ t) (hi : i < 8) (hp : p < t)
+    (ep : p ≡ goesTo t m (j + i)) (eb : b ≡ lowValue (take i (drop j (moved s t m)))) where
   long : j + i < length (moved s t m)
   long = rw (length-pLayer t (t / m) (take t (bitsIn low-first s))) (omega arith)
 
-  read : d ≡ digit (getD (moved s t m) (j + i) false)
+  read : bitAt s p ≡ digit (getD (moved s t m) (j + i) false)
   read =
-      ed ∙ ap digit (sym (getD-take t (bitsIn low-first s) p false hp) ∙ ap (λ (x : ℕ). getD (take t (bitsIn low-first s)) x false) ep
+      sym (bitsIn-digit s p (omega arith))
+      ∙ ap digit (sym (getD-take t (bitsIn low-first s) p false hp) ∙ ap (λ (x : ℕ). getD (take t (bitsIn low-first s)) x false) ep
       ∙ sym (pLayer-at t (t / m) m (whole t m div) (take t (bitsIn low-first s)) (j + i) (omega arith)))
 
-  fits : b + d * 2 ^ i % 256 < 256
-  fits = byte-fits (moved s t m) j i b d hi long eb read
+  fits : b + bitAt s p * 2 ^ i % 256 < 256
+  fits = byte-fits (moved s t m) j i b (bitAt s p) hi long eb read
 
-  more : b + d * 2 ^ i % 256 ≡ lowValue (take (i + 1) (drop j (moved s t m)))
-  more = byte-more (moved s t m) j i b d hi long eb read
+  more : b + bitAt s p * 2 ^ i % 256 ≡ lowValue (take (i + 1) (drop j (moved s t m)))
+  more = byte-more (moved s t m) j i b (bitAt s p) hi long eb read
 
 goes-to-requires : tie.Need-goes-to-requires Inv-loop μ-loop
 goes-to-requires c κs = omega arith
@@ -48,8 +54,14 @@ loop-holds c =
     let a = c .before .args in
     (omega arith, c .goes-to .ensures .1, λ h. c .goes-to .ensures .0 ∙ ap (goesTo (a .t) (a .m)) (sym (add-zero (a .j))), refl)
 
-bit-at-requires : tie.Need-bit-at-requires Inv-loop μ-loop
-bit-at-requires c κs = omega arith
+array-read-bit : tie.Need-array-read-bit Inv-loop μ-loop
+array-read-bit c = omega arith
+
+cast-bit : tie.Need-cast-bit Inv-loop μ-loop
+cast-bit c = omega arith
+
+shr-bit : tie.Need-shr-bit Inv-loop μ-loop
+shr-bit c = omega arith
 
 cast-b : tie.Need-cast-b Inv-loop μ-loop
 cast-b c = omega arith
@@ -59,18 +71,18 @@ shl-b c = omega arith
 
 add-b : tie.Need-add-b Inv-loop μ-loop
 add-b c =
-    let l = c .before .before .loop in
-    let s = c .before .before .before .before in
-    let a = s .args in
+    let l = c .before .loop in
+    let start = c .before .before .before in
+    let a = start .args in
     let hi : l .i < 8 = omega arith in
     omega (
       arith,
-      fits (a .s) (a .t) (a .m) (a .j) (l .i) (l .b) (l .p) (c .bit-at .result) (s .pre .1 .1) (omega arith) hi (l .inv .1) (l .inv .2 hi) (l .inv .3)
-          (c .bit-at .ensures),
+      fits (a .t1) (a .t) (a .m) (a .j) (l .i) (l .b) (l .p) (omega arith) (omega arith) (start .pre .1 .1) (omega arith) hi (l .inv .1) (l .inv .2 hi)
+          (l .inv .3),
     )
 
 next-place-requires : tie.Need-next-place-requires Inv-loop μ-loop
-next-place-requires c κs = (omega arith, (omega arith, c .before .before .before .before .pre .1 .1))
+next-place-requires c κs = (omega arith, (omega arith, c .before .before .before .pre .1 .1))
 
 add-i : tie.Need-add-i Inv-loop μ-loop
 add-i c = omega arith
@@ -80,22 +92,22 @@ loop-less c = omega arith
 
 loop-again : tie.Need-loop-again Inv-loop μ-loop
 loop-again c =
-    let l = c .before .before .before .loop in
-    let s = c .before .before .before .before .before in
-    let a = s .args in
+    let l = c .before .before .loop in
+    let start = c .before .before .before .before in
+    let a = start .args in
     let hi : l .i < 8 = omega arith in (
       omega arith,
       c .next-place .ensures .0,
       λ h. c .next-place .ensures .1 (a .j + l .i) (omega arith) (l .inv .2 hi) ∙ ap (goesTo (a .t) (a .m)) (add-assoc (a .j) (l .i) 1),
-      more (a .s) (a .t) (a .m) (a .j) (l .i) (l .b) (l .p) (c .before .bit-at .result) (s .pre .1 .1) (omega arith) hi (l .inv .1) (l .inv .2 hi) (l .inv .3)
-          (c .before .bit-at .ensures),
+      more (a .t1) (a .t) (a .m) (a .j) (l .i) (l .b) (l .p) (omega arith) (omega arith) (start .pre .1 .1) (omega arith) hi (l .inv .1) (l .inv .2 hi)
+          (l .inv .3),
     )
 
 returns : tie.Need-returns Inv-loop μ-loop
 returns c =
     let a = c .before .before .before .args in
     let e : c .before .loop .i ≡ 8 = omega arith in
-    c .before .loop .inv .3 ∙ ap (λ (n : ℕ). lowValue (take n (drop (a .j) (moved (a .s) (a .t) (a .m))))) e
+    c .before .loop .inv .3 ∙ ap (λ (n : ℕ). lowValue (take n (drop (a .j) (moved (a .t1) (a .t) (a .m))))) e
 
 pub moved-byte-spec : {M : Type 1} → statement M
 moved-byte-spec =
@@ -105,7 +117,9 @@ moved-byte-spec =
     μ-loop
     goes-to-requires
     loop-holds
-    bit-at-requires
+    array-read-bit
+    cast-bit
+    shr-bit
     cast-b
     shl-b
     add-b

@@ -25,9 +25,9 @@ returns c =
     let pre = c .before .pre in (
       omega arith,
       λ j h e.
-        let near : goesTo (a .t) (a .m) j + a .m < a .t = omega arith in
-        ap (λ (x : ℕ). x + a .m) e ∙ sym (next-near (a .t) (a .m) (pre .1 .0) (omega arith) (pre .1 .1) j (omega arith) near)
-        ∙ ap (goesTo (a .t) (a .m)) (sym (add-one j)),
+          let near : goesTo (a .t) (a .m) j + a .m < a .t = omega arith in
+          ap (λ (x : ℕ). x + a .m) e ∙ sym (next-near (a .t) (a .m) (pre .1 .0) (omega arith) (pre .1 .1) j (omega arith) near)
+          ∙ ap (goesTo (a .t) (a .m)) (sym (add-one j)),
     )
 
 returns-2 : tie.Need-returns-2
@@ -36,9 +36,9 @@ returns-2 c =
     let pre = c .before .pre in (
       omega arith,
       λ j h e.
-        let far : a .t ≤ goesTo (a .t) (a .m) j + a .m = omega arith in
-        ap (λ (x : ℕ). x + a .m - (a .t - 1)) e ∙ sym (next-far (a .t) (a .m) (pre .1 .0) (omega arith) (pre .1 .1) j (omega arith) far)
-        ∙ ap (goesTo (a .t) (a .m)) (sym (add-one j)),
+          let far : a .t ≤ goesTo (a .t) (a .m) j + a .m = omega arith in
+          ap (λ (x : ℕ). x + a .m - (a .t - 1)) e ∙ sym (next-far (a .t) (a .m) (pre .1 .0) (omega arith) (pre .1 .1) j (omega arith) far)
+          ∙ ap (goesTo (a .t) (a .m)) (sym (add-one j)),
     )
 
 pub next-place-spec : {M : Type 1} → statement M
