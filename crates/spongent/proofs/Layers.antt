@@ -3,16 +3,16 @@
 use mathlib.Core.Path.{_≡_, refl, sym, ap, ap₂, _∙_, subst}
 use mathlib.Core.Bool.{Bool, false}
 use mathlib.Core.List.{List, [], _∷_, _++_, map, append-nil}
-use Prim.Native.Nat.{ℕ, suc, _+_, _-_, _*_, _/_, _%_, _≤_, _<_}
+use Prim.Native.Nat.{ℕ, _+_, _-_, _*_, _/_, _%_, _≤_, _<_}
 use native.Mathlib.Nat.{mod-eq-of-lt, le-of-eq}
 use native.Mathlib.Omega.{arith}
 use lib.Bits.{bitXor}
-use lib.ListN.{length, getD, set, take, drop, replicate, length-set, replicate-append-replicate}
-use lib.Seq.{set-append-left, length-take-le, take-at, drop-at}
+use lib.ListN.{length, getD, set, take, drop, replicate, length-set}
+use lib.Seq.{length-take-le, take-at, drop-at}
 use Rattle.standard.specs.Bits.{low-first, high-first, lowBits, lowValue, ordered, bitsOf, bitsIn, xorInto}
-use Rattle.standard.specs.Spongent.{cAddition, sBoxLayer, placed}
+use Rattle.standard.specs.Spongent.{cAddition, sBoxLayer}
 use Rattle.standard.proofs.BitLaws.{length-lowBits, lowValue-lowBits, lowBits-lowValue, lowBits-add, lowValue-append, lowValue-of, bitsIn-append, bitsIn-take, bitsIn-drop, bitsIn-xor, xorInto-behind, xorInto-front, xorInto-append, xorInto-nil, length-xorInto, length-bitsOf, length-bitsIn, lowBits-byte, high-byte}
-use Rattle.standard.proofs.SpongentLaws.{length-sBoxLayer, length-placed}
+use Rattle.standard.proofs.SpongentLaws.{length-sBoxLayer}
 use Rattle.arrays.proofs.Mapped.{mapped}
 
 -- ---- sBoxLayer
@@ -58,19 +58,6 @@ mapped-bits box n s =
     ∙ ap₂ (λ (k l : List Bool). k ++ l)
     (sBoxLayer-bytes box (take n s) ∙ ap (sBoxLayer box) (sym (bitsIn-take low-first n s)))
     (sym (bitsIn-drop low-first n s))
-
--- ---- pLayer, bit by bit
-
-pub placed-none : (f : ℕ → ℕ) (t : ℕ) (bs : List Bool) → t ≤ 288 → bitsIn low-first (replicate 36 0) ≡ placed f t bs 0 ++ replicate (288 - t) false
-unfolding placed bitsIn bitsOf ordered lowBits
-placed-none f t bs h =
-    let e : 288 ≡ t + (288 - t) = omega arith in
-    ap (λ (n : ℕ). replicate n false) e ∙ sym (replicate-append-replicate t (288 - t) false)
-
-pub placed-more : (f : ℕ → ℕ) (t : ℕ) (bs z : List Bool) (j : ℕ) → f j < t
-    → set (placed f t bs j ++ z) (f j) (getD bs j false) ≡ placed f t bs (suc j) ++ z
-unfolding placed
-placed-more f t bs z j h = set-append-left (placed f t bs j) z (f j) (getD bs j false) (rw (length-placed f t bs j) h)
 
 -- ---- cAddition
 

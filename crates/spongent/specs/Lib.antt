@@ -1,1 +1,2 @@
+-- What the contracts of the SPONGENT permutation cite beyond the standard.
 pub mod Parameters

@@ -3,32 +3,11 @@ ghost use mathlib.Core.Path.{_≡_};
 ghost use mathlib.Core.Bool.{false};
 ghost use mathlib.Core.List.{List, _++_};
 ghost use Prim.Native.Nat.{ℕ, _+_, _-_, _*_, _/_, _%_, _<_, _≤_};
-ghost use lib.ListN.{length, getD, set, take, drop, replicate};
-ghost use Rattle.standard.specs.Bits.{low-first, high-first, digit, bit, bitsIn, bitsOf, lowBits, lowValue, pack, unpack};
+ghost use lib.ListN.{length, getD, take, drop, replicate};
+ghost use Rattle.standard.specs.Bits.{low-first, high-first, bitsIn, bitsOf, lowBits, lowValue, pack, unpack};
 ghost use Rattle.standard.specs.Rounds.{direction, inTurn, rounds};
 ghost use Rattle.standard.specs.Spongent.{sBoxLayer, goesTo, pLayer, cAddition, nextCounter, counters, spongentRound, spongentPermutation};
 ghost use Rattle.spongent.specs.Parameters.{spongentOf, tapsOf};
-
-// The bit k of the bytes.
-fn bit_at(s: [u8; 36], k: usize) -> u8
-    requires { ⌜ k < 288 ⌝ }
-    ensures { λ r. ⌜ r ≡ digit (getD (bitsIn low-first s) k false) ⌝ }
-{
-    (s[k / 8] >> (k % 8)) % 2
-}
-
-// The bytes with the bit k set to b.
-fn with_bit(s: [u8; 36], k: usize, b: u8) -> [u8; 36]
-    requires { ⌜ (k < 288) × (b < 2) ⌝ }
-    ensures { λ r. ⌜ bitsIn low-first r ≡ set (bitsIn low-first s) k (bit b) ⌝ }
-{
-    let mut out = s;
-    let i = k / 8;
-    let old = s[i];
-    let d = ((old >> (k % 8)) ^ b) % 2;
-    out[i] = old ^ (d << (k % 8));
-    out
-}
 
 // The byte with its bits in the reverse order.
 fn reversed(b: u8) -> u8
@@ -108,26 +87,55 @@ fn substituted(s: [u8; 36], n: usize, table: [u8; 16]) -> [u8; 36]
     out
 }
 
-// Where pLayer by the factor m puts bit j.
+// Where the factor m takes bit j: the place that bit j comes from, where m is the factor of the inverse.
 fn goes_to(t: usize, m: usize, j: usize) -> usize
-    requires { ⌜ (j < t) × ((t ≤ 288) × (m ≤ 288)) ⌝ }
+    requires { ⌜ (j < t) × ((t ≤ 288) × (m < t)) ⌝ }
     ensures { λ r. ⌜ (r ≡ goesTo t m j) × (r < t) ⌝ }
 {
     let last = t - 1;
     if j == last { j } else { j * m % last }
 }
 
-// pLayer by the factor m on the first t bits, with zeros behind them.
-fn moved(s: [u8; 36], t: usize, m: usize) -> [u8; 36]
-    requires { ⌜ (t ≤ 288) × (m ≤ 288) ⌝ }
-    ensures { λ r. ⌜ bitsIn low-first r ≡ pLayer t m (take t (bitsIn low-first s)) ++ replicate (288 - t) false ⌝ }
+// The place of the next bit, from the place p of a bit. A division for each bit would take most of the time.
+fn next_place(t: usize, m: usize, p: usize) -> usize
+    requires { ⌜ (p < t) × ((t ≤ 288) × (m < t)) ⌝ }
+    requires { ⌜ (0 < m) × (t % m ≡ 0) ⌝ }
+    ensures { λ r. ⌜ (r < t) × ((j : ℕ) → j + 1 < t → p ≡ goesTo t m j → r ≡ goesTo t m (j + 1)) ⌝ }
 {
+    let q = p + m;
+    if q < t { q } else { q - (t - 1) }
+}
+
+// The eight bits from j on, of the state moved by the factor t / m.
+fn moved_byte(s: [u8; 36], t: usize, m: usize, j: usize) -> u8
+    requires { ⌜ (j + 8 ≤ t) × ((t ≤ 288) × (m < t)) ⌝ }
+    requires { ⌜ (0 < m) × (t % m ≡ 0) ⌝ }
+    ensures { λ r. ⌜ r ≡ lowValue (take 8 (drop j (pLayer t (t / m) (take t (bitsIn low-first s))))) ⌝ }
+{
+    let mut b: u8 = 0;
+    let mut p = goes_to(t, m, j);
+    let mut i: usize = 0;
+    while i < 8 {
+        let bit = (s[p / 8] >> (p % 8)) % 2;
+        b = b + (bit << i);
+        p = next_place(t, m, p);
+        i += 1;
+    }
+    b
+}
+
+// pLayer by the factor t / m on the first t bits, with zeros behind them. Each bit is read from where it comes from, so that a byte is written once.
+fn moved(s: [u8; 36], t: usize, m: usize) -> [u8; 36]
+    requires { ⌜ (t ≤ 288) × ((t % 8 ≡ 0) × (m < t)) ⌝ }
+    requires { ⌜ (0 < m) × (t % m ≡ 0) ⌝ }
+    ensures { λ r. ⌜ bitsIn low-first r ≡ pLayer t (t / m) (take t (bitsIn low-first s)) ++ replicate (288 - t) false ⌝ }
+{
+    let n = t / 8;
     let mut out = [0u8; 36];
-    let mut j: usize = 0;
-    while j < t {
-        let next = with_bit(out, goes_to(t, m, j), bit_at(s, j));
-        out = next;
-        j += 1;
+    let mut i: usize = 0;
+    while i < n {
+        out[i] = moved_byte(s, t, m, 8 * i);
+        i += 1;
     }
     out
 }
@@ -144,13 +152,13 @@ fn round(s: [u8; 36], t: usize, c: u8, back: bool) -> [u8; 36]
 {
     let n = t / 8;
     if back {
-        let put = moved(s, t, 4);
+        let put = moved(s, t, t / 4);
         let replaced = substituted(put, n, UNNIBBLES);
         return with_counter(replaced, n, c);
     }
     let added = with_counter(s, n, c);
     let replaced = substituted(added, n, NIBBLES);
-    moved(replaced, t, t / 4)
+    moved(replaced, t, 4)
 }
 
 // Which of n constants the round k uses: the inverse begins with the last.

@@ -12,16 +12,18 @@ use Rattle.standard.specs.Bits.{low-first, bitsIn}
 use Rattle.standard.specs.Rounds.{direction}
 use Rattle.standard.specs.Spongent.{nibbles, unnibbles, cAddition, sBoxLayer, pLayer, spongentRound}
 use Rattle.standard.proofs.BitLaws.{length-bitsIn}
-use Rattle.standard.proofs.SpongentLaws.{nibbles-back, unnibbles-back, length-pLayer, length-sBoxLayer, length-cAddition}
+use Rattle.standard.proofs.Tests.{bound-below}
+use Rattle.standard.proofs.SpongentLaws.{length-pLayer, length-sBoxLayer, length-cAddition}
 use Rattle.spongent.proofs.Layers.{first-bits, layer-after}
+use Rattle.spongent.proofs.Places.{quarter-divides, quarter-back}
 use Rattle.spongent.proofs.round.Statement.{statement}
 use Rattle.spongent.proofs.round.Tie as tie
 
 moved-requires : tie.Need-moved-requires
-moved-requires c κs = search needs
+moved-requires c κs = (omega arith, (omega arith, quarter-divides (c .before .args .t) (omega arith)))
 
 substituted-requires : tie.Need-substituted-requires
-substituted-requires c κs = (omega arith, unnibbles-back .within)
+substituted-requires c κs = (omega arith, bound-below _ 16 16 tt)
 
 with-counter-requires : tie.Need-with-counter-requires
 with-counter-requires c κs = search needs
@@ -41,7 +43,8 @@ returns c =
     let Q : List Bool = bitsIn low-first (c .before .substituted .result) in
     let R : List Bool = bitsIn low-first (c .with-counter .result) in
     let lp : length p ≡ t = length-pLayer t 4 x in
-    let eq : Q ≡ q ++ z = layer-after t P p z lp (c .before .before .moved .ensures) (sBoxLayer unnibbles) n Q en (c .before .substituted .ensures) in
+    let ep : P ≡ p ++ z = c .before .before .moved .ensures ∙ ap (λ (m : ℕ). pLayer t m x ++ z) (quarter-back t (omega arith) (omega arith)) in
+    let eq : Q ≡ q ++ z = layer-after t P p z lp ep (sBoxLayer unnibbles) n Q en (c .before .substituted .ensures) in
     layer-after t Q q z (length-sBoxLayer unnibbles p ∙ lp) eq (cAddition (8 * n) (a .c)) n R en (c .with-counter .ensures)
     ∙ ap (λ (m : ℕ). cAddition m (a .c) q ++ z) en
     ∙ ap (λ (b : Bool). spongentRound t (direction b) x (a .c) ++ z) (sym (c .before .before .before .if1 .taken))
@@ -50,7 +53,7 @@ with-counter-requires-2 : tie.Need-with-counter-requires-2
 with-counter-requires-2 c κs = search needs
 
 substituted-requires-2 : tie.Need-substituted-requires-2
-substituted-requires-2 c κs = (omega arith, nibbles-back .within)
+substituted-requires-2 c κs = (omega arith, bound-below _ 16 16 tt)
 
 moved-requires-2 : tie.Need-moved-requires-2
 moved-requires-2 c κs = search needs

@@ -22,7 +22,7 @@ returns c =
     let a = c .before .args in (
       omega arith,
       λ cs e. sym (ap (λ (b : Bool). getD (inTurn (direction b) cs) (a .k) 0) (c .if1 .taken)
-      ∙ reverse-at cs (a .k) (omega arith) ∙ ap (λ (n : ℕ). getD cs (n - 1 - a .k) 0) e),
+          ∙ reverse-at cs (a .k) (omega arith) ∙ ap (λ (n : ℕ). getD cs (n - 1 - a .k) 0) e),
     )
 
 returns-2 : tie.Need-returns-2
