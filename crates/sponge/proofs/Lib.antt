@@ -3,6 +3,6 @@ pub mod Front
 pub mod LayoutLaws
 pub mod CellLaws
 pub mod MatrixImage
-pub mod SqueezeLaws
 pub mod States
 pub mod ImageLaws
+pub mod SqueezeLaws

@@ -2,18 +2,26 @@
 -- Assumes nothing.
 use mathlib.Core.Path.{_≡_, refl, sym, ap, ap₂, _∙_, subst}
 use mathlib.Core.Bool.{Bool, false}
-use mathlib.Core.List.{List, [], _∷_, _++_, append-assoc}
-use mathlib.Core.Logic.{_⊎_, ⊎-elim}
+use mathlib.Core.List.{List, [], _∷_, _++_, append-assoc, append-nil, flatMap}
+use mathlib.Core.Logic.{_⊎_, inl, inr, ⊎-elim}
 use Prim.Native.Nat.{ℕ, zero, suc, _+_, _-_, _*_, _/_, _%_, _^_, _≤_, _<_}
+use native.Mathlib.Nat.{not-suc-le-zero, add-mul-div-right, div-eq-of-lt, le-div-iff-mul-le, min-le-left, sub-zero}
+use native.Mathlib.Numerals.{add-one}
 use native.Mathlib.Omega.{arith}
-use lib.ListN.{length, take, drop, length-append, length-drop}
-use lib.Seq.{length-take-le, take-add, take-take, take-append-le}
+use lib.ListN.{length, take, drop, length-append, length-drop, length-take, replicate}
+use lib.Seq.{length-take-le, take-add, take-all, take-take, take-append-le}
 use Rattle.standard.specs.Bits.{Order, high-first, bitsOf, valueOf, bitsIn, pack, unpack, bytesFor, reordered}
-use Rattle.standard.proofs.BitLaws.{length-bitsIn, length-unpack, length-pack, unpack-pack, bitsOf-valueOf, valueOf-lt, bitsIn-take, bitsIn-pack, take-pack, pack-bitsIn, pack-bytes}
+use Rattle.standard.specs.Rounds.{forward}
+use Rattle.standard.specs.Sponge.{Variant, order, permutation, outputs, outputBlocks, squeezed, stateIn}
+use Rattle.standard.specs.Variants.{variant}
+use Rattle.standard.proofs.BitLaws.{length-bitsIn, length-unpack, length-pack, unpack-pack, bitsOf-valueOf, valueOf-lt, bitsIn-take, bitsIn-pack, take-pack, pack-bitsIn, pack-bytes, pack-none}
+use Rattle.standard.proofs.Variants.{Bounds, bounds, WholeBytes, layouts, lawful}
 use Rattle.standard.proofs.Reordered.{reordered-same}
+use Rattle.sponge.specs.Layout.{stateBytes}
 use Rattle.sponge.specs.Cells.{cellIn}
 use Rattle.sponge.proofs.LayoutLaws.{packed-bits}
 use Rattle.sponge.proofs.MatrixImage.{filled-take}
+use Rattle.sponge.proofs.States.{state-length, stored, stored-ready}
 
 -- bits read back from the bytes that hold them
 pub held-again : (n m : ℕ) (r : List ℕ) (Z : List Bool) → r ≡ pack high-first n Z → length Z ≡ m → m ≤ n * 8 → unpack high-first m r ≡ Z
@@ -87,3 +95,135 @@ output-bits o t m S lS ht hm w =
   where
     front : (k : ℕ) → m ≡ 8 * k → pack o k (take m S) ≡ take k (pack o 36 S)
     front k e = packed-front o k m S (omega arith) (omega arith) ∙ sym (take-pack o k 36 S (omega arith))
+
+-- ---- output blocks, one after the other
+
+abbrev pub blocksFor : ℕ → ℕ → ℕ
+blocksFor r m = (m + (r - 1)) / r
+
+module _ (f : List Bool → List Bool) (r m : ℕ) (pos : 0 < r) (s : List Bool) where
+  -- more than a block is wanted
+  pub outputs-more : r < m → outputs f r m (blocksFor r m) s ≡ take r s ∷ outputs f r (m - r) (blocksFor r (m - r)) (f s)
+  unfolding outputs
+  outputs-more h = ap (λ (k : ℕ). outputs f r m k s) count ∙ go (blocksFor r (m - r)) some
+    where
+      sum : m + (r - 1) ≡ m - r + (r - 1) + 1 * r
+      sum = omega arith
+      count : blocksFor r m ≡ suc (blocksFor r (m - r))
+      count = ap (λ (k : ℕ). k / r) sum ∙ add-mul-div-right (m - r + (r - 1)) 1 pos ∙ add-one (blocksFor r (m - r))
+      some : 0 < blocksFor r (m - r)
+      some = le-div-iff-mul-le {k = r} pos .1 (omega arith)
+      go : (k : ℕ) → 0 < k → outputs f r m (suc k) s ≡ take r s ∷ outputs f r (m - r) k (f s)
+      go zero z = absurd (not-suc-le-zero z)
+      go (suc k) z =
+          ap (λ (l : List Bool). l ∷ outputs f r (m - r) (suc k) (f s)) (take-all m (take r s) (omega (arith, length-take r s, min-le-left r (length s))))
+
+  -- the last block
+  pub outputs-last : 0 < m → m ≤ r → outputs f r m (blocksFor r m) s ≡ take m s ∷ []
+  unfolding outputs
+  outputs-last hm hr =
+      ap (λ (k : ℕ). outputs f r m k s) one ∙ ap (λ (l : List Bool). l ∷ []) (take-take m r s hr)
+    where
+      sum : m + (r - 1) ≡ m - 1 + 1 * r
+      sum = omega arith
+      one : blocksFor r m ≡ 1
+      one = ap (λ (k : ℕ). k / r) sum ∙ add-mul-div-right (m - 1) 1 pos ∙ ap (λ (k : ℕ). k + 1) (div-eq-of-lt (omega arith))
+
+-- ---- the loop over output blocks
+
+flat : (g : List Bool → List Bool) (X y : List Bool) (l : List (List Bool)) → X ++ flatMap g (y ∷ l) ≡ X ++ (g y ++ flatMap g l)
+unfolding flatMap
+flat g X y l = refl
+
+single : (g : List Bool → List Bool) (X y : List Bool) → X ++ flatMap g (y ∷ []) ≡ X ++ g y
+unfolding flatMap
+single g X y = ap (λ (l : List Bool). X ++ l) (append-nil (g y))
+
+-- p half bytes of the digest are out, and what the state `at` still gives makes it whole
+pub record Squeezing (v : ℕ) (s out at : List ℕ) (p : ℕ) : Type 0 where
+  pub ready : at ≡ stateBytes (variant v) (stateIn (variant v) at)
+  pub kept : out ≡ pack high-first 32 (unpack high-first (4 * p) out)
+  pub wanted : 4 * p < variant v .n
+  pub layout : (high-first ≡ order (variant v)) ⊎ ((variant v .n - 4 * p) % 8 ≡ 0)
+  pub left : unpack high-first (4 * p) out
+      ++ flatMap (reordered (order (variant v)) high-first)
+        (outputs (permutation (variant v) forward) (variant v .r′) (variant v .n - 4 * p) (blocksFor (variant v .r′) (variant v .n - 4 * p)) (stateIn (variant v) at))
+      ≡ squeezed (variant v) (stateIn (variant v) s)
+
+module _ (v : ℕ) (low : 1 ≤ v) (high : v ≤ 10) (s : List ℕ) (size : length s ≡ 36) where
+  abbrev H : Variant
+  H = variant v
+
+  b : Bounds (variant v)
+  b = bounds v low high
+
+  pub squeezing-start : s ≡ stateBytes H (stateIn H s) → Squeezing v s (replicate 32 0) s 0
+  unfolding squeezed outputBlocks
+  squeezing-start e =
+      record {
+        ready = e;
+        kept = sym (pack-none high-first 32);
+        wanted = omega (arith, b .digest-least);
+        layout = inr (ap (λ (m : ℕ). m % 8) (sub-zero (H .n)) ∙ b .digest-whole);
+        left = ap (λ (m : ℕ). flatMap (reordered (order H) high-first) (outputs (permutation H forward) (H .r′) m (blocksFor (H .r′) m) (stateIn H s))) (sub-zero (H .n)) }
+
+  -- the first m bits that a state gives out
+  given : (at : List ℕ) (m : ℕ) → length at ≡ 36 → m ≤ H .r′ → (high-first ≡ order H) ⊎ (m % 8 ≡ 0) → at ≡ stateBytes H (stateIn H at)
+      → take m (bitsIn high-first at) ≡ reordered (order H) high-first (take m (stateIn H at))
+  given at m la hm w e =
+      ap (λ (x : List ℕ). take m (bitsIn high-first x)) e
+      ∙ sym (output-bits (order H) (H .t) m (stateIn H at) (state-length v low high at la) (b .state-most) (omega (arith, b .output-fits)) w)
+
+  module _ (out at : List ℕ) (p n q : ℕ) (lo : length out ≡ 32) (la : length at ≡ 36) (u : Squeezing v s out at p)
+      (en : n ≡ H .n / 8 * 2) (eq : q ≡ H .r′ / 4) where
+
+    pub squeezing-more : (more next : List ℕ) → p + q < n
+        → more ≡ pack high-first 32 (unpack high-first (4 * p) out ++ take (4 * q) (bitsIn high-first at))
+        → next ≡ stateBytes H (permutation H forward (stateIn H at)) → Squeezing v s more next (p + q)
+    squeezing-more more next h em ex =
+        let S : List Bool = stateIn H at in
+        let lS : length S ≡ H .t = state-length v low high at la in
+        let fS : List Bool = permutation H forward S in
+        let lf : length fS ≡ H .t = lawful v low high .keeps forward S lS in
+        let whole : 4 * q ≡ H .r′ = omega (arith, b .output-quarters) in
+        let all : 4 * n ≡ H .n = omega (arith, b .digest-whole) in
+        let short : p ≤ 64 = omega (arith, b .digest-most) in
+        let X : List Bool = unpack high-first (4 * p) out in
+        let Y : List Bool = take (4 * q) (bitsIn high-first at) in
+        let again : unpack high-first (4 * (p + q)) more ≡ X ++ Y =
+            held-again 32 (4 * (p + q)) more (X ++ Y) em (fronted-length out at p q lo la short (omega (arith, b .output-most))) (omega (arith, b .digest-most)) in
+        let block : Y ≡ reordered (order H) high-first (take (H .r′) S) =
+            given at (4 * q) la (omega arith) (⊎-elim inl (λ (k : WholeBytes H). inr (ap (λ (m : ℕ). m % 8) whole ∙ k .output)) (layouts v low high)) (u .ready)
+            ∙ ap (λ (m : ℕ). reordered (order H) high-first (take m S)) whole in
+        let rest : H .n - 4 * p - H .r′ ≡ H .n - 4 * (p + q) = omega arith in
+        record {
+          ready = stored-ready v low high next fS lf ex;
+          kept = em ∙ ap (pack high-first 32) (sym again);
+          wanted = omega arith;
+          layout = ⊎-elim inl (λ e. ⊎-elim inl (λ (k : WholeBytes H). inr (omega (arith, k .output))) (layouts v low high)) (u .layout);
+          left =
+              ap₂ (λ (y z : List Bool). y ++ flatMap (reordered (order H) high-first) (outputs (permutation H forward) (H .r′) (H .n - 4 * (p + q)) (blocksFor (H .r′) (H .n - 4 * (p + q))) z))
+                again (stored v low high next fS lf ex)
+              ∙ ap₂ (λ (y : List Bool) (m : ℕ). (X ++ y) ++ flatMap (reordered (order H) high-first) (outputs (permutation H forward) (H .r′) m (blocksFor (H .r′) m) fS)) block (sym rest)
+              ∙ append-assoc X _ _
+              ∙ sym (ap (λ (l : List (List Bool)). X ++ flatMap (reordered (order H) high-first) l)
+                (outputs-more (permutation H forward) (H .r′) (H .n - 4 * p) (omega (arith, b .output-least)) S (omega arith)) ∙ flat (reordered (order H) high-first) X (take (H .r′) S) _)
+              ∙ u .left }
+
+    pub squeezing-last : (last : List ℕ) → n ≤ p + q
+        → last ≡ pack high-first 32 (unpack high-first (4 * p) out ++ take (4 * (n - p)) (bitsIn high-first at))
+        → last ≡ pack high-first 32 (squeezed H (stateIn H s))
+    squeezing-last last h el =
+        let S : List Bool = stateIn H at in
+        let m : ℕ = H .n - 4 * p in
+        let whole : 4 * q ≡ H .r′ = omega (arith, b .output-quarters) in
+        let all : 4 * n ≡ H .n = omega (arith, b .digest-whole) in
+        let size′ : 4 * (n - p) ≡ m = omega arith in
+        let X : List Bool = unpack high-first (4 * p) out in
+        el
+        ∙ ap (pack high-first 32)
+          (ap (λ (k : ℕ). X ++ take k (bitsIn high-first at)) size′
+            ∙ ap (λ (y : List Bool). X ++ y) (given at m la (omega arith) (u .layout) (u .ready))
+            ∙ sym (ap (λ (l : List (List Bool)). X ++ flatMap (reordered (order H) high-first) l)
+                (outputs-last (permutation H forward) (H .r′) m (omega (arith, b .output-least)) S (omega (arith, u .wanted)) (omega arith)) ∙ single (reordered (order H) high-first) X (take m S))
+            ∙ u .left)

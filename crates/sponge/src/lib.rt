@@ -6,7 +6,7 @@ ghost use Prim.Native.Nat.{ℕ, _+_, _-_, _*_, _/_, _%_, _^_, _≤_, _<_};
 ghost use lib.ListN.{getD, length, take, drop, replicate};
 ghost use Rattle.standard.specs.Bits.{Order, high-first, bitsOf, bitsIn, pack, unpack, xorInto};
 ghost use Rattle.standard.specs.Rounds.{direction, forward, backward};
-ghost use Rattle.standard.specs.Sponge.{order, permutation, step, imageBytes, stateIn};
+ghost use Rattle.standard.specs.Sponge.{order, permutation, startState, step, squeezed, imageBytes, stateIn};
 ghost use Rattle.standard.specs.Variants.{variant, known};
 ghost use Rattle.sponge.specs.Refusals.{number, entry};
 ghost use Rattle.sponge.specs.Layout.{stateBytes, blockBytes, blockIn, clear};
@@ -374,4 +374,76 @@ pub fn unpermute(variant: u8, image: &mut [u8]) -> Status
         × (now (image .exit) ≡ permutedImage variant backward (now (image .entry))) ⌝ }
 {
     permute_image(variant, image, true)
+}
+
+const DIGEST_BYTES: [usize; 11] = [0, 10, 16, 20, 28, 32, 11, 16, 20, 28, 32];
+
+pub fn digest_bytes(v: u8) -> usize
+    ensures { λ r. ⌜ r ≡ variant v .n / 8 ⌝ }
+{
+    if 10 < v {
+        return 0;
+    }
+    DIGEST_BYTES[v as usize]
+}
+
+const OUTPUT_HALVES: [usize; 11] = [0, 4, 4, 9, 8, 8, 2, 2, 4, 4, 4];
+
+// The half bytes that an output block gives.
+fn output_halves(v: u8) -> usize
+    ensures { λ r. ⌜ r ≡ variant v .r′ / 4 ⌝ }
+{
+    if 10 < v {
+        return 0;
+    }
+    OUTPUT_HALVES[v as usize]
+}
+
+// The digest squeezed out of an end state, zeros behind it: whole output blocks with the permutation after each, and what the last has to give.
+pub fn squeezed_bytes(v: u8, s: [u8; 36]) -> [u8; 32]
+    requires { ⌜ (1 ≤ v) × (v ≤ 10) ⌝ }
+    requires { ⌜ s ≡ stateBytes (variant v) (stateIn (variant v) s) ⌝ }
+    ensures { λ r. ⌜ r ≡ pack high-first 32 (squeezed (variant v) (stateIn (variant v) s)) ⌝ }
+{
+    let n = digest_bytes(v) * 2;
+    let q = output_halves(v);
+    let mut out = [0u8; 32];
+    let mut at = s;
+    let mut p = 0;
+    while p + q < n {
+        let more = with_front(out, p, at, q);
+        out = more;
+        let next = permuted(v, at, false);
+        at = next;
+        p += q;
+    }
+    with_front(out, p, at, n - p)
+}
+
+// The last four bytes of PHOTON's start images: n/4, r and r' in their last 24 bits. SPONGENT starts from zeros.
+const START_ENDS: [[u8; 4]; 6] = [
+    [0, 0, 0, 0],
+    [0x01, 0x41, 0x41, 0x00],
+    [0x00, 0x20, 0x10, 0x10],
+    [0x02, 0x82, 0x42, 0x40],
+    [0x00, 0x38, 0x20, 0x20],
+    [0x00, 0x40, 0x20, 0x20],
+];
+
+// The bytes that hold the start state.
+pub fn start_bytes(v: u8) -> [u8; 36]
+    requires { ⌜ (1 ≤ v) × (v ≤ 10) ⌝ }
+    ensures { λ r. ⌜ r ≡ stateBytes (variant v) (startState (variant v)) ⌝ }
+{
+    let mut out = [0u8; 36];
+    if 5 < v {
+        return out;
+    }
+    let i = v as usize;
+    let k = IMAGE_BYTES[i] - 4;
+    out[k] = START_ENDS[i][0];
+    out[k + 1] = START_ENDS[i][1];
+    out[k + 2] = START_ENDS[i][2];
+    out[k + 3] = START_ENDS[i][3];
+    out
 }

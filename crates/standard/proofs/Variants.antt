@@ -92,6 +92,7 @@ pub record Bounds (H : Variant) : Type 0 where
   pub output-quarters : H .r′ % 4 ≡ 0
   pub digest-whole : H .n % 8 ≡ 0
   pub digest-most : H .n ≤ 256
+  pub digest-least : 8 ≤ H .n
 
 pub record WholeBytes (H : Variant) : Type 0 where
   pub state : H .t % 8 ≡ 0

@@ -1,0 +1,31 @@
+-- `sponge::output_halves` meets its contract: the table has the field of each variant, and 0 past the last.
+-- Assumes nothing.
+use mathlib.Core.Path.{_≡_, sym, ap}
+use Prim.Native.Nat.{ℕ, _/_}
+use native.Mathlib.Omega.{arith}
+use lib.ListN.{List·getD-eq-default, List·getD-map}
+use borrow.Author.Needs.{needs}
+use Rattle.standard.specs.Sponge.{Variant}
+use Rattle.standard.specs.Variants.{variant, variants, none}
+use Rattle.sponge.proofs.output_halves.Statement.{statement}
+use Rattle.sponge.proofs.output_halves.Tie as tie
+
+abbrev field : Variant → ℕ
+field H = H .r′ / 4
+
+returns : tie.Need-returns
+unfolding variant
+returns c = sym (ap field (List·getD-eq-default variants none {n = c .before .args .v} (omega arith)))
+
+mul-result : tie.Need-mul-result
+mul-result c = search needs
+
+array-read-result : tie.Need-array-read-result
+array-read-result c = search needs
+
+returns-2 : tie.Need-returns-2
+unfolding variant
+returns-2 c = List·getD-map field variants (c .before .args .v) none
+
+pub output-halves-spec : {M : Type 1} → statement M
+output-halves-spec = tie.close (tie.spec returns mul-result array-read-result returns-2)
