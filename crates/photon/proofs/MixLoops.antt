@@ -1,14 +1,15 @@
 -- The turns of the loops for a product, for a sum of products and for the serial steps of a column.
 -- Assumes nothing.
-use mathlib.Core.Path.{_≡_, sym, ap, ap₂, _∙_, subst}
+use mathlib.Core.Path.{_≡_, refl, sym, ap, ap₂, _∙_, subst}
 use mathlib.Core.List.{List, [], _∷_, _++_}
 use Prim.Native.Nat.{ℕ, zero, suc, _+_, _-_, _*_, _/_, _%_, _≤_, _<_}
-use native.Mathlib.Nat.{not-suc-le-zero}
+use native.Mathlib.Nat.{not-suc-le-zero, zero-mul, one-mul}
 use native.Mathlib.Numerals.{add-one}
 use native.Mathlib.Omega.{arith}
-use mathlib.Core.Bool.{cond}
-use lib.Dec.{eqb}
-use lib.Bits.{bitXor}
+use mathlib.Core.Bool.{Bool, true, false, cond}
+use lib.Dec.{ltb, eqb}
+use lib.Bits.{bitXor, xor-zero-r}
+use borrow.Author.Tests.{ltb-true, ltb-false}
 use lib.ListN.{length, getD, drop, set}
 use lib.Seq.{drop-cons, getD-set-same, getD-set-other}
 use Rattle.standard.specs.Rounds.{iterate}
@@ -20,6 +21,22 @@ use Rattle.standard.proofs.Tab.{length-tab, getD-tab, tab-snoc, tab-cong}
 use Rattle.standard.proofs.Undo.{all-of, all-at}
 use Rattle.standard.proofs.FieldLaws.{mul-step}
 use Rattle.standard.proofs.SerialLaws.{Column, serial-column}
+
+-- 1 where a double runs over, and else 0
+abbrev pub overOf : ℕ → ℕ → ℕ
+overOf top y = (y + 32768 - top) / 32768
+
+pub double-is : (top poly x : ℕ) → x < top → top ≤ 256 → bitXor (x * 2) (overOf top (x * 2) * poly) ≡ double top poly x
+unfolding double
+double-is top poly x h l = go (ltb (x * 2) top) refl
+  where
+    go : (b : Bool) → ltb (x * 2) top ≡ b → bitXor (x * 2) (overOf top (x * 2) * poly) ≡ cond b (x * 2) (bitXor (x * 2) poly)
+    go true e =
+        let none : overOf top (x * 2) ≡ 0 = omega (arith, ltb-true (x * 2) top e) in
+        ap (λ (k : ℕ). bitXor (x * 2) (k * poly)) none ∙ ap (bitXor (x * 2)) (zero-mul poly) ∙ xor-zero-r (x * 2)
+    go false e =
+        let one : overOf top (x * 2) ≡ 1 = omega (arith, ltb-false (x * 2) top e) in
+        ap (λ (k : ℕ). bitXor (x * 2) (k * poly)) one ∙ ap (bitXor (x * 2)) (one-mul poly)
 
 -- one bit of the first factor more
 pub product-step : (top poly sum rest term w r p : ℕ) → rest < 256 → w ≡ cond (eqb (rest % 2) 1) term 0 → r ≡ double top poly term

@@ -211,12 +211,15 @@ fn wide16(x: u8) -> u16
     x as u16
 }
 
+// x times the variable. It does not branch on the cell, since such a branch is guessed wrong half of the time:
+// `over` is 1 where the double runs over, and else 0.
 fn twice(top: u16, poly: u16, x: u16) -> u16
     requires { ⌜ (x < top) × (top ≤ 256) ⌝ }
     ensures { λ r. ⌜ r ≡ double top poly x ⌝ }
 {
     let y = x * 2;
-    if y < top { y } else { y ^ poly }
+    let over = (y + 32768 - top) / 32768;
+    y ^ (over * poly)
 }
 
 // x where the lowest bit of a is set, and else 0.

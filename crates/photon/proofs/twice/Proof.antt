@@ -1,29 +1,29 @@
--- `photon::twice` meets its contract: the two sides of its test are those of `double`.
+-- `photon::twice` meets its contract: the polynomial is added once where the double runs over, and else not at all.
 -- Assumes nothing.
-use mathlib.Core.Path.{sym, ap}
-use mathlib.Core.Bool.{Bool, cond}
 use Prim.Native.Nat.{_-_, _*_}
-use lib.Bits.{bitXor}
+use native.Mathlib.Nat.{mul-le-mul}
+use native.Mathlib.Omega.{arith}
 use borrow.Author.Needs.{needs}
-use borrow.Author.Tests.{lt-ltb, le-ltb}
-use Rattle.standard.specs.Field.{double}
+use Rattle.photon.proofs.MixLoops.{overOf, double-is}
 use Rattle.photon.proofs.twice.Statement.{statement}
 use Rattle.photon.proofs.twice.Tie as tie
 
 mul-y : tie.Need-mul-y
 mul-y c = search needs
 
-returns : tie.Need-returns
-unfolding double
-returns c =
-    let a = c .before .args in
-    sym (ap (λ (b : Bool). cond b (a .x * 2) (bitXor (a .x * 2) (a .poly))) (lt-ltb _ _ (c .if1 .taken)))
+add-over : tie.Need-add-over
+add-over c = search needs
 
-returns-2 : tie.Need-returns-2
-unfolding double
-returns-2 c =
-    let a = c .before .args in
-    sym (ap (λ (b : Bool). cond b (a .x * 2) (bitXor (a .x * 2) (a .poly))) (le-ltb _ _ (c .if1 .left)))
+sub-over : tie.Need-sub-over
+sub-over c = search needs
+
+mul-result : tie.Need-mul-result
+mul-result c =
+    let a = c .args in
+    omega (arith, mul-le-mul {n₁ = overOf (a .top) (a .x * 2)} {m₁ = a .poly} {n₂ = 1} {m₂ = a .poly} (omega arith) (omega arith))
+
+returns : tie.Need-returns
+returns c = double-is (c .args .top) (c .args .poly) (c .args .x) (omega arith) (omega arith)
 
 pub twice-spec : {M : Type 1} → statement M
-twice-spec = tie.close (tie.spec mul-y returns returns-2)
+twice-spec = tie.close (tie.spec mul-y add-over sub-over mul-result returns)
