@@ -158,7 +158,7 @@ module _ (v : ℕ) (low : 1 ≤ v) (high : v ≤ 10) (s : List ℕ) (size : leng
   b = bounds v low high
 
   pub squeezing-start : s ≡ stateBytes H (stateIn H s) → Squeezing v s (replicate 32 0) s 0
-  unfolding squeezed outputBlocks
+  unfolding squeezed outputBlocks unpack
   squeezing-start e =
       record {
         ready = e;
@@ -174,8 +174,14 @@ module _ (v : ℕ) (low : 1 ≤ v) (high : v ≤ 10) (s : List ℕ) (size : leng
       ap (λ (x : List ℕ). take m (bitsIn high-first x)) e
       ∙ sym (output-bits (order H) (H .t) m (stateIn H at) (state-length v low high at la) (b .state-most) (omega (arith, b .output-fits)) w)
 
-  module _ (out at : List ℕ) (p n q : ℕ) (lo : length out ≡ 32) (la : length at ≡ 36) (u : Squeezing v s out at p)
+  module _ (out at : List ℕ) (p n q : ℕ) (u : Squeezing v s out at p)
       (en : n ≡ H .n / 8 * 2) (eq : q ≡ H .r′ / 4) where
+
+    lo : length out ≡ 32
+    lo = ap length (u .kept) ∙ length-pack high-first 32 _
+
+    la : length at ≡ 36
+    la = ap length (u .ready) ∙ length-pack (order H) 36 _
 
     pub squeezing-more : (more next : List ℕ) → p + q < n
         → more ≡ pack high-first 32 (unpack high-first (4 * p) out ++ take (4 * q) (bitsIn high-first at))
