@@ -49,6 +49,7 @@ module _ (v : ℕ) (w : Direction) (bytes : List ℕ) where
     where
       new : List ℕ
       new = imageOf (variant v) (permutation (variant v) w (stateIn (variant v) bytes))
+
       status : imageStatus v bytes ≡ UnknownVariant
       status = ap (λ (b : Bool). cond (not b) UnknownVariant (cond (not (isImage (variant v) bytes)) BadImage Done)) e
 
@@ -58,6 +59,7 @@ module _ (v : ℕ) (w : Direction) (bytes : List ℕ) where
     where
       new : List ℕ
       new = imageOf (variant v) (permutation (variant v) w (stateIn (variant v) bytes))
+
       status : imageStatus v bytes ≡ BadImage
       status = ap₂ (λ (a b : Bool). cond (not a) UnknownVariant (cond (not b) BadImage Done)) e f
 
@@ -68,6 +70,7 @@ module _ (v : ℕ) (w : Direction) (bytes : List ℕ) where
     where
       new : List ℕ
       new = imageOf (variant v) (permutation (variant v) w (stateIn (variant v) bytes))
+
       status : imageStatus v bytes ≡ Done
       status = ap₂ (λ (a b : Bool). cond (not a) UnknownVariant (cond (not b) BadImage Done)) e f
 
@@ -100,7 +103,7 @@ module _ (v : ℕ) (w : Direction) (bytes : List ℕ) where
     held =
         ex
         ∙ front-holds (order (variant v)) (variant v .t) (b .state-most) bytes (imageBytes (variant v)) refl l
-          (λ i. subst (λ (y : List ℕ). getD y i 0 < 256) ex (hx i)) (spare e ∙ c)
+        (λ i. subst (λ (y : List ℕ). getD y i 0 < 256) ex (hx i)) (spare e ∙ c)
 
     long : length (stateIn (variant v) bytes) ≡ variant v .t
     unfolding stateIn
@@ -116,8 +119,8 @@ module _ (v : ℕ) (w : Direction) (bytes : List ℕ) where
     left-permuted r out n en er eo =
         left-done e (is-image e l c) out
         (eo
-          ∙ ap₂ (λ (y z : List ℕ). y ++ z) (ap₂ take en er) (drop-of-length-le bytes {i = n} (omega arith))
-          ∙ append-nil _
-          ∙ take-pack (order (variant v)) (imageBytes (variant v)) 36 _ (b .image-most)
-          ∙ ap (λ (s : List Bool). pack (order (variant v)) (imageBytes (variant v)) (permutation (variant v) w s))
-            (stored v (known-low v e) (known-high v e) x (stateIn (variant v) bytes) long held))
+        ∙ ap₂ (λ (y z : List ℕ). y ++ z) (ap₂ take en er) (drop-of-length-le bytes {i = n} (omega arith))
+        ∙ append-nil _
+        ∙ take-pack (order (variant v)) (imageBytes (variant v)) 36 _ (b .image-most)
+        ∙ ap (λ (s : List Bool). pack (order (variant v)) (imageBytes (variant v)) (permutation (variant v) w s))
+        (stored v (known-low v e) (known-high v e) x (stateIn (variant v) bytes) long held))

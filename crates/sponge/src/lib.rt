@@ -55,7 +55,9 @@ pub fn number_of(s: Status) -> u8
 
 // Index 0 stands for no variant.
 const STATE_BITS: [usize; 11] = [0, 100, 144, 196, 256, 288, 88, 136, 176, 240, 272];
+
 const BLOCK_BITS: [u32; 11] = [0, 20, 16, 36, 32, 32, 8, 8, 16, 16, 16];
+
 const IMAGE_BYTES: [usize; 11] = [0, 13, 18, 25, 32, 36, 11, 17, 22, 30, 34];
 
 pub fn is_known(v: u8) -> bool

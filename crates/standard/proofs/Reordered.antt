@@ -54,9 +54,9 @@ pub reordered-injective : (a b : Order) (r : ℕ) → (a ≡ b) ⊎ (r % 8 ≡ 0
 reordered-injective a b r w x y lx ly e =
     ⊎-elim
     (λ same. sym (reordered-same a x)
-      ∙ subst (λ (c : Order). reordered a c x ≡ reordered a c y) (sym same) e
-      ∙ reordered-same a y)
+    ∙ subst (λ (c : Order). reordered a c x ≡ reordered a c y) (sym same) e
+    ∙ reordered-same a y)
     (λ whole. sym (reordered-back a b x (ap (λ (m : ℕ). m % 8) lx ∙ whole))
-      ∙ ap (reordered b a) e
-      ∙ reordered-back a b y (ap (λ (m : ℕ). m % 8) ly ∙ whole))
+    ∙ ap (reordered b a) e
+    ∙ reordered-back a b y (ap (λ (m : ℕ). m % 8) ly ∙ whole))
     w

@@ -51,7 +51,7 @@ returns-3 c =
     left-spare (a .variant) (direction (a .back)) (a .image .now) (sym (c .before .before .before .before .before .before .before .is-known .ensures) ∙ not-false _ (c .before .before .before .before .before .before .if1 .left))
     (c .before .before .before .before .if2 .left ∙ c .before .before .before .before .before .image-bytes .ensures)
     (ap (λ (n : ℕ). clear (drop n (bitsIn high-first (a .image .now)))) (sym (c .before .before .state-bits .ensures))
-      ∙ sym (c .before .clear-from .ensures) ∙ not-true _ (c .if3 .taken))
+    ∙ sym (c .before .clear-from .ensures) ∙ not-true _ (c .if3 .taken))
 
 at-front-requires : tie.Need-at-front-requires
 at-front-requires c κs =
@@ -66,10 +66,11 @@ permuted-requires c κs =
     let e = sym (c .before .before .before .before .before .before .before .before .before .is-known .ensures) ∙ not-false _ (c .before .before .before .before .before .before .before .before .if1 .left) in
     let l = c .before .before .before .before .before .before .if2 .left ∙ c .before .before .before .before .before .before .before .image-bytes .ensures in
     let k = ap (λ (n : ℕ). clear (drop n (bitsIn high-first (a .image .now)))) (sym (c .before .before .before .before .state-bits .ensures))
-        ∙ sym (c .before .before .before .clear-from .ensures) ∙ not-false _ (c .before .before .if3 .left) in
-    let x = c .at-front in
-    ((known-low v e, known-high v e),
-    image-ready v (direction (a .back)) (a .image .now) e l k (x .result) (bytes-lt 36 (x .result) _ (x .ok)) (x .ensures))
+    ∙ sym (c .before .before .before .clear-from .ensures) ∙ not-false _ (c .before .before .if3 .left) in
+    let x = c .at-front in (
+      (known-low v e, known-high v e),
+      image-ready v (direction (a .back)) (a .image .now) e l k (x .result) (bytes-lt 36 (x .result) _ (x .ok)) (x .ensures),
+    )
 
 slice-aggregate-copy-front : tie.Need-slice-aggregate-copy-front
 slice-aggregate-copy-front c = search needs
@@ -81,7 +82,7 @@ copy-front-requires c κs =
     let e = sym (c .before .before .before .before .before .before .before .before .before .before .before .before .is-known .ensures) ∙ not-false _ (c .before .before .before .before .before .before .before .before .before .before .before .if1 .left) in
     let l = c .before .before .before .before .before .before .before .before .before .if2 .left ∙ c .before .before .before .before .before .before .before .before .before .before .image-bytes .ensures in
     let k = ap (λ (n : ℕ). clear (drop n (bitsIn high-first (a .image .now)))) (sym (c .before .before .before .before .before .before .before .state-bits .ensures))
-        ∙ sym (c .before .before .before .before .before .before .clear-from .ensures) ∙ not-false _ (c .before .before .before .before .before .if3 .left) in
+    ∙ sym (c .before .before .before .before .before .before .clear-from .ensures) ∙ not-false _ (c .before .before .before .before .before .if3 .left) in
     let x = c .before .before .before .at-front in
     let n = c .before .before .before .before .before .before .before .before .before .before .image-bytes .ensures in
     let most = bounds v (known-low v e) (known-high v e) .image-most in
@@ -97,7 +98,7 @@ returns-4 c =
     let e = sym (c .before .before .before .before .before .before .before .before .before .before .before .before .before .before .before .is-known .ensures) ∙ not-false _ (c .before .before .before .before .before .before .before .before .before .before .before .before .before .before .if1 .left) in
     let l = c .before .before .before .before .before .before .before .before .before .before .before .before .if2 .left ∙ c .before .before .before .before .before .before .before .before .before .before .before .before .before .image-bytes .ensures in
     let k = ap (λ (n : ℕ). clear (drop n (bitsIn high-first (a .image .now)))) (sym (c .before .before .before .before .before .before .before .before .before .before .state-bits .ensures))
-        ∙ sym (c .before .before .before .before .before .before .before .before .before .clear-from .ensures) ∙ not-false _ (c .before .before .before .before .before .before .before .before .if3 .left) in
+    ∙ sym (c .before .before .before .before .before .before .before .before .before .clear-from .ensures) ∙ not-false _ (c .before .before .before .before .before .before .before .before .if3 .left) in
     let x = c .before .before .before .before .before .before .at-front in
     left-permuted v (direction (a .back)) (a .image .now) e l k (x .result) (bytes-lt 36 (x .result) _ (x .ok)) (x .ensures)
     (c .before .before .before .before .before .permuted .result) _ (c .before .before .before .before .before .before .before .before .before .before .before .before .before .image-bytes .result) (c .before .before .before .before .before .before .before .before .before .before .before .before .before .image-bytes .ensures) (c .before .before .before .before .before .permuted .ensures) (c .before .before .copy-front .ensures)
