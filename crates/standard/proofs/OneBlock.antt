@@ -52,6 +52,10 @@ pub run-append : (H : Variant) (s : List Bool) (xs ys : List (List Bool)) → ru
 unfolding run
 run-append H s xs ys = foldl-append (step H) s xs ys
 
+pub run-none : (H : Variant) (s : List Bool) → run H s [] ≡ s
+unfolding run
+run-none H s = refl
+
 pub run-one : (H : Variant) (s : List Bool) (b : List Bool) (bs : List (List Bool)) → run H s (b ∷ bs) ≡ run H (step H s b) bs
 unfolding run
 run-one H s b bs = refl
