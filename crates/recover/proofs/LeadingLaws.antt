@@ -1,0 +1,2 @@
+-- The block that leads to a state: none, or the difference of the state before the place and the state wanted there.
+-- Assumes nothing.

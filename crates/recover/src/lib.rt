@@ -1,0 +1,1 @@
+// The block of a message that leads to a given end state.
