@@ -67,7 +67,11 @@ fn refused_calls() -> Vec<(u8, Vec<u8>)> {
     let mut calls = vec![(0, fill(13)), (11, fill(13)), (255, fill(13)), (0, fill(0))];
     for variant in &VARIANTS {
         let bytes = variant.image_bytes();
-        calls.extend([0, bytes - 1, bytes + 1].map(|length| (variant.number, fill(length))));
+        calls.extend([0, bytes - 1].map(|length| (variant.number, fill(length))));
+        // A zero byte more: nothing but the length is wrong.
+        let mut long = fill(bytes);
+        long.push(0);
+        calls.push((variant.number, long));
     }
     for (number, bytes) in [(1, 13), (3, 25)] {
         let mut image = fill(bytes);
