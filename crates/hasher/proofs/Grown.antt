@@ -57,7 +57,8 @@ module _ (v stage total : ℕ) (s b : List Bool) where
           stages = hs;
           few = ht;
           state-clear = packed-clear (order (variant v)) 36 (variant v .t) s ls (B .state-most);
-          held-clear = packed-clear high-first 5 (heldCount g) b lb (omega (arith, short)) }
+          held-clear = packed-clear high-first 5 (heldCount g) b lb (omega (arith, short));
+        }
 
 pub holding-same : (v stage : ℕ) {t u : ℕ} {s x b y : List Bool} → t ≡ u → s ≡ x → b ≡ y → holding v stage t s b ≡ holding v stage u x y
 holding-same v stage {t} {u} {s} {x} {b} {y} et es eb = ap (λ (n : ℕ). holding v stage n s b) et ∙ ap₂ (λ (k l : List Bool). holding v stage u k l) es eb
@@ -121,11 +122,11 @@ module _ (h : Hasher) (f : Facts h) (z : Sized h) (o : closed h ≡ false) where
         holding-same (h .variant) (h .stage)
         (omega arith)
         (ap₂ (λ (s c : List Bool). run H s (wholeBlocks (H .r) (c ++ y))) grown-state grown-held
-          ∙ sym (run-append H (stateOf h) (wholeBlocks (H .r) seen) (wholeBlocks (H .r) (restOf (H .r) seen ++ y)))
-          ∙ ap (run H (stateOf h)) (sym (whole-append (H .r) (L .rate-pos) seen y) ∙ ap (wholeBlocks (H .r)) (append-assoc (heldIn h) x y)))
+        ∙ sym (run-append H (stateOf h) (wholeBlocks (H .r) seen) (wholeBlocks (H .r) (restOf (H .r) seen ++ y)))
+        ∙ ap (run H (stateOf h)) (sym (whole-append (H .r) (L .rate-pos) seen y) ∙ ap (wholeBlocks (H .r)) (append-assoc (heldIn h) x y)))
         (ap (λ (c : List Bool). restOf (H .r) (c ++ y)) grown-held
-          ∙ sym (rest-append (H .r) (L .rate-pos) seen y)
-          ∙ ap (restOf (H .r)) (append-assoc (heldIn h) x y))
+        ∙ sym (rest-append (H .r) (L .rate-pos) seen y)
+        ∙ ap (restOf (H .r)) (append-assoc (heldIn h) x y))
 
   -- held bits alone make no block
   held-short : length (heldIn h) < H .r
@@ -145,7 +146,7 @@ grown-none h f w o =
     let t : h .total + 0 ≡ h .total = omega arith in
     let z = w .sized in
     let s : stateBytes H (run H (stateOf h) (wholeBlocks (H .r) (heldIn h ++ []))) ≡ h .state =
-        ap (λ (bs : List (List Bool)). stateBytes H (run H (stateOf h) bs)) (no-blocks h f z o) ∙ sym (state-kept h f w) in
+    ap (λ (bs : List (List Bool)). stateBytes H (run H (stateOf h) bs)) (no-blocks h f z o) ∙ sym (state-kept h f w) in
     let b : blockBytes (restOf (H .r) (heldIn h ++ [])) ≡ h .held = ap blockBytes (all-rest h f z o) ∙ sym (held-kept h f w) in
     ap (λ (n : ℕ). record { variant = h .variant; stage = h .stage; total = n; state = stateBytes H (run H (stateOf h) (wholeBlocks (H .r) (heldIn h ++ []))); held = blockBytes (restOf (H .r) (heldIn h ++ [])) }) t
     ∙ ap₂ (λ (x y : List ℕ). record { variant = h .variant; stage = h .stage; total = h .total; state = x; held = y }) s b
@@ -166,5 +167,5 @@ module _ (h : Hasher) (f : Facts h) (z : Sized h) (o : closed h ≡ false) (piec
   first-more i l =
       grown-grown h f z o i (bitsIn high-first (take i piece)) (first-long i (omega arith)) 1 (bitsIn high-first (getD piece i 0 ∷ []))
       ∙ ap (grown h (i + 1))
-        (sym (bitsIn-append high-first (take i piece) (getD piece i 0 ∷ []))
-          ∙ ap (bitsIn high-first) (sym (take-suc piece i 0 l) ∙ ap (λ (n : ℕ). take n piece) (sym (add-one i))))
+      (sym (bitsIn-append high-first (take i piece) (getD piece i 0 ∷ []))
+      ∙ ap (bitsIn high-first) (sym (take-suc piece i 0 l) ∙ ap (λ (n : ℕ). take n piece) (sym (add-one i))))

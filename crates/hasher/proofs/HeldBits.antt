@@ -44,8 +44,8 @@ module _ (held : List ℕ) (c : ℕ) (long : length held ≡ 5) (e : held ≡ bl
       let lL : length L ≡ 4 = length-bitsOf high-first 4 x in
       let lXU : length (X ++ U) ≡ length X + length U = length-append X U in
       let first : xored held (c / 8) (x / 16) ≡ blockBytes (X ++ U) =
-          put-bits 5 held X U (c / 8) (x / 16) 4 0 e (omega arith) (omega arith)
-          (lower-byte (x / 16) (omega arith) ∙ ap (λ (l : List Bool). replicate 4 false ++ l) (sym (append-nil U))) (omega arith) (omega arith) in
+      put-bits 5 held X U (c / 8) (x / 16) 4 0 e (omega arith) (omega arith)
+      (lower-byte (x / 16) (omega arith) ∙ ap (λ (l : List Bool). replicate 4 false ++ l) (sym (append-nil U))) (omega arith) (omega arith) in
       put-bits 5 (xored held (c / 8) (x / 16)) (X ++ U) L (c / 8 + 1) (x % 16 * 16) 0 4 first (omega arith) (omega arith)
       (upper-byte (x % 16) ∙ ap (λ (l : List Bool). l ++ replicate 4 false) (low-half x)) (omega arith) (omega arith)
       ∙ ap blockBytes (append-assoc X U L ∙ ap (λ (l : List Bool). X ++ l) (sym (byte-halves x)))
@@ -71,4 +71,4 @@ lower-put x =
     let lL : length L ≡ 4 = length-bitsOf high-first 4 x in
     ap (λ (n : ℕ). n ∷ replicate 4 0) (sym (xor-zero-l (x % 16 * 16)))
     ∙ put-bits 5 (replicate 5 0) [] L 0 (x % 16 * 16) 0 4 (sym (pack-none high-first 5)) (omega arith) (omega arith)
-      (upper-byte (x % 16) ∙ ap (λ (l : List Bool). l ++ replicate 4 false) (low-half x)) refl (omega arith)
+    (upper-byte (x % 16) ∙ ap (λ (l : List Bool). l ++ replicate 4 false) (low-half x)) refl (omega arith)

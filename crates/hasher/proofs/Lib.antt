@@ -4,3 +4,5 @@ pub mod WellFormed
 pub mod Grown
 pub mod OneMore
 pub mod Ladders
+pub mod ReadLaws
+pub mod Message

@@ -51,9 +51,9 @@ pack-behind o n A m h =
     let e : n * 8 - length A ≡ m + (n * 8 - length (A ++ replicate m false)) = omega arith in
     image-eq o n (pack o n A) (A ++ replicate m false) (pack-bytes o n A) (length-pack o n A) (omega arith)
     (packed-bits o n A (omega arith)
-      ∙ ap (λ (k : ℕ). A ++ replicate k false) e
-      ∙ ap (λ (l : List Bool). A ++ l) (sym (replicate-append-replicate m (n * 8 - length (A ++ replicate m false)) false))
-      ∙ sym (append-assoc A (replicate m false) (replicate (n * 8 - length (A ++ replicate m false)) false)))
+    ∙ ap (λ (k : ℕ). A ++ replicate k false) e
+    ∙ ap (λ (l : List Bool). A ++ l) (sym (replicate-append-replicate m (n * 8 - length (A ++ replicate m false)) false))
+    ∙ sym (append-assoc A (replicate m false) (replicate (n * 8 - length (A ++ replicate m false)) false)))
 
 -- ---- a block in its bytes
 
@@ -139,8 +139,8 @@ module _ (h : Hasher) (f : Facts h) (w : Owned h) where
       filled-block B R s b eT lB lR es eb =
           grown-byte s b (B ++ R) eT
           (es
-            ∙ ap (λ (u : List Bool). stateBytes H (step H u B)) state-is
-            ∙ ap (stateBytes H) (sym (run-block H (stateOf h) B) ∙ ap (run H (stateOf h)) (sym (one-block (H .r) (L .rate-pos) B R lB lR))))
+          ∙ ap (λ (u : List Bool). stateBytes H (step H u B)) state-is
+          ∙ ap (stateBytes H) (sym (run-block H (stateOf h) B) ∙ ap (run H (stateOf h)) (sym (one-block (H .r) (L .rate-pos) B R lB lR))))
           (eb ∙ ap blockBytes (sym (one-rest (H .r) (L .rate-pos) B R lB lR)))
 
       module _ (block : List ℕ) (full : n + 8 ≡ H .r) (e : block ≡ blockBytes (unpack high-first n (h .held) ++ byte)) where
@@ -222,9 +222,9 @@ module _ (h : Hasher) (f : Facts h) (w : Owned h) where
       last-done s es =
           ap₂ (λ (x y : List ℕ). done (record { variant = v; stage = 1; total = h .total; state = x; held = y }))
           (block-stepped v (f .low) (f .high) block last last-long last-bytes (h .state) s es
-            ∙ ap (λ (u : List Bool). stateBytes H (step H u last)) state-is
-            ∙ ap (stateBytes H)
-              (sym (run-block H (stateOf h) last)
-                ∙ ap (run H (stateOf h))
-                  (sym (one-block (H .r) (L .rate-pos) last [] last-long (L .rate-pos)) ∙ ap (wholeBlocks (H .r)) (append-nil last))))
+          ∙ ap (λ (u : List Bool). stateBytes H (step H u last)) state-is
+          ∙ ap (stateBytes H)
+          (sym (run-block H (stateOf h) last)
+          ∙ ap (run H (stateOf h))
+          (sym (one-block (H .r) (L .rate-pos) last [] last-long (L .rate-pos)) ∙ ap (wholeBlocks (H .r)) (append-nil last))))
           (sym (pack-none high-first 5))

@@ -37,6 +37,8 @@ owned h vs p =
     record {
       sized = record {
         state-size = ap length (sym (same (h .state))) ∙ o .0 .1 .0 .1;
-        held-size = ap length (sym (same (h .held))) ∙ o .1 .0 .1 .0 .1 };
+        held-size = ap length (sym (same (h .held))) ∙ o .1 .0 .1 .0 .1;
+      };
       state-byte = λ i. subst (λ (l : List ℕ). getD l i 0 < 256) (same (h .state)) (bytes (map (λ v. v) (h .state)) (o .0 .0) (o .0 .1 .1) i);
-      held-byte = λ i. subst (λ (l : List ℕ). getD l i 0 < 256) (same (h .held)) (bytes (map (λ v. v) (h .held)) (o .1 .0 .0) (o .1 .0 .1 .1) i) }
+      held-byte = λ i. subst (λ (l : List ℕ). getD l i 0 < 256) (same (h .held)) (bytes (map (λ v. v) (h .held)) (o .1 .0 .0) (o .1 .0 .1 .1) i);
+    }

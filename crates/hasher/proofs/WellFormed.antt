@@ -62,7 +62,8 @@ facts h e =
       stages = leb-true (h .stage) 1 (and-right a b ab);
       few = leb-true (h .total) most (and-right (a && b) c abc);
       state-clear = and-right (a && b && c) d abcd;
-      held-clear = and-right (a && b && c && d) (clear (drop (heldCount h) (bitsIn high-first (h .held)))) e }
+      held-clear = and-right (a && b && c && d) (clear (drop (heldCount h) (bitsIn high-first (h .held)))) e;
+    }
 
 pub well-formed : (h : Hasher) → Facts h → wellFormed h ≡ true
 unfolding wellFormed
@@ -100,7 +101,7 @@ module _ (h : Hasher) (low : 1 ≤ h .variant) (high : h .variant ≤ 10) where
       ⊎-elim
       (λ e. ap (λ (n : ℕ). n % k) (closed-count h e) ∙ none)
       (λ e. ap (λ (n : ℕ). n % k) (open-count h e)
-        ∙ mod-eq-zero-of-dvd k (dvd-mod-iff k {m = 8 * h .total} {n = variantOf h .r} (dvd-of-mod-eq-zero k rate) .1 (dvd-of-mod-eq-zero k {n = 8 * h .total} bits)))
+      ∙ mod-eq-zero-of-dvd k (dvd-mod-iff k {m = 8 * h .total} {n = variantOf h .r} (dvd-of-mod-eq-zero k rate) .1 (dvd-of-mod-eq-zero k {n = 8 * h .total} bits)))
       (either (closed h))
 
   pub count-quarters : heldCount h % 4 ≡ 0
@@ -145,7 +146,7 @@ front-kept o n t s hs ls ht e =
     let m : length (drop t bits) ≡ n * 8 - length (take t bits) = length-drop t bits ∙ omega arith in
     image-eq o n s (take t bits) hs ls (omega arith)
     (sym (take-append-drop t bits)
-      ∙ ap (λ (l : List Bool). take t bits ++ l) (clear-zeros (drop t bits) e ∙ ap (λ (k : ℕ). replicate k false) m))
+    ∙ ap (λ (l : List Bool). take t bits ++ l) (clear-zeros (drop t bits) e ∙ ap (λ (k : ℕ). replicate k false) m))
 
 pub packed-clear : (o : Order) (n t : ℕ) (bs : List Bool) → length bs ≡ t → t ≤ n * 8 → clear (drop t (bitsIn o (pack o n bs))) ≡ true
 packed-clear o n t bs l h =

@@ -32,10 +32,13 @@ with-one-requires : tie.Need-with-one-requires
 with-one-requires c κs =
     let h = c .before .before .before .before .before .before .before .args .h in
     let f = facts h (sym (c .before .before .before .before .before .before .is-well-formed .ensures) ∙ not-false _ (c .before .before .before .before .before .if1 .left)) in
-    let n = c .held-count in
-    ((ap (λ (k : ℕ). k % 4) (n .ensures) ∙ count-quarters h (f .low) (f .high),
-      omega (arith, n .ensures, count-lt h (f .low) (f .high), bounds (h .variant) (f .low) (f .high) .rate-most)),
-    held-ready h f (owned h _ (c .before .before .before .before .before .before .before .good .0)) (n .result) (n .ensures))
+    let n = c .held-count in (
+      (
+        ap (λ (k : ℕ). k % 4) (n .ensures) ∙ count-quarters h (f .low) (f .high),
+        omega (arith, n .ensures, count-lt h (f .low) (f .high), bounds (h .variant) (f .low) (f .high) .rate-most),
+      ),
+      held-ready h f (owned h _ (c .before .before .before .before .before .before .before .good .0)) (n .result) (n .ensures),
+    )
 
 stepped-requires : tie.Need-stepped-requires
 stepped-requires c κs =

@@ -35,10 +35,13 @@ with-byte-requires : tie.Need-with-byte-requires
 with-byte-requires c κs =
     let h = c .before .before .before .before .before .before .args .h in
     let f = facts h (c .before .before .before .before .before .before .pre .0 .0) in
-    let n = c .before .before .before .before .held-count in
-    ((ap (λ (k : ℕ). k % 4) (n .ensures) ∙ count-quarters h (f .low) (f .high),
-      omega (arith, c .before .before .before .before .before .block-bits .ensures, bounds (h .variant) (f .low) (f .high) .rate-most, c .if1 .taken)),
-    held-ready h f (owned h _ (c .before .before .before .before .before .before .good .0)) (n .result) (n .ensures))
+    let n = c .before .before .before .before .held-count in (
+      (
+        ap (λ (k : ℕ). k % 4) (n .ensures) ∙ count-quarters h (f .low) (f .high),
+        omega (arith, c .before .before .before .before .before .block-bits .ensures, bounds (h .variant) (f .low) (f .high) .rate-most, c .if1 .taken),
+      ),
+      held-ready h f (owned h _ (c .before .before .before .before .before .before .good .0)) (n .result) (n .ensures),
+    )
 
 returns : tie.Need-returns
 returns c =
@@ -58,20 +61,26 @@ with-byte-requires-2 : tie.Need-with-byte-requires-2
 with-byte-requires-2 c κs =
     let h = c .before .before .before .before .before .before .before .args .h in
     let f = facts h (c .before .before .before .before .before .before .before .pre .0 .0) in
-    let n = c .before .before .before .before .before .held-count in
-    ((ap (λ (k : ℕ). k % 4) (n .ensures) ∙ count-quarters h (f .low) (f .high),
-      omega (arith, c .before .before .before .before .before .before .block-bits .ensures, bounds (h .variant) (f .low) (f .high) .rate-most, c .if2 .taken)),
-    held-ready h f (owned h _ (c .before .before .before .before .before .before .before .good .0)) (n .result) (n .ensures))
+    let n = c .before .before .before .before .before .held-count in (
+      (
+        ap (λ (k : ℕ). k % 4) (n .ensures) ∙ count-quarters h (f .low) (f .high),
+        omega (arith, c .before .before .before .before .before .before .block-bits .ensures, bounds (h .variant) (f .low) (f .high) .rate-most, c .if2 .taken),
+      ),
+      held-ready h f (owned h _ (c .before .before .before .before .before .before .before .good .0)) (n .result) (n .ensures),
+    )
 
 stepped-requires : tie.Need-stepped-requires
 stepped-requires c κs =
     let h = c .before .before .before .before .before .before .before .before .args .h in
     let f = facts h (c .before .before .before .before .before .before .before .before .pre .0 .0) in
     let w = owned h _ (c .before .before .before .before .before .before .before .before .good .0) in
-    let n = c .before .before .before .before .before .before .held-count in
-    ((f .low, f .high),
-    (state-ready h f w,
-      full-ready h f w (n .result) (n .ensures) (c .before .before .before .before .before .before .before .before .args .x) (c .with-byte2 .result) (c .before .if2 .taken ∙ c .before .before .before .before .before .before .before .block-bits .ensures) (c .with-byte2 .ensures)))
+    let n = c .before .before .before .before .before .before .held-count in (
+      (f .low, f .high),
+      (
+        state-ready h f w,
+        full-ready h f w (n .result) (n .ensures) (c .before .before .before .before .before .before .before .before .args .x) (c .with-byte2 .result) (c .before .if2 .taken ∙ c .before .before .before .before .before .before .before .block-bits .ensures) (c .with-byte2 .ensures),
+      ),
+    )
 
 returns-2 : tie.Need-returns-2
 returns-2 c =
@@ -87,9 +96,10 @@ with-upper-requires c κs =
     let f = facts h (c .before .before .before .before .before .before .before .pre .0 .0) in
     let n = c .before .before .before .before .before .held-count in
     let past : variantOf h .r < heldCount h + 8 = omega (arith, c .before .before .before .before .before .before .block-bits .ensures, n .ensures, c .before .if1 .left, c .if2 .left) in
-    let whole = ap (λ (k : ℕ). k % 8) (n .ensures) ∙ count-whole h (f .low) (f .high) past in
-    ((whole, omega (arith, n .ensures, whole, count-lt h (f .low) (f .high), bounds (h .variant) (f .low) (f .high) .rate-most)),
-    held-ready h f (owned h _ (c .before .before .before .before .before .before .before .good .0)) (n .result) (n .ensures))
+    let whole = ap (λ (k : ℕ). k % 8) (n .ensures) ∙ count-whole h (f .low) (f .high) past in (
+      (whole, omega (arith, n .ensures, whole, count-lt h (f .low) (f .high), bounds (h .variant) (f .low) (f .high) .rate-most)),
+      held-ready h f (owned h _ (c .before .before .before .before .before .before .before .good .0)) (n .result) (n .ensures),
+    )
 
 stepped-requires-2 : tie.Need-stepped-requires-2
 stepped-requires-2 c κs =
@@ -97,9 +107,10 @@ stepped-requires-2 c κs =
     let f = facts h (c .before .before .before .before .before .before .before .before .pre .0 .0) in
     let w = owned h _ (c .before .before .before .before .before .before .before .before .good .0) in
     let n = c .before .before .before .before .before .before .held-count in
-    let past : variantOf h .r < n .result + 8 = omega (arith, c .before .before .before .before .before .before .before .block-bits .ensures, c .before .before .if1 .left, c .before .if2 .left) in
-    ((f .low, f .high),
-    (state-ready h f w, past-ready h f w (n .result) (n .ensures) (c .before .before .before .before .before .before .before .before .args .x) (c .with-upper .result) past (c .with-upper .ensures)))
+    let past : variantOf h .r < n .result + 8 = omega (arith, c .before .before .before .before .before .before .before .block-bits .ensures, c .before .before .if1 .left, c .before .if2 .left) in (
+      (f .low, f .high),
+      (state-ready h f w, past-ready h f w (n .result) (n .ensures) (c .before .before .before .before .before .before .before .before .args .x) (c .with-upper .result) past (c .with-upper .ensures)),
+    )
 
 lower-requires : tie.Need-lower-requires
 lower-requires c κs = search needs

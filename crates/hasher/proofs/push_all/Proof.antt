@@ -36,9 +36,10 @@ push-requires c κs =
     let piece = c .before .before .before .before .args .piece .now in
     let i = c .before .before .loop .i in
     let e = c .before .before .loop .inv .1 in
-    let f = first-facts h (facts h (c .before .before .before .before .pre .0 .0)) (owned h _ (c .before .before .before .before .good .0) .sized) (c .before .before .before .before .pre .0 .1) piece i (c .before .before .loop .inv .0) (c .before .before .before .before .pre .1) in
-    ((ap wellFormed e ∙ well-formed _ f, ap closed e ∙ grown-closed h i _ (c .before .before .before .before .pre .0 .1)),
-    omega (arith, ap (λ (g : Hasher). g .total) e ∙ grown-total h i (bitsIn high-first (take i piece)), c .before .before .before .before .pre .1))
+    let f = first-facts h (facts h (c .before .before .before .before .pre .0 .0)) (owned h _ (c .before .before .before .before .good .0) .sized) (c .before .before .before .before .pre .0 .1) piece i (c .before .before .loop .inv .0) (c .before .before .before .before .pre .1) in (
+      (ap wellFormed e ∙ well-formed _ f, ap closed e ∙ grown-closed h i _ (c .before .before .before .before .pre .0 .1)),
+      omega (arith, ap (λ (g : Hasher). g .total) e ∙ grown-total h i (bitsIn high-first (take i piece)), c .before .before .before .before .pre .1),
+    )
 
 add-i : tie.Need-add-i Inv-loop μ-loop
 add-i c = omega arith
@@ -51,11 +52,12 @@ loop-again c =
     let h = c .before .before .before .before .before .args .h in
     let piece = c .before .before .before .before .before .args .piece .now in
     let i = c .before .before .before .loop .i in
-    let l : i < length piece = omega arith in
-    (omega arith,
-    c .push .ensures
-    ∙ ap (λ (g : Hasher). grown g 1 (bitsIn high-first (getD piece i 0 ∷ []))) (c .before .before .before .loop .inv .1)
-    ∙ first-more h (facts h (c .before .before .before .before .before .pre .0 .0)) (owned h _ (c .before .before .before .before .before .good .0) .sized) (c .before .before .before .before .before .pre .0 .1) piece i l)
+    let l : i < length piece = omega arith in (
+      omega arith,
+      c .push .ensures
+          ∙ ap (λ (g : Hasher). grown g 1 (bitsIn high-first (getD piece i 0 ∷ []))) (c .before .before .before .loop .inv .1)
+          ∙ first-more h (facts h (c .before .before .before .before .before .pre .0 .0)) (owned h _ (c .before .before .before .before .before .good .0) .sized) (c .before .before .before .before .before .pre .0 .1) piece i l,
+    )
 
 returns : tie.Need-returns Inv-loop μ-loop
 returns c =
