@@ -1,2 +1,4 @@
 pub mod Passing
 pub mod LeadingLaws
+pub mod BlockHalves
+pub mod Runs

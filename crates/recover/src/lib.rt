@@ -27,7 +27,10 @@ fn padded_half(message: &[u8], n: usize) -> u8
         }
         return message[k] % 16;
     }
-    if n % 2 == 0 && k == message.len() {
+    if message.len() < k {
+        return 0;
+    }
+    if n % 2 == 0 {
         return 8;
     }
     0
@@ -134,11 +137,16 @@ fn between(v: u8, message: &[u8], place: usize, end: [u8; 36]) -> [u8; 36]
     difference(before, wanted)
 }
 
+const BLOCK_BYTES: [usize; 11] = [0, 3, 2, 5, 4, 4, 1, 1, 2, 2, 2];
+
 // The bytes of a block.
 pub fn block_bytes(v: u8) -> usize
     ensures { λ r. ⌜ r ≡ blockSize (variant v) ⌝ }
 {
-    ((sponge::block_bits(v) + 7) / 8) as usize
+    if 10 < v {
+        return 0;
+    }
+    BLOCK_BYTES[v as usize]
 }
 
 // Refusals 1, 4, 7, 6, 5, 8. The message's own block at the place is ignored.

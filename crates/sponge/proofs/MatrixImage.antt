@@ -67,7 +67,7 @@ filled-take (suc w) [] h = absurd (not-suc-le-zero h)
 filled-take (suc w) (b ∷ bs) h = ap (λ (l : List Bool). b ∷ l) (filled-take w bs (le-of-suc-le-suc h))
 
 -- zeros are worth nothing
-filled-nothing : (w : ℕ) → valueOf high-first (filled w []) ≡ 0
+pub filled-nothing : (w : ℕ) → valueOf high-first (filled w []) ≡ 0
 unfolding valueOf ordered filled
 filled-nothing w = ap (λ (l : List Bool). lowValue (reverse l)) (zeros w) ∙ ap lowValue (reverse-replicate w) ∙ low-zeros w
   where

@@ -36,7 +36,7 @@ module _ (H : Variant) (h : Lawful H) where
 
   -- ---- a row of blocks
 
-  unrun-one : (s b : List Bool) (bs : List (List Bool)) → unrun H s (b ∷ bs) ≡ unstep H (unrun H s bs) b
+  pub unrun-one : (s b : List Bool) (bs : List (List Bool)) → unrun H s (b ∷ bs) ≡ unstep H (unrun H s bs) b
   unfolding unrun
   unrun-one s b bs = ap (foldl (unstep H) s) (reverse-cons b bs) ∙ foldl-append (unstep H) s (reverse bs) (b ∷ [])
 

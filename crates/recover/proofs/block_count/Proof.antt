@@ -1,0 +1,37 @@
+-- `recover::block_count` meets its contract: floor(8 L / r) + 1. Assumes nothing.
+use mathlib.Core.Path.{_≡_, sym, ap, _∙_}
+use Prim.Native.Nat.{ℕ, _+_, _*_, _/_}
+use native.Mathlib.Nat.{div-le-self}
+use native.Mathlib.Omega.{arith}
+use lib.ListN.{length}
+use Rattle.standard.proofs.Variants.{bounds, message-block-count}
+use borrow.Author.Needs.{needs}
+use borrow.Author.Needs.{needs}
+use Rattle.recover.proofs.block_count.Statement.{statement}
+use Rattle.recover.proofs.block_count.Tie as tie
+
+mul-result : tie.Need-mul-result
+mul-result c = search needs
+
+block-bits-requires : tie.Need-block-bits-requires
+block-bits-requires c κs = search needs
+
+cast-result : tie.Need-cast-result
+cast-result c = search needs
+
+div-result : tie.Need-div-result
+div-result c = omega (arith, c .block-bits .ensures, bounds (c .before .before .args .v) (omega arith) (omega arith) .rate-least)
+
+add-result : tie.Need-add-result
+add-result c =
+    let L = length (c .before .before .args .message .now) in
+    omega (arith, div-le-self (8 * L) (c .block-bits .result), c .before .before .pre .1)
+
+returns : tie.Need-returns
+returns c =
+    let a = c .before .before .args in
+    ap (λ (r : ℕ). 8 * length (a .message .now) / r + 1) (c .block-bits .ensures) ∙ sym (message-block-count (a .v) (omega arith) (omega arith) (a .message .now))
+
+pub block-count-spec : {M : Type 1} → statement M
+block-count-spec =
+    tie.close (tie.spec mul-result block-bits-requires cast-result div-result add-result returns)
