@@ -1,145 +1,210 @@
--- pLayer by reading: where the bits come from, one after the other, and the bytes that they make.
+-- Bits moved as pairs: the planes of the pairs are pLayer on the bits, and the way back is its inverse.
 -- Assumes nothing.
-use mathlib.Core.Path.{_≡_, sym, ap, ap₂, _∙_}
+use mathlib.Core.Path.{_≡_, refl, sym, ap, ap₂, _∙_, subst}
 use mathlib.Core.Bool.{Bool, false}
-use mathlib.Core.List.{List, [], _∷_, _++_, append-assoc}
-use mathlib.Core.Logic.{⊎-elim, _⊎_}
-use Prim.Native.Nat.{ℕ, suc, _+_, _-_, _*_, _/_, _%_, _^_, _≤_, _<_}
-use native.Mathlib.Nat.{suc-mul, zero-add, zero-mul, zero-mod, mod-add-mod, mod-eq-of-lt, mod-eq-sub-mod, mod-self, mod-lt, mul-mod-right, mul-mod-left, div-eq-of-eq-mul-left, mul-comm, eq-or-lt-of-le, div-add-mod', le-trans}
-use native.Mathlib.Numerals.{add-one}
+use mathlib.Core.List.{List}
+use Prim.Native.Nat.{ℕ, zero, suc, _+_, _-_, _*_, _/_, _%_, _^_, _≤_, _<_}
+use native.Mathlib.Nat.{div-add-mod', div-one, div-div-eq-div-mul, div-lt-iff-lt-mul, mod-lt, mul-comm}
 use native.Mathlib.Omega.{arith}
-use lib.ListN.{length, getD, set, take, drop, replicate, length-drop, length-take, replicate-append-replicate}
-use lib.Seq.{take-suc, getD-drop, take-add, set-split, take-at, drop-append-add, length-take-le}
-use lib.Pow.{shl-exact, pow-mono}
-use Rattle.standard.specs.Bits.{low-first, digit, lowBits, lowValue, ordered, bitsOf, bitsIn}
-use Rattle.standard.specs.Spongent.{goesTo, pLayer}
-use Rattle.standard.proofs.BitLaws.{lowValue-append, lowValue-lt, lowBits-lowValue, digit-lt, bitsIn-append, bitsIn-take, bitsIn-drop}
-use Rattle.standard.proofs.SpongentLaws.{goesTo-last, goesTo-other, goesTo-back}
+use lib.Arith.{mod-mul, digits-mod}
+use lib.Pow.{shr-shr, high}
+use lib.ListN.{length, getD, take, drop, replicate, length-drop, length-replicate}
+use lib.Seq.{ext-getD, getD-take, getD-drop, length-take-le}
+use Rattle.standard.specs.Bits.{low-first, digit, bit, bitsIn}
+use Rattle.standard.specs.Spongent.{pLayer}
+use Rattle.standard.proofs.BitLaws.{bitsIn-digit, bit-digit, length-bitsIn, bitsIn-drop, bitsIn-zeros}
+use Rattle.standard.proofs.SpongentLaws.{length-pLayer, pLayer-plane}
+use Rattle.standard.proofs.Tests.{zero-to-three}
+use Rattle.spongent.specs.Pairs.{pairAt, pairOf}
 
--- m divides t
-pub whole : (t m : ℕ) → t % m ≡ 0 → t / m * m ≡ t
-whole t m h = let e : t / m * m + t % m ≡ t = div-add-mod' t m in omega arith
+-- ---- pairs and their places
 
--- 4 and t / 4 are each other's factors
-pub quarter-divides : (t : ℕ) → t % 8 ≡ 0 → t % (t / 4) ≡ 0
-quarter-divides t h = let e : t ≡ 4 * (t / 4) = omega arith in ap (λ (x : ℕ). x % (t / 4)) e ∙ mul-mod-left 4 (t / 4)
+pub pair-lt : (b x : ℕ) → pairOf b x < 4
+unfolding pairOf
+pair-lt b x = omega arith
 
-pub quarter-back : (t : ℕ) → t % 8 ≡ 0 → 8 ≤ t → t / (t / 4) ≡ 4
-quarter-back t h l = div-eq-of-eq-mul-left (omega arith) (omega arith)
+pub pairAt-lt : (s : List ℕ) (j : ℕ) → pairAt s j < 4
+unfolding pairAt
+pairAt-lt s j = omega arith
 
-module _ (t m : ℕ) (h0 : 0 < m) (hm : m < t) (div : t % m ≡ 0) (k : ℕ) (hk : suc k < t) where
-  abbrev place : ℕ
-  place = goesTo t m k
+-- the pair m of byte k
+pub pairAt-in : (s : List ℕ) (k m : ℕ) → m < 4 → pairAt s (4 * k + m) ≡ getD s k 0 / 2 ^ (2 * m) % 4
+unfolding pairAt
+pairAt-in s k m h =
+    let ek : (4 * k + m) / 4 ≡ k = omega arith in
+    let em : (4 * k + m) % 4 ≡ m = omega arith in
+    ap₂ (λ (i l : ℕ). getD s i 0 / 2 ^ (2 * l) % 4) ek em
 
-  place-is : place ≡ k * m % (t - 1)
-  place-is = goesTo-other t m k (omega arith)
+-- the pairs of byte k are those from 4 * k on
+abbrev pub Joined : List ℕ → ℕ → ℕ → Type 0
+Joined pairs k x =
+    (x % 4 ≡ getD pairs (4 * k) 0)
+    × ((x / 4 % 4 ≡ getD pairs (4 * k + 1) 0) × ((x / 16 % 4 ≡ getD pairs (4 * k + 2) 0) × (x / 64 % 4 ≡ getD pairs (4 * k + 3) 0)))
 
-  place-lt : place < t - 1
-  place-lt = rw place-is (mod-lt (k * m) {m = t - 1} (omega arith))
+pub joined-at : (pairs r : List ℕ) (j : ℕ) → Joined pairs (j / 4) (getD r (j / 4) 0) → pairAt r j ≡ getD pairs j 0
+unfolding pairAt
+joined-at pairs r j h =
+    let k : ℕ = j / 4 in
+    let x : ℕ = getD r k 0 in
+    let e0 : 4 * k ≡ 4 * k + 0 = omega arith in
+    let ej : 4 * k + j % 4 ≡ j = omega arith in
+    zero-to-three (λ m. x / 2 ^ (2 * m) % 4 ≡ getD pairs (4 * k + m) 0)
+    (ap (λ (y : ℕ). y % 4) (div-one x) ∙ h .0 ∙ ap (λ (i : ℕ). getD pairs i 0) e0)
+    (h .1 .0) (h .1 .1 .0) (h .1 .1 .1) (j % 4) (omega arith)
+    ∙ ap (λ (i : ℕ). getD pairs i 0) ej
 
-  product-next : suc k * m % (t - 1) ≡ (place + m) % (t - 1)
-  product-next = ap (λ (x : ℕ). x % (t - 1)) (suc-mul k m) ∙ sym (ap (λ (x : ℕ). (x + m) % (t - 1)) place-is ∙ mod-add-mod (k * m) (t - 1) m)
+-- v has the bits of w at the places b and b + 4
+pair-is : (b v w : ℕ) → w < 4 → (lo hi : ℕ) → lo < 2 ^ b → v ≡ (hi * 2 + w % 2) * 2 ^ b + lo → (below above : ℕ) → below < 2 ^ (b + 4)
+    → v ≡ (above * 2 + w / 2) * 2 ^ (b + 4) + below → pairOf b v ≡ w
+unfolding pairOf
+pair-is b v w hw lo hi hl e below above hb e4 =
+    ap₂ (λ (x y : ℕ). x + y * 2) (bit-is b lo hi (w % 2) (omega arith) hl e) (bit-is (b + 4) below above (w / 2) (omega arith) hb e4) ∙ omega arith
+  where
+    bit-is : (k l h d : ℕ) → d < 2 → l < 2 ^ k → v ≡ (h * 2 + d) * 2 ^ k + l → v / 2 ^ k % 2 ≡ d
+    bit-is k l h d hd hl e = ap (λ (x : ℕ). x / 2 ^ k % 2) e ∙ ap (λ (x : ℕ). x % 2) (high (h * 2 + d) k hl) ∙ digits-mod h hd
 
-  -- only the last bit has a product that is 0 modulo t - 1
-  next-nonzero : suc k < t - 1 → suc k * m % (t - 1) ≡ 0 → ⊥
-  next-nonzero l e =
-      let b = goesTo-back t m (t / m) (mul-comm m (t / m) ∙ whole t m div) in
-      let same : goesTo t m (suc k) ≡ goesTo t m 0 = goesTo-other t m (suc k) l ∙ e ∙ sym (goesTo-other t m 0 (omega arith) ∙ zero-times) in
-      let z : suc k ≡ 0 = sym (b .back (suc k) hk) ∙ ap (goesTo t (t / m)) same ∙ b .back 0 (omega arith) in
-      omega arith
+-- a byte of bits that stand as the planes take them
+module _ (w x y z : ℕ) (hw : w < 4) (hx : x < 4) (hy : y < 4) (hz : z < 4) (v : ℕ)
+    (e : v ≡ w % 2 + x % 2 * 2 + y % 2 * 4 + z % 2 * 8 + w / 2 * 16 + x / 2 * 32 + y / 2 * 64 + z / 2 * 128) where
+  pub gathered-pairs : (pairOf 0 v ≡ w) × ((pairOf 1 v ≡ x) × ((pairOf 2 v ≡ y) × (pairOf 3 v ≡ z)))
+  gathered-pairs =
+      let a0 : ℕ = w % 2 in
+      let a1 : ℕ = a0 + x % 2 * 2 in
+      let a2 : ℕ = a1 + y % 2 * 4 in
+      let a3 : ℕ = a2 + z % 2 * 8 in
+      let a4 : ℕ = a3 + w / 2 * 16 in
+      let a5 : ℕ = a4 + x / 2 * 32 in
+      let a6 : ℕ = a5 + y / 2 * 64 in
+      let b6 : ℕ = z / 2 in
+      let b5 : ℕ = b6 * 2 + y / 2 in
+      let b4 : ℕ = b5 * 2 + x / 2 in
+      let b3 : ℕ = b4 * 2 + w / 2 in
+      let b2 : ℕ = b3 * 2 + z % 2 in
+      let b1 : ℕ = b2 * 2 + y % 2 in
+      let b0 : ℕ = b1 * 2 + x % 2 in (
+        pair-is 0 v w hw 0 b0 (omega arith) (omega arith) a3 b4 (omega arith) (omega arith),
+        (
+          pair-is 1 v x hx a0 b1 (omega arith) (omega arith) a4 b5 (omega arith) (omega arith),
+          (
+            pair-is 2 v y hy a1 b2 (omega arith) (omega arith) a5 b6 (omega arith) (omega arith),
+            pair-is 3 v z hz a2 b3 (omega arith) (omega arith) a6 0 (omega arith) (omega arith),
+          ),
+        ),
+      )
+
+-- the pairs of byte i are those at place i of the planes
+abbrev pub Gathered : ℕ → List ℕ → ℕ → ℕ → Type 0
+Gathered n pairs i x =
+    (pairOf 0 x ≡ getD pairs i 0)
+    × ((pairOf 1 x ≡ getD pairs (n + i) 0) × ((pairOf 2 x ≡ getD pairs (2 * n + i) 0) × (pairOf 3 x ≡ getD pairs (3 * n + i) 0)))
+
+plane-lt : (j n : ℕ) → j < 4 * n → j / n < 4
+plane-lt j n h = div-lt-iff-lt-mul {k = n} {x = j} {y = 4} (omega arith) .1 h
+
+-- what holds at each place of each plane of n pairs holds at every place
+pub in-planes : (n : ℕ) (Q : ℕ → ℕ → ℕ → Type 0)
+    → ((i : ℕ) → i < n → Q i 0 i) → ((i : ℕ) → i < n → Q (n + i) 1 i) → ((i : ℕ) → i < n → Q (2 * n + i) 2 i) → ((i : ℕ) → i < n → Q (3 * n + i) 3 i)
+    → (j : ℕ) → j < 4 * n → Q j (j / n) (j % n)
+in-planes n Q q0 q1 q2 q3 j h =
+    let i : ℕ = j % n in
+    let hi : i < n = mod-lt j {m = n} (omega arith) in
+    let e0 : i ≡ 0 * n + i = omega arith in
+    let e1 : n + i ≡ 1 * n + i = omega arith in
+    subst (λ (k : ℕ). Q k (j / n) i) (div-add-mod' j n)
+    (zero-to-three (λ b. Q (b * n + i) b i)
+    (subst (λ (k : ℕ). Q k 0 i) e0 (q0 i hi))
+    (subst (λ (k : ℕ). Q k 1 i) e1 (q1 i hi))
+    (q2 i hi) (q3 i hi) (j / n) (plane-lt j n h))
+
+pub zeros-at : (n k : ℕ) → _≡_ {A = ℕ} (getD (replicate n 0) k 0) 0
+zeros-at zero k = refl
+zeros-at (suc n) zero = refl
+zeros-at (suc n) (suc k) = zeros-at n k
+
+-- ---- their bits
+
+low-of-four : (y e : ℕ) → e < 2 → y % 4 / 2 ^ e % 2 ≡ y / 2 ^ e % 2
+low-of-four y zero h = omega arith
+low-of-four y (suc zero) h = omega arith
+low-of-four y (suc (suc e)) h = absurd (omega arith)
+
+pairAt-digit : (r : List ℕ) (k : ℕ) → pairAt r (k / 2) / 2 ^ (k % 2) % 2 ≡ getD r (k / 8) 0 / 2 ^ (k % 8) % 2
+unfolding pairAt
+pairAt-digit r k =
+    let x : ℕ = getD r (k / 2 / 4) 0 in
+    let w : ℕ = 2 * (k / 2 % 4) in
+    let ei : k / 2 / 4 ≡ k / 8 = omega arith in
+    let ew : w + k % 2 ≡ k % 8 = omega arith in
+    low-of-four (x / 2 ^ w) (k % 2) (omega arith)
+    ∙ ap (λ (y : ℕ). y % 2) (shr-shr x w (k % 2))
+    ∙ ap₂ (λ (i l : ℕ). getD r i 0 / 2 ^ l % 2) ei ew
+
+pairOf-digit : (b x e : ℕ) → e < 2 → pairOf b x / 2 ^ e % 2 ≡ x / 2 ^ (4 * e + b) % 2
+unfolding pairOf
+pairOf-digit b x zero h = let z : 4 * 0 + b ≡ b = omega arith in omega (arith, ap (λ (l : ℕ). x / 2 ^ l % 2) z)
+pairOf-digit b x (suc zero) h = let z : 4 * 1 + b ≡ b + 4 = omega arith in omega (arith, ap (λ (l : ℕ). x / 2 ^ l % 2) z)
+pairOf-digit b x (suc (suc e)) h = absurd (omega arith)
+
+-- ---- the state
+
+-- r is s moved, n bytes of each
+abbrev pub Moved : ℕ → List ℕ → List ℕ → Type 0
+Moved n s r = (j : ℕ) → j < 4 * n → pairAt r j ≡ pairOf (j / n) (getD s (j % n) 0)
+
+same-digit : (a b : Bool) → digit a ≡ digit b → a ≡ b
+same-digit a b e = sym (bit-digit a) ∙ ap bit e ∙ bit-digit b
+
+module _ (t : ℕ) (least : 8 ≤ t) (most : t ≤ 288) (whole : t % 8 ≡ 0) (s r : List ℕ) (ls : length s ≡ 36) (lr : length r ≡ 36) where
+  -- bit k of r comes from where pLayer takes it
+  moved-digit : Moved (t / 8) s r → (k p : ℕ) → k < t → p ≡ 4 * (k % (t / 4)) + k / (t / 4) → getD r (k / 8) 0 / 2 ^ (k % 8) % 2 ≡ getD s (p / 8) 0 / 2 ^ (p % 8) % 2
+  moved-digit h k p hk ep =
+      let n : ℕ = t / 8 in
+      let j : ℕ = k / 2 in
+      let i : ℕ = j % n in
+      let b : ℕ = j / n in
+      let e : ℕ = k % 2 in
+      let hj : j < 4 * n = omega arith in
+      let q : t / 4 ≡ n * 2 = omega arith in
+      let hb : b < 4 = plane-lt j n hj in
+      let eb : k / (t / 4) ≡ b = ap (λ (m : ℕ). k / m) (q ∙ mul-comm n 2) ∙ sym (div-div-eq-div-mul k 2 n) in
+      let ei : k % (t / 4) ≡ i * 2 + e = ap (λ (m : ℕ). k % m) q ∙ mod-mul k {m = n} {c = 2} (omega arith) (omega arith) in
+      let ip : i ≡ p / 8 = omega arith in
+      let wp : 4 * e + b ≡ p % 8 = omega arith in
+      sym (pairAt-digit r k)
+      ∙ ap (λ (x : ℕ). x / 2 ^ e % 2) (h j hj)
+      ∙ pairOf-digit b (getD s i 0) e (omega arith)
+      ∙ ap₂ (λ (x w : ℕ). getD s x 0 / 2 ^ w % 2) ip wp
+
+  pub moved-bits : Moved (t / 8) s r → take t (bitsIn low-first r) ≡ pLayer t (t / 4) (take t (bitsIn low-first s))
+  moved-bits h =
+      let R : List Bool = bitsIn low-first r in
+      let S : List Bool = bitsIn low-first s in
+      let P : List Bool = pLayer t (t / 4) (take t S) in
+      let lR : length (take t R) ≡ t = length-take-le t R (omega (arith, length-bitsIn low-first r)) in
+      ext-getD false (take t R) P (lR ∙ sym (length-pLayer t (t / 4) (take t S)))
+      (λ k hl.
+      let hk : k < t = omega arith in
+      let p : ℕ = 4 * (k % (t / 4)) + k / (t / 4) in
+      let hp : p < t = place-lt k hk in
+      same-digit (getD (take t R) k false) (getD P k false)
+      (ap digit (getD-take t R k false hk) ∙ bitsIn-digit r k (omega arith) ∙ moved-digit h k p hk refl ∙ sym (bitsIn-digit s p (omega arith))
+      ∙ ap digit (sym (pLayer-plane t (t / 4) (omega arith) (take t S) k hk ∙ getD-take t S p false hp))))
     where
-      zero-times : 0 * m % (t - 1) ≡ 0
-      zero-times = ap (λ (x : ℕ). x % (t - 1)) (zero-mul m) ∙ zero-mod (t - 1)
+      place-lt : (k : ℕ) → k < t → 4 * (k % (t / 4)) + k / (t / 4) < t
+      place-lt k hk =
+          let hi : k % (t / 4) < t / 4 = mod-lt k {m = t / 4} (omega arith) in
+          let hb : k / (t / 4) < 4 = plane-lt k (t / 4) (omega arith) in
+          omega arith
 
-  last : (suc k ≡ t - 1) ⊎ (suc k < t - 1)
-  last = eq-or-lt-of-le (omega arith)
-
-  next-zero : suc k ≡ t - 1 → suc k * m % (t - 1) ≡ 0
-  next-zero e = ap (λ (x : ℕ). x * m % (t - 1)) e ∙ mul-mod-right (t - 1) m
-
-  pub next-near : place + m < t → goesTo t m (suc k) ≡ place + m
-  next-near h =
-      ⊎-elim
-      (λ e. let z : (place + m) % (t - 1) ≡ 0 = sym product-next ∙ next-zero e in
-      goesTo-last t m (suc k) e ∙ e ∙ ⊎-elim (λ q. sym q) (λ l. let q : place + m ≡ 0 = sym (mod-eq-of-lt l) ∙ z in absurd (omega arith)) near)
-      (λ l. ⊎-elim
-      (λ q. absurd (next-nonzero l (product-next ∙ ap (λ (x : ℕ). x % (t - 1)) q ∙ mod-self (t - 1))))
-      (λ q. goesTo-other t m (suc k) l ∙ product-next ∙ mod-eq-of-lt q) near)
-      last
+module _ (t : ℕ) (least : 8 ≤ t) (most : t ≤ 288) (whole : t % 8 ≡ 0) (r : List ℕ) (lr : length r ≡ 36) where
+  pub bits-behind : ((k : ℕ) → t / 8 ≤ k → getD r k 0 ≡ 0) → drop t (bitsIn low-first r) ≡ replicate (288 - t) false
+  bits-behind h =
+      let et : t ≡ 8 * (t / 8) = omega arith in
+      let left : 8 * (36 - t / 8) ≡ 288 - t = omega arith in
+      ap (λ (m : ℕ). drop m (bitsIn low-first r)) et ∙ bitsIn-drop low-first (t / 8) r
+      ∙ ap (bitsIn low-first) none ∙ bitsIn-zeros low-first (36 - t / 8) ∙ ap (λ (m : ℕ). replicate m false) left
     where
-      near : (place + m ≡ t - 1) ⊎ (place + m < t - 1)
-      near = eq-or-lt-of-le (omega arith)
-
-  pub next-far : t ≤ place + m → goesTo t m (suc k) ≡ place + m - (t - 1)
-  next-far h =
-      ⊎-elim
-      (λ e. let z : place + m - (t - 1) ≡ 0 = sym far ∙ sym product-next ∙ next-zero e in absurd (omega arith))
-      (λ l. goesTo-other t m (suc k) l ∙ product-next ∙ far)
-      last
-    where
-      far : (place + m) % (t - 1) ≡ place + m - (t - 1)
-      far = mod-eq-sub-mod (omega arith) ∙ mod-eq-of-lt (omega (arith, place-lt))
-
--- ---- a byte, bit by bit
-
--- the state whose bits are read with the factor m
-abbrev pub moved : List ℕ → ℕ → ℕ → List Bool
-moved s t m = pLayer t (t / m) (take t (bitsIn low-first s))
-
-one-bit : (x : Bool) → lowValue (x ∷ []) ≡ digit x
-unfolding lowValue
-one-bit x = zero-add (digit x)
-
-byte-lt : (x : List Bool) → length x ≤ 8 → lowValue x < 256
-byte-lt x h = le-trans (lowValue-lt x) (pow-mono h)
-
-module _ (P : List Bool) (k i b d : ℕ) (hi : i < 8) (hk : k + i < length P) (eb : b ≡ lowValue (take i (drop k P))) (ed : d ≡ digit (getD P (k + i) false)) where
-  rest-length : length (drop k P) ≡ length P - k
-  rest-length = length-drop k P
-
-  pub byte-more : b + d * 2 ^ i % 256 ≡ lowValue (take (i + 1) (drop k P))
-  byte-more =
-      let hd : d < 2 = rw ed (digit-lt (getD P (k + i) false)) in
-      let li : length (take i (drop k P)) ≡ i = length-take-le i (drop k P) (omega (arith, rest-length)) in
-      let x : Bool = getD (drop k P) i false in
-      let ex : digit x ≡ d = ap digit (getD-drop k P i false) ∙ sym ed in
-      ap₂ (λ (u v : ℕ). u + v) eb (shl-exact 1 i 8 hd (omega arith))
-      ∙ sym (ap lowValue (ap (λ (n : ℕ). take n (drop k P)) (add-one i) ∙ take-suc (drop k P) i false (omega (arith, rest-length)))
-      ∙ lowValue-append (take i (drop k P)) (x ∷ [])
-      ∙ ap₂ (λ (n y : ℕ). lowValue (take i (drop k P)) + 2 ^ n * y) li (one-bit x ∙ ex)
-      ∙ ap (λ (y : ℕ). lowValue (take i (drop k P)) + y) (mul-comm (2 ^ i) d))
-
-  pub byte-fits : b + d * 2 ^ i % 256 < 256
-  byte-fits = rw byte-more (byte-lt (take (i + 1) (drop k P)) (rw (length-take (i + 1) (drop k P)) (omega arith)))
-
--- ---- the state, byte by byte
-
-low-byte : (x : List Bool) → length x ≡ 8 → bitsOf low-first 8 (lowValue x) ≡ x
-unfolding bitsOf ordered
-low-byte x e = ap (λ (n : ℕ). lowBits n (lowValue x)) (sym e) ∙ lowBits-lowValue x
-
-pub bytes-more : (bytes : List ℕ) (i v : ℕ) (P : List Bool) → i < length bytes → i < 36 → 8 * i + 8 ≤ length P → v ≡ lowValue (take 8 (drop (8 * i) P))
-    → bitsIn low-first bytes ≡ take (8 * i) P ++ replicate (288 - 8 * i) false
-    → bitsIn low-first (set bytes i v) ≡ take (8 * (i + 1)) P ++ replicate (288 - 8 * (i + 1)) false
-unfolding bitsIn
-bytes-more bytes i v P hi h36 hp ev e =
-    let k : ℕ = 8 * i in
-    let B : List Bool = bitsIn low-first bytes in
-    let x : List Bool = take 8 (drop k P) in
-    let z : List Bool = replicate (288 - 8 * (i + 1)) false in
-    let lt : length (take k P) ≡ k = length-take-le k P (omega arith) in
-    let lx : length x ≡ 8 = length-take-le 8 (drop k P) (rw (length-drop k P) (omega arith)) in
-    let front : bitsIn low-first (take i bytes) ≡ take k P =
-    sym (bitsIn-take low-first i bytes) ∙ ap (take k) e ∙ take-at (take k P) (replicate (288 - k) false) k lt in
-    let n : 8 * suc i ≡ length (take k P) + 8 = omega arith in
-    let m : 288 - k ≡ 8 + (288 - 8 * (i + 1)) = omega arith in
-    let back : bitsIn low-first (drop (suc i) bytes) ≡ z =
-    sym (bitsIn-drop low-first (suc i) bytes) ∙ ap₂ drop n e ∙ drop-append-add (take k P) (replicate (288 - k) false) 8
-    ∙ ap (drop 8) (ap (λ (w : ℕ). replicate w false) m ∙ sym (replicate-append-replicate 8 (288 - 8 * (i + 1)) false)) in
-    let eight : 8 * (i + 1) ≡ k + 8 = omega arith in
-    ap (bitsIn low-first) (set-split bytes i v hi)
-    ∙ bitsIn-append low-first (take i bytes) (v ∷ drop (suc i) bytes)
-    ∙ ap₂ (λ (u w : List Bool). u ++ w) front
-    (ap₂ (λ (u w : List Bool). u ++ w) (ap (bitsOf low-first 8) ev ∙ low-byte x lx) back)
-    ∙ sym (append-assoc (take k P) x z)
-    ∙ ap (λ (u : List Bool). u ++ z) (sym (ap (λ (w : ℕ). take w P) eight ∙ take-add k 8 P))
+      none : drop (t / 8) r ≡ replicate (36 - t / 8) 0
+      none =
+          ext-getD 0 (drop (t / 8) r) (replicate (36 - t / 8) 0) (length-drop (t / 8) r ∙ ap (λ (m : ℕ). m - t / 8) lr ∙ sym (length-replicate (36 - t / 8) 0))
+          (λ k hk. getD-drop (t / 8) r k 0 ∙ h (t / 8 + k) (omega arith) ∙ sym (zeros-at (36 - t / 8) k))

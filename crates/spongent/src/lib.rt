@@ -6,8 +6,9 @@ ghost use Prim.Native.Nat.{ℕ, _+_, _-_, _*_, _/_, _%_, _<_, _≤_};
 ghost use lib.ListN.{length, getD, take, drop, replicate};
 ghost use Rattle.standard.specs.Bits.{low-first, high-first, bitsIn, bitsOf, lowBits, lowValue, pack, unpack};
 ghost use Rattle.standard.specs.Rounds.{direction, inTurn, rounds};
-ghost use Rattle.standard.specs.Spongent.{sBoxLayer, goesTo, pLayer, cAddition, nextCounter, counters, spongentRound, spongentPermutation};
+ghost use Rattle.standard.specs.Spongent.{sBoxLayer, pLayer, cAddition, nextCounter, counters, spongentRound, spongentPermutation};
 ghost use Rattle.spongent.specs.Parameters.{spongentOf, tapsOf};
+ghost use Rattle.spongent.specs.Pairs.{pairAt, pairOf};
 
 // The byte with its bits in the reverse order.
 fn reversed(b: u8) -> u8
@@ -87,57 +88,126 @@ fn substituted(s: [u8; 36], n: usize, table: [u8; 16]) -> [u8; 36]
     out
 }
 
-// Where the factor m takes bit j: the place that bit j comes from, where m is the factor of the inverse.
-fn goes_to(t: usize, m: usize, j: usize) -> usize
-    requires { ⌜ (j < t) × ((t ≤ 288) × (m < t)) ⌝ }
-    ensures { λ r. ⌜ (r ≡ goesTo t m j) × (r < t) ⌝ }
+// pLayer takes bit b of each nibble to plane b, a quarter of the state, so a byte gives each plane two bits that stay side by side. They are moved as pairs,
+// a byte for each: bit by bit, the move would take most of the time of a round.
+
+// The pair that a byte gives to plane b.
+fn pair(x: u8, b: u8) -> u8
+    requires { ⌜ b < 4 ⌝ }
+    ensures { λ r. ⌜ r ≡ pairOf b x ⌝ }
 {
-    let last = t - 1;
-    if j == last { j } else { j * m % last }
+    let y = x >> b;
+    y % 2 + y / 16 % 2 * 2
 }
 
-// The place of the next bit, from the place p of a bit. A division for each bit would take most of the time.
-fn next_place(t: usize, m: usize, p: usize) -> usize
-    requires { ⌜ (p < t) × ((t ≤ 288) × (m < t)) ⌝ }
-    requires { ⌜ (0 < m) × (t % m ≡ 0) ⌝ }
-    ensures { λ r. ⌜ (r < t) × ((j : ℕ) → j + 1 < t → p ≡ goesTo t m j → r ≡ goesTo t m (j + 1)) ⌝ }
+// The pairs with those of plane b from a place on, for all 36 bytes: a fixed number of turns is quicker, and the next plane is written over those past the state.
+fn with_plane(pairs: [u8; 144], s: [u8; 36], from: usize, b: u8) -> [u8; 144]
+    requires { ⌜ (from ≤ 108) × (b < 4) ⌝ }
+    ensures { λ r. ⌜ ((i : ℕ) → i < 36 → getD r (from + i) 0 ≡ pairOf b (getD s i 0)) × ((j : ℕ) → j < from → getD r j 0 ≡ getD pairs j 0) ⌝ }
 {
-    let q = p + m;
-    if q < t { q } else { q - (t - 1) }
-}
-
-// The eight bits from j on, of the state moved by the factor t / m.
-fn moved_byte(s: [u8; 36], t: usize, m: usize, j: usize) -> u8
-    requires { ⌜ (j + 8 ≤ t) × ((t ≤ 288) × (m < t)) ⌝ }
-    requires { ⌜ (0 < m) × (t % m ≡ 0) ⌝ }
-    ensures { λ r. ⌜ r ≡ lowValue (take 8 (drop j (pLayer t (t / m) (take t (bitsIn low-first s))))) ⌝ }
-{
-    let mut b: u8 = 0;
-    let mut p = goes_to(t, m, j);
+    let mut out = pairs;
     let mut i: usize = 0;
-    while i < 8 {
-        let bit = (s[p / 8] >> (p % 8)) % 2;
-        b = b + (bit << i);
-        p = next_place(t, m, p);
-        i += 1;
-    }
-    b
-}
-
-// pLayer by the factor t / m on the first t bits, with zeros behind them. Each bit is read from where it comes from, so that a byte is written once.
-fn moved(s: [u8; 36], t: usize, m: usize) -> [u8; 36]
-    requires { ⌜ (t ≤ 288) × ((t % 8 ≡ 0) × (m < t)) ⌝ }
-    requires { ⌜ (0 < m) × (t % m ≡ 0) ⌝ }
-    ensures { λ r. ⌜ bitsIn low-first r ≡ pLayer t (t / m) (take t (bitsIn low-first s)) ++ replicate (288 - t) false ⌝ }
-{
-    let n = t / 8;
-    let mut out = [0u8; 36];
-    let mut i: usize = 0;
-    while i < n {
-        out[i] = moved_byte(s, t, m, 8 * i);
+    while i < 36 {
+        out[from + i] = pair(s[i], b);
         i += 1;
     }
     out
+}
+
+// The four planes of n bytes.
+fn planes(s: [u8; 36], n: usize) -> [u8; 144]
+    requires { ⌜ n ≤ 36 ⌝ }
+    ensures { λ r. ⌜ ((j : ℕ) → j < 4 * n → getD r j 0 ≡ pairOf (j / n) (getD s (j % n) 0)) ⌝ }
+{
+    let none = [0u8; 144];
+    let one = with_plane(none, s, 0, 0);
+    let two = with_plane(one, s, n, 1);
+    let three = with_plane(two, s, 2 * n, 2);
+    with_plane(three, s, 3 * n, 3)
+}
+
+// The byte of four pairs.
+fn joined(w: u8, x: u8, y: u8, z: u8) -> u8
+    requires { ⌜ (w < 4) × ((x < 4) × ((y < 4) × (z < 4))) ⌝ }
+    ensures { λ r. ⌜ (r % 4 ≡ w) × ((r / 4 % 4 ≡ x) × ((r / 16 % 4 ≡ y) × (r / 64 % 4 ≡ z))) ⌝ }
+{
+    w + x * 4 + y * 16 + z * 64
+}
+
+// The n bytes of pairs, and zeros behind them.
+fn all_joined(pairs: [u8; 144], n: usize) -> [u8; 36]
+    requires { ⌜ (n ≤ 36) × ((j : ℕ) → j < 4 * n → getD pairs j 0 < 4) ⌝ }
+    ensures { λ r. ⌜ ((j : ℕ) → j < 4 * n → pairAt r j ≡ getD pairs j 0) × ((k : ℕ) → n ≤ k → getD r k 0 ≡ 0) ⌝ }
+{
+    let mut out = [0u8; 36];
+    let mut k: usize = 0;
+    while k < n {
+        let j = 4 * k;
+        out[k] = joined(pairs[j], pairs[j + 1], pairs[j + 2], pairs[j + 3]);
+        k += 1;
+    }
+    out
+}
+
+// pLayer on the first t bits, with zeros behind them.
+fn moved(s: [u8; 36], t: usize) -> [u8; 36]
+    requires { ⌜ (8 ≤ t) × ((t ≤ 288) × (t % 8 ≡ 0)) ⌝ }
+    ensures { λ r. ⌜ bitsIn low-first r ≡ pLayer t (t / 4) (take t (bitsIn low-first s)) ++ replicate (288 - t) false ⌝ }
+{
+    let n = t / 8;
+    let pairs = planes(s, n);
+    all_joined(pairs, n)
+}
+
+// The pairs of n bytes, one after the other.
+fn pairs_in(s: [u8; 36], n: usize) -> [u8; 144]
+    requires { ⌜ n ≤ 36 ⌝ }
+    ensures { λ r. ⌜ ((j : ℕ) → j < 4 * n → getD r j 0 ≡ pairAt s j) ⌝ }
+{
+    let mut out = [0u8; 144];
+    let mut k: usize = 0;
+    while k < n {
+        let x = s[k];
+        let j = 4 * k;
+        out[j] = x % 4;
+        out[j + 1] = x / 4 % 4;
+        out[j + 2] = x / 16 % 4;
+        out[j + 3] = x / 64 % 4;
+        k += 1;
+    }
+    out
+}
+
+// The byte that gives four pairs to the planes.
+fn gathered(w: u8, x: u8, y: u8, z: u8) -> u8
+    requires { ⌜ (w < 4) × ((x < 4) × ((y < 4) × (z < 4))) ⌝ }
+    ensures { λ r. ⌜ (pairOf 0 r ≡ w) × ((pairOf 1 r ≡ x) × ((pairOf 2 r ≡ y) × (pairOf 3 r ≡ z))) ⌝ }
+{
+    w % 2 + x % 2 * 2 + y % 2 * 4 + z % 2 * 8 + w / 2 * 16 + x / 2 * 32 + y / 2 * 64 + z / 2 * 128
+}
+
+// The n bytes that give the pairs to the planes, and zeros behind them.
+fn all_gathered(pairs: [u8; 144], n: usize) -> [u8; 36]
+    requires { ⌜ (n ≤ 36) × ((j : ℕ) → j < 4 * n → getD pairs j 0 < 4) ⌝ }
+    ensures { λ r. ⌜ ((j : ℕ) → j < 4 * n → pairOf (j / n) (getD r (j % n) 0) ≡ getD pairs j 0) × ((k : ℕ) → n ≤ k → getD r k 0 ≡ 0) ⌝ }
+{
+    let mut out = [0u8; 36];
+    let mut i: usize = 0;
+    while i < n {
+        out[i] = gathered(pairs[i], pairs[n + i], pairs[2 * n + i], pairs[3 * n + i]);
+        i += 1;
+    }
+    out
+}
+
+// The inverse of pLayer on the first t bits, with zeros behind them.
+fn moved_back(s: [u8; 36], t: usize) -> [u8; 36]
+    requires { ⌜ (8 ≤ t) × ((t ≤ 288) × (t % 8 ≡ 0)) ⌝ }
+    ensures { λ r. ⌜ bitsIn low-first r ≡ pLayer t 4 (take t (bitsIn low-first s)) ++ replicate (288 - t) false ⌝ }
+{
+    let n = t / 8;
+    let pairs = pairs_in(s, n);
+    all_gathered(pairs, n)
 }
 
 const NIBBLES: [u8; 16] = [14, 13, 11, 0, 2, 1, 4, 15, 7, 10, 8, 5, 9, 12, 3, 6];
@@ -152,13 +222,13 @@ fn round(s: [u8; 36], t: usize, c: u8, back: bool) -> [u8; 36]
 {
     let n = t / 8;
     if back {
-        let put = moved(s, t, t / 4);
+        let put = moved_back(s, t);
         let replaced = substituted(put, n, UNNIBBLES);
         return with_counter(replaced, n, c);
     }
     let added = with_counter(s, n, c);
     let replaced = substituted(added, n, NIBBLES);
-    moved(replaced, t, 4)
+    moved(replaced, t)
 }
 
 // Which of n constants the round k uses: the inverse begins with the last.

@@ -5,7 +5,7 @@ use mathlib.Core.Bool.{Bool, true, false, xor}
 use mathlib.Core.List.{List, [], _∷_, _++_}
 use mathlib.Core.Logic.{⊎-elim, _⊎_}
 use Prim.Native.Nat.{ℕ, zero, suc, _+_, _-_, _*_, _/_, _%_, _^_, _≤_, _<_}
-use native.Mathlib.Nat.{le-of-suc-le-suc, not-suc-le-zero, mul-assoc, mul-comm, div-add-mod', add-mul, mul-add-mod-self-right, mod-eq-of-lt, mod-lt, eq-or-lt-of-le, mul-suc, mul-right-comm}
+use native.Mathlib.Nat.{le-of-suc-le-suc, not-suc-le-zero, mul-assoc, mul-comm, div-add-mod', add-mul, mul-add-mod-self-right, mod-eq-of-lt, mod-lt, eq-or-lt-of-le, mul-suc, mul-right-comm, div-lt-iff-lt-mul}
 use native.Mathlib.Omega.{arith}
 use lib.ListN.{length, getD, set, length-set, length-replicate}
 use lib.Seq.{getD-set-same, getD-set-other, ext-getD}
@@ -15,7 +15,7 @@ use Rattle.standard.specs.Bits.{low-first, high-first, lowBits, lowValue
 use Rattle.standard.specs.Rounds.{Direction, forward, backward, opposite}
 use Rattle.standard.specs.Spongent.{cAddition, nibbles, unnibbles, sBoxLayer, goesTo, placed, pLayer, spongentRound, SpongentParameters, lCounters, spongentPermutation}
 use Rattle.standard.proofs.BitLaws.{length-xorInto, xorInto-twice, lowValue-lowBits, lowBits-lowValue, lowValue-lt}
-use Rattle.standard.proofs.Tests.{below, same-below, bound-below}
+use Rattle.standard.proofs.Tests.{below, same-below, bound-below, zero-to-three}
 use Rattle.standard.proofs.Undo.{All, all-of, rounds-keep, rounds-undo}
 
 -- ---- pLayer
@@ -107,6 +107,33 @@ pLayer-at t a b e s k h = placed-at (goesTo t a) (goesTo t b) t (goesTo-back t a
 pub pLayer-undo : (t a b : ℕ) → a * b ≡ t → (s : List Bool) → length s ≡ t → pLayer t b (pLayer t a s) ≡ s
 unfolding pLayer
 pLayer-undo t a b e s h = placed-undo (goesTo t a) (goesTo t b) t (goesTo-back t a b e) (goesTo-back t b a (mul-comm b a ∙ e)) s h
+
+-- ---- pLayer by planes: the result is bit 0 of every nibble, then bit 1 of every nibble, and so on
+
+module _ (t q : ℕ) (et : t ≡ 4 * q) where
+  goesTo-turned : (b i : ℕ) → b * q + i < t → (b * q + i) * 4 ≡ b * (t - 1) + (4 * i + b) → (b * q + i ≡ t - 1 → 4 * i + b ≡ b * q + i)
+      → (b * q + i < t - 1 → 4 * i + b < t - 1) → goesTo t 4 (b * q + i) ≡ 4 * i + b
+  goesTo-turned b i h e last other =
+      ⊎-elim
+      (λ z. goesTo-last t 4 (b * q + i) z ∙ sym (last z))
+      (λ l. goesTo-other t 4 (b * q + i) l ∙ ap (λ (x : ℕ). x % (t - 1)) e ∙ mul-add-mod-self-right b (t - 1) (4 * i + b) ∙ mod-eq-of-lt (other l))
+      (last? t (b * q + i) h)
+
+  goesTo-plane : (k : ℕ) → k < t → goesTo t 4 k ≡ 4 * (k % q) + k / q
+  goesTo-plane k h =
+      let i : ℕ = k % q in
+      let hi : i < q = mod-lt k {m = q} (omega arith) in
+      ap (goesTo t 4) (sym (div-add-mod' k q))
+      ∙ zero-to-three (λ b. goesTo t 4 (b * q + i) ≡ 4 * i + b)
+      (goesTo-turned 0 i (omega arith) (omega arith) (λ e. omega arith) (λ l. omega arith))
+      (goesTo-turned 1 i (omega arith) (omega arith) (λ e. omega arith) (λ l. omega arith))
+      (goesTo-turned 2 i (omega arith) (omega arith) (λ e. omega arith) (λ l. omega arith))
+      (goesTo-turned 3 i (omega arith) (omega arith) (λ e. omega arith) (λ l. omega arith))
+      (k / q) (div-lt-iff-lt-mul (omega arith) .1 (omega arith))
+
+  -- bit k is bit k / q of the nibble k % q
+  pub pLayer-plane : (s : List Bool) (k : ℕ) → k < t → getD (pLayer t q s) k false ≡ getD s (4 * (k % q) + k / q) false
+  pLayer-plane s k h = pLayer-at t q 4 (omega arith) s k h ∙ ap (λ (j : ℕ). getD s j false) (goesTo-plane k h)
 
 -- ---- sBoxLayer
 

@@ -42,6 +42,14 @@ same-below f g n t k h = eqb→eq (f k) (g k) (below-at (λ m. eqb (f m) (g m)) 
 pub bound-below : (f : ℕ → ℕ) (b n : ℕ) → T (below (λ k. ltb (f k) b) n) → (k : ℕ) → k < n → f k < b
 bound-below f b n t k h = leb→le (suc (f k)) b (below-at (λ m. ltb (f m) b) n t k h)
 
+-- what holds of each of 0 to 3 holds of every number below 4
+pub zero-to-three : (P : ℕ → Type 0) → P 0 → P 1 → P 2 → P 3 → (b : ℕ) → b < 4 → P b
+zero-to-three P p q r s zero h = p
+zero-to-three P p q r s (suc zero) h = q
+zero-to-three P p q r s (suc (suc zero)) h = r
+zero-to-three P p q r s (suc (suc (suc zero))) h = s
+zero-to-three P p q r s (suc (suc (suc (suc b)))) h = absurd (omega arith)
+
 -- what holds of each of 1 to 5 holds of every number between
 pub one-to-five : (P : ℕ → Type 0) → P 1 → P 2 → P 3 → P 4 → P 5 → (v : ℕ) → 1 ≤ v → v ≤ 5 → P v
 one-to-five P a b c d e zero l h = absurd (not-suc-le-zero l)

@@ -15,12 +15,11 @@ use Rattle.standard.proofs.BitLaws.{length-bitsIn}
 use Rattle.standard.proofs.Tests.{bound-below}
 use Rattle.standard.proofs.SpongentLaws.{length-pLayer, length-sBoxLayer, length-cAddition}
 use Rattle.spongent.proofs.Layers.{first-bits, layer-after}
-use Rattle.spongent.proofs.Places.{quarter-divides, quarter-back}
 use Rattle.spongent.proofs.round.Statement.{statement}
 use Rattle.spongent.proofs.round.Tie as tie
 
-moved-requires : tie.Need-moved-requires
-moved-requires c κs = (omega arith, (omega arith, quarter-divides (c .before .args .t) (omega arith)))
+moved-back-requires : tie.Need-moved-back-requires
+moved-back-requires c κs = search needs
 
 substituted-requires : tie.Need-substituted-requires
 substituted-requires c κs = (omega arith, bound-below _ 16 16 tt)
@@ -39,12 +38,11 @@ returns c =
     let x : List Bool = take t (bitsIn low-first (a .s)) in
     let p : List Bool = pLayer t 4 x in
     let q : List Bool = sBoxLayer unnibbles p in
-    let P : List Bool = bitsIn low-first (c .before .before .moved .result) in
+    let P : List Bool = bitsIn low-first (c .before .before .moved-back .result) in
     let Q : List Bool = bitsIn low-first (c .before .substituted .result) in
     let R : List Bool = bitsIn low-first (c .with-counter .result) in
     let lp : length p ≡ t = length-pLayer t 4 x in
-    let ep : P ≡ p ++ z = c .before .before .moved .ensures ∙ ap (λ (m : ℕ). pLayer t m x ++ z) (quarter-back t (omega arith) (omega arith)) in
-    let eq : Q ≡ q ++ z = layer-after t P p z lp ep (sBoxLayer unnibbles) n Q en (c .before .substituted .ensures) in
+    let eq : Q ≡ q ++ z = layer-after t P p z lp (c .before .before .moved-back .ensures) (sBoxLayer unnibbles) n Q en (c .before .substituted .ensures) in
     layer-after t Q q z (length-sBoxLayer unnibbles p ∙ lp) eq (cAddition (8 * n) (a .c)) n R en (c .with-counter .ensures)
     ∙ ap (λ (m : ℕ). cAddition m (a .c) q ++ z) en
     ∙ ap (λ (b : Bool). spongentRound t (direction b) x (a .c) ++ z) (sym (c .before .before .before .if1 .taken))
@@ -55,8 +53,8 @@ with-counter-requires-2 c κs = search needs
 substituted-requires-2 : tie.Need-substituted-requires-2
 substituted-requires-2 c κs = (omega arith, bound-below _ 16 16 tt)
 
-moved-requires-2 : tie.Need-moved-requires-2
-moved-requires-2 c κs = search needs
+moved-requires : tie.Need-moved-requires
+moved-requires c κs = search needs
 
 returns-2 : tie.Need-returns-2
 unfolding spongentRound
@@ -79,7 +77,7 @@ returns-2 c =
     layer-after t L x z lx ex (cAddition (8 * n) (a .c)) n P en (c .before .before .with-counter2 .ensures)
     ∙ ap (λ (m : ℕ). cAddition m (a .c) x ++ z) en in
     let eq : Q ≡ q ++ z = layer-after t P p z lp ep (sBoxLayer nibbles) n Q en (c .before .substituted2 .ensures) in
-    c .moved2 .ensures
+    c .moved .ensures
     ∙ ap (λ (l : List Bool). pLayer t (t / 4) l ++ z) (first-bits t Q q z (length-sBoxLayer nibbles p ∙ lp) eq)
     ∙ ap (λ (b : Bool). spongentRound t (direction b) x (a .c) ++ z) (sym (c .before .before .before .if1 .left))
 
@@ -87,11 +85,11 @@ pub round-spec : {M : Type 1} → statement M
 round-spec =
     tie.close
     (tie.spec
-    moved-requires
+    moved-back-requires
     substituted-requires
     with-counter-requires
     returns
     with-counter-requires-2
     substituted-requires-2
-    moved-requires-2
+    moved-requires
     returns-2)

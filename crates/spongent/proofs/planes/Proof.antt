@@ -1,0 +1,57 @@
+-- `planes` has the four planes of n bytes, one behind the other.
+-- Assumes nothing.
+use mathlib.Core.Path.{_≡_, ap, _∙_}
+use Prim.Native.Nat.{ℕ, _+_, _*_}
+use native.Mathlib.Omega.{arith}
+use lib.ListN.{getD}
+use Rattle.spongent.specs.Pairs.{pairOf}
+use Rattle.spongent.proofs.Places.{in-planes}
+use borrow.Author.Needs.{needs}
+use Rattle.spongent.proofs.planes.Statement.{statement}
+use Rattle.spongent.proofs.planes.Tie as tie
+
+with-plane-requires : tie.Need-with-plane-requires
+with-plane-requires c κs = search needs
+
+with-plane-requires-2 : tie.Need-with-plane-requires-2
+with-plane-requires-2 c κs = search needs
+
+mul-with-plane : tie.Need-mul-with-plane
+mul-with-plane c = search needs
+
+with-plane-requires-3 : tie.Need-with-plane-requires-3
+with-plane-requires-3 c κs = search needs
+
+mul-with-plane-2 : tie.Need-mul-with-plane-2
+mul-with-plane-2 c = search needs
+
+with-plane-requires-4 : tie.Need-with-plane-requires-4
+with-plane-requires-4 c κs = search needs
+
+returns : tie.Need-returns
+returns c =
+    let a = c .before .before .before .before .args in
+    let n : ℕ = a .n in
+    let one = c .before .before .before .with-plane in
+    let two = c .before .before .with-plane2 .ensures in
+    let three = c .before .with-plane3 .ensures in
+    let four = c .with-plane4 .ensures in
+    in-planes n (λ j b i. getD (c .with-plane4 .result) j 0 ≡ pairOf b (getD (a .s) i 0))
+    (λ i h.
+    let e : i ≡ 0 + i = omega arith in
+    four .1 i (omega arith) ∙ three .1 i (omega arith) ∙ two .1 i h ∙ ap (λ (j : ℕ). getD (one .result) j 0) e ∙ one .ensures .0 i (omega arith))
+    (λ i h. four .1 (n + i) (omega arith) ∙ three .1 (n + i) (omega arith) ∙ two .0 i (omega arith))
+    (λ i h. four .1 (2 * n + i) (omega arith) ∙ three .0 i (omega arith))
+    (λ i h. four .0 i (omega arith))
+
+pub planes-spec : {M : Type 1} → statement M
+planes-spec =
+    tie.close
+    (tie.spec
+    with-plane-requires
+    with-plane-requires-2
+    mul-with-plane
+    with-plane-requires-3
+    mul-with-plane-2
+    with-plane-requires-4
+    returns)

@@ -1,0 +1,14 @@
+-- Pairs of bits, in which the code moves bits. pLayer takes bit b of each nibble, one nibble after the other, to plane b, a quarter of the state, and the four planes
+-- lie one behind the other. A byte has two nibbles, so it gives a pair of bits to each plane.
+-- Assumes nothing.
+use mathlib.Core.List.{List}
+use Prim.Native.Nat.{ℕ, _+_, _*_, _/_, _%_, _^_}
+use lib.ListN.{getD}
+
+-- the j-th pair of the bits in bytes
+unfoldable pub pairAt : List ℕ → ℕ → ℕ
+pairAt s j = getD s (j / 4) 0 / 2 ^ (2 * (j % 4)) % 4
+
+-- what a byte gives to plane b: its bits b and b + 4
+unfoldable pub pairOf : ℕ → ℕ → ℕ
+pairOf b x = x / 2 ^ b % 2 + x / 2 ^ (b + 4) % 2 * 2
