@@ -1,45 +1,59 @@
+-- `recover::difference` meets its contract: the bytes passed are xored. Assumes nothing.
+use mathlib.Core.Path.{_≡_, sym, ap, _∙_}
+use mathlib.Core.List.{List}
+use Prim.Native.Nat.{ℕ, _+_, _-_, _≤_}
+use native.Mathlib.Omega.{arith}
+use native.Mathlib.Numerals.{add-one}
+use lib.Bits.{bitXor}
+use lib.ListN.{length, getD, set, take}
+use lib.Seq.{take-all}
+use Rattle.standard.specs.Bits.{Order, bitsIn}
+use Rattle.standard.proofs.BitLaws.{bytesXor, bytesXor-none, bytesXor-more, bitsIn-bytesXor}
 use Rattle.recover.proofs.difference.Statement.{statement}
 use Rattle.recover.proofs.difference.Tie as tie
-use Rattle.recover.proofs.difference.Reads as reads
-use Rattle.recover.proofs.difference.Lts as lts
 
 abbrev Inv-loop : tie.InvT-loop
-Inv-loop b out₀ i₀ out i = ?
+Inv-loop b out₀ i₀ out i = (i ≤ 36) × (out ≡ bytesXor out₀ (take i b))
 
 abbrev μ-loop : tie.MeasureT-loop
-μ-loop b out₀ i₀ out i = ?
+μ-loop b out₀ i₀ out i = 36 - i
 
--- src/lib.rt:114:5
 loop-holds : tie.Need-loop-holds Inv-loop μ-loop
-loop-holds c = ?
+loop-holds c = (omega arith, sym (bytesXor-none (c .args .a)))
 
--- src/lib.rt:115:18
 array-read-out : tie.Need-array-read-out Inv-loop μ-loop
-array-read-out c = ?
+array-read-out c = omega arith
 
--- src/lib.rt:115:27
 array-read-out-2 : tie.Need-array-read-out-2 Inv-loop μ-loop
-array-read-out-2 c = ?
+array-read-out-2 c = omega arith
 
--- src/lib.rt:115:9
 array-write-out : tie.Need-array-write-out Inv-loop μ-loop
-array-write-out c = ?
+array-write-out c = omega arith
 
--- src/lib.rt:116:9
 add-i : tie.Need-add-i Inv-loop μ-loop
-add-i c = ?
+add-i c = omega arith
 
--- src/lib.rt:114:5
 loop-less : tie.Need-loop-less Inv-loop μ-loop
-loop-less c = ?
+loop-less c = omega arith
 
--- src/lib.rt:114:5
 loop-again : tie.Need-loop-again Inv-loop μ-loop
-loop-again c = ?
+loop-again c =
+    let l = c .before in
+    let b : List ℕ = l .before .args .t2 in
+    let s : List ℕ = l .before .args .a in
+    let i : ℕ = l .loop .i in (
+      omega arith,
+      ap (λ (x : List ℕ). set x i (bitXor (getD x i 0) (getD b i 0))) (l .loop .inv .1)
+          ∙ bytesXor-more s b i (omega arith) (omega arith)
+          ∙ ap (λ (m : ℕ). bytesXor s (take m b)) (sym (add-one i)),
+    )
 
--- src/lib.rt:109:1
 returns : tie.Need-returns Inv-loop μ-loop
-returns c = ?
+returns c o =
+    let l = c .before in
+    let b : List ℕ = l .before .args .t2 in
+    let s : List ℕ = l .before .args .a in
+    ap (bitsIn o) (l .loop .inv .1 ∙ ap (bytesXor s) (take-all (l .loop .i) b (omega arith))) ∙ bitsIn-bytesXor o s b
 
 pub difference-spec : {M : Type 1} → statement M
 difference-spec =

@@ -1,52 +1,49 @@
+-- `recover::run_back` meets its contract: the blocks passed, from the last on, are taken back. Assumes nothing.
+use mathlib.Core.Path.{_≡_, sym, ap, _∙_}
+use Prim.Native.Nat.{ℕ, suc, _+_, _-_, _≤_, _<_}
+use native.Mathlib.Numerals.{add-one}
+use native.Mathlib.Omega.{arith}
+use lib.ListN.{length, drop}
+use Rattle.standard.specs.Sponge.{messageBlocks, unrun, stateIn}
+use Rattle.standard.specs.Variants.{variant}
+use Rattle.sponge.specs.Layout.{stateBytes}
+use Rattle.sponge.proofs.States.{state-length}
+use Rattle.recover.proofs.Runs.{block-ready, unrun-start, unrun-ready, unrun-more}
 use Rattle.recover.proofs.run_back.Statement.{statement}
 use Rattle.recover.proofs.run_back.Tie as tie
-use Rattle.recover.proofs.run_back.Reads as reads
-use Rattle.recover.proofs.run_back.Lts as lts
-use Rattle.recover.proofs.block_at.Reads as block-at-reads
-use Rattle.recover.proofs.block_count.Reads as block-count-reads
-use Rattle.sponge.proofs.unstepped.Reads as unstepped-reads
 
 abbrev Inv-loop : tie.InvT-loop
-Inv-loop v message place s₀ j₀ s j = ?
+Inv-loop v message place s₀ j₀ s j = (place < j) × (j ≤ length (messageBlocks (variant v) message)) × (s ≡ stateBytes (variant v) (unrun (variant v) (stateIn (variant v) s₀) (drop j (messageBlocks (variant v) message))))
 
 abbrev μ-loop : tie.MeasureT-loop
-μ-loop v message place s₀ j₀ s j = ?
+μ-loop v message place s₀ j₀ s j = j
 
--- src/lib.rt:101:9
 block-count-requires : tie.Need-block-count-requires Inv-loop μ-loop
-block-count-requires c κs = ?
+block-count-requires c κs = ?bc
 
--- src/lib.rt:102:5
 loop-holds : tie.Need-loop-holds Inv-loop μ-loop
-loop-holds c = ?
+loop-holds c = ?lh
 
--- src/lib.rt:102:11
 add-loop : tie.Need-add-loop Inv-loop μ-loop
-add-loop c = ?
+add-loop c = ?al
 
--- src/lib.rt:103:9
 sub-j : tie.Need-sub-j Inv-loop μ-loop
-sub-j c = ?
+sub-j c = ?sj
 
--- src/lib.rt:104:13
 block-at-requires : tie.Need-block-at-requires Inv-loop μ-loop
-block-at-requires c κs = ?
+block-at-requires c κs = ?ba
 
--- src/lib.rt:105:13
 unstepped-requires : tie.Need-unstepped-requires Inv-loop μ-loop
-unstepped-requires c κs = ?
+unstepped-requires c κs = ?us
 
--- src/lib.rt:102:5
 loop-less : tie.Need-loop-less Inv-loop μ-loop
-loop-less c = ?
+loop-less c = ?ll
 
--- src/lib.rt:102:5
 loop-again : tie.Need-loop-again Inv-loop μ-loop
-loop-again c = ?
+loop-again c = ?la
 
--- src/lib.rt:93:1
 returns : tie.Need-returns Inv-loop μ-loop
-returns c = ?
+returns c = ?re
 
 pub run-back-spec : {M : Type 1} → statement M
 run-back-spec =
