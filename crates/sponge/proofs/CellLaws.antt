@@ -35,8 +35,8 @@ module _ (s : List ℕ) (bytes : (i : ℕ) → getD s i 0 < 256) (n : ℕ) where
       let x : ℕ = getD s n 0 in
       ap (valueOf high-first)
       (ap (λ (m : ℕ). take 8 (drop m (bitsIn high-first s))) e
-        ∙ ap (take 8) (from-byte s n h)
-        ∙ take-at (bitsOf high-first 8 x) (bitsIn high-first (drop (suc n) s)) 8 (length-bitsOf high-first 8 x))
+      ∙ ap (take 8) (from-byte s n h)
+      ∙ take-at (bitsOf high-first 8 x) (bitsIn high-first (drop (suc n) s)) 8 (length-bitsOf high-first 8 x))
       ∙ valueOf-bitsOf high-first 8 x (bytes n)
 
   pub cell-past : length s ≤ n → cellIn 8 s n ≡ 0
@@ -51,9 +51,9 @@ module _ (s : List ℕ) (bytes : (i : ℕ) → getD s i 0 < 256) (n : ℕ) where
       let x : ℕ = getD s k 0 in
       ap (valueOf high-first)
       (ap (λ (m : ℕ). take 4 (drop m (bitsIn high-first s))) e
-        ∙ ap (take 4) (from-byte s k h)
-        ∙ take-append-le 4 (bitsOf high-first 8 x) (bitsIn high-first (drop (suc k) s)) (omega (arith, length-bitsOf high-first 8 x))
-        ∙ upper-half x)
+      ∙ ap (take 4) (from-byte s k h)
+      ∙ take-append-le 4 (bitsOf high-first 8 x) (bitsIn high-first (drop (suc k) s)) (omega (arith, length-bitsOf high-first 8 x))
+      ∙ upper-half x)
       ∙ valueOf-bitsOf high-first 4 (x / 16) (omega (arith, bytes k))
 
   pub cell-odd : n / 2 < length s → n % 2 ≡ 1 → cellIn 4 s n ≡ getD s (n / 2) 0 % 16
@@ -64,12 +64,12 @@ module _ (s : List ℕ) (bytes : (i : ℕ) → getD s i 0 < 256) (n : ℕ) where
       let x : ℕ = getD s k 0 in
       ap (valueOf high-first)
       (ap (λ (m : ℕ). take 4 (drop m (bitsIn high-first s))) e
-        ∙ ap (take 4)
-          (sym (drop-drop 4 (8 * k) (bitsIn high-first s))
-            ∙ ap (drop 4) (from-byte s k h)
-            ∙ drop-append-le 4 (bitsOf high-first 8 x) (bitsIn high-first (drop (suc k) s)) (omega (arith, length-bitsOf high-first 8 x))
-            ∙ ap (λ (l : List Bool). l ++ bitsIn high-first (drop (suc k) s)) (lower-half x))
-        ∙ take-at (bitsOf high-first 4 x) (bitsIn high-first (drop (suc k) s)) 4 (length-bitsOf high-first 4 x))
+      ∙ ap (take 4)
+      (sym (drop-drop 4 (8 * k) (bitsIn high-first s))
+      ∙ ap (drop 4) (from-byte s k h)
+      ∙ drop-append-le 4 (bitsOf high-first 8 x) (bitsIn high-first (drop (suc k) s)) (omega (arith, length-bitsOf high-first 8 x))
+      ∙ ap (λ (l : List Bool). l ++ bitsIn high-first (drop (suc k) s)) (lower-half x))
+      ∙ take-at (bitsOf high-first 4 x) (bitsIn high-first (drop (suc k) s)) 4 (length-bitsOf high-first 4 x))
       ∙ value-mod high-first 4 x
 
 -- a width that is not 8 is 4

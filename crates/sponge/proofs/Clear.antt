@@ -118,11 +118,11 @@ half-byte s c h l =
     let e : c ≡ 8 * k + 4 = omega arith in
     ap clear
     (ap (λ (n : ℕ). drop n (bitsIn high-first s)) e
-      ∙ sym (drop-drop 4 (8 * k) (bitsIn high-first s))
-      ∙ ap (drop 4) (bitsIn-drop high-first k s)
-      ∙ ap (λ (m : List ℕ). drop 4 (bitsIn high-first m)) (drop-cons s k 0 l ∙ ap (λ (n : ℕ). x ∷ drop n s) (sym (add-one k)))
-      ∙ drop-append-le 4 (bitsOf high-first 8 x) rest (omega (arith, length-bitsOf high-first 8 x))
-      ∙ ap (λ (m : List Bool). m ++ rest) (lower-half x))
+    ∙ sym (drop-drop 4 (8 * k) (bitsIn high-first s))
+    ∙ ap (drop 4) (bitsIn-drop high-first k s)
+    ∙ ap (λ (m : List ℕ). drop 4 (bitsIn high-first m)) (drop-cons s k 0 l ∙ ap (λ (n : ℕ). x ∷ drop n s) (sym (add-one k)))
+    ∙ drop-append-le 4 (bitsOf high-first 8 x) rest (omega (arith, length-bitsOf high-first 8 x))
+    ∙ ap (λ (m : List Bool). m ++ rest) (lower-half x))
     ∙ clear-append (bitsOf high-first 4 x) rest
 
 -- ---- in either order of a byte's bits

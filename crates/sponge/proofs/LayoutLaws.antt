@@ -25,17 +25,17 @@ unfolding reordered unpack
 block-bits o b w h =
     ⊎-elim
     (λ e. subst (λ (p : Order). bitsIn p (pack high-first 5 b) ≡ reordered high-first p b ++ replicate (40 - length b) false) e
-      (packed-bits high-first 5 b h ∙ ap (λ (l : List Bool). l ++ replicate (40 - length b) false) (sym (reordered-same high-first b))))
+    (packed-bits high-first 5 b h ∙ ap (λ (l : List Bool). l ++ replicate (40 - length b) false) (sym (reordered-same high-first b))))
     (λ e.
-      let k : ℕ = bytesFor (length b) in
-      let whole : length b ≡ 8 * k = omega arith in
-      let bytes : List ℕ = pack high-first k b in
-      let all : 8 * (5 - k) ≡ 40 - length b = omega arith in
-      ap (bitsIn o) (pack-whole high-first k 5 b (omega arith) whole)
-      ∙ bitsIn-append o bytes (replicate (5 - k) 0)
-      ∙ ap₂ (λ (x y : List Bool). x ++ y)
-        (sym (take-all (length b) (bitsIn o bytes) (omega (arith, length-bitsIn o bytes, length-pack high-first k b))))
-        (bitsIn-zeros o (5 - k) ∙ ap (λ (m : ℕ). replicate m false) all))
+    let k : ℕ = bytesFor (length b) in
+    let whole : length b ≡ 8 * k = omega arith in
+    let bytes : List ℕ = pack high-first k b in
+    let all : 8 * (5 - k) ≡ 40 - length b = omega arith in
+    ap (bitsIn o) (pack-whole high-first k 5 b (omega arith) whole)
+    ∙ bitsIn-append o bytes (replicate (5 - k) 0)
+    ∙ ap₂ (λ (x y : List Bool). x ++ y)
+    (sym (take-all (length b) (bitsIn o bytes) (omega (arith, length-bitsIn o bytes, length-pack high-first k b))))
+    (bitsIn-zeros o (5 - k) ∙ ap (λ (m : ℕ). replicate m false) all))
     w
 
 module _ (o : Order) (t : ℕ) (small : t ≤ 288) where
@@ -61,13 +61,13 @@ module _ (o : Order) (t : ℕ) (small : t ≤ 288) where
       let lB : length B ≡ length b = length-reordered high-first o b in
       let Z : List Bool = replicate (288 - t) false in
       let bits : bitsIn o s ≡ S ++ Z =
-          ap (bitsIn o) es ∙ packed-bits o 36 S (omega arith) ∙ ap (λ (m : ℕ). S ++ replicate (288 - m) false) lS in
+      ap (bitsIn o) es ∙ packed-bits o 36 S (omega arith) ∙ ap (λ (m : ℕ). S ++ replicate (288 - m) false) lS in
       holds x (xorInto S B) hx lx (length-xorInto S B ∙ lS)
       (e
-        ∙ ap₂ xorInto bits (block-bits o b w hb)
-        ∙ xorInto-behind (S ++ Z) B (40 - length b)
-        ∙ xorInto-front t (S ++ Z) B (omega arith)
-        ∙ ap₂ (λ (k l : List Bool). xorInto k B ++ l) (take-at S Z t lS) (drop-at S Z t lS))
+      ∙ ap₂ xorInto bits (block-bits o b w hb)
+      ∙ xorInto-behind (S ++ Z) B (40 - length b)
+      ∙ xorInto-front t (S ++ Z) B (omega arith)
+      ∙ ap₂ (λ (k l : List Bool). xorInto k B ++ l) (take-at S Z t lS) (drop-at S Z t lS))
 
   -- the bytes of an image, and zeros behind them
   pub front-holds : (bytes : List ℕ) (n : ℕ) → n ≡ bytesFor t → length bytes ≡ n → ((i : ℕ) → getD (bytes ++ replicate (36 - length bytes) 0) i 0 < 256)
@@ -80,13 +80,13 @@ module _ (o : Order) (t : ℕ) (small : t ≤ 288) where
       let x : List ℕ = bytes ++ replicate (36 - length bytes) 0 in
       let lx : length x ≡ 36 = length-append bytes (replicate (36 - length bytes) 0) ∙ omega (arith, length-replicate {A = ℕ} (36 - length bytes) 0) in
       let spare : drop t bits ≡ replicate (8 * length bytes - t) false =
-          clear-zeros (drop t bits) ec ∙ ap (λ (m : ℕ). replicate m false) (length-drop t bits ∙ ap (λ (m : ℕ). m - t) lb) in
+      clear-zeros (drop t bits) ec ∙ ap (λ (m : ℕ). replicate m false) (length-drop t bits ∙ ap (λ (m : ℕ). m - t) lb) in
       let sum : 8 * length bytes - t + 8 * (36 - length bytes) ≡ 288 - t = omega arith in
       holds x (take t bits) hb lx (length-unpack o t bytes (omega arith))
       (bitsIn-append o bytes (replicate (36 - length bytes) 0)
-        ∙ ap₂ (λ (k l : List Bool). k ++ l)
-          (sym (take-append-drop t bits) ∙ ap (λ (l : List Bool). take t bits ++ l) spare)
-          (bitsIn-zeros o (36 - length bytes))
-        ∙ append-assoc (take t bits) _ _
-        ∙ ap (λ (l : List Bool). take t bits ++ l)
-          (replicate-append-replicate (8 * length bytes - t) (8 * (36 - length bytes)) false ∙ ap (λ (m : ℕ). replicate m false) sum))
+      ∙ ap₂ (λ (k l : List Bool). k ++ l)
+      (sym (take-append-drop t bits) ∙ ap (λ (l : List Bool). take t bits ++ l) spare)
+      (bitsIn-zeros o (36 - length bytes))
+      ∙ append-assoc (take t bits) _ _
+      ∙ ap (λ (l : List Bool). take t bits ++ l)
+      (replicate-append-replicate (8 * length bytes - t) (8 * (36 - length bytes)) false ∙ ap (λ (m : ℕ). replicate m false) sum))

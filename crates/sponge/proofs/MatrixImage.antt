@@ -93,15 +93,18 @@ module _ (w d : ℕ) (g : Grid) (q : Square d g) (m : Small d (2 ^ w) g) (pos : 
     where
       size : length (bitsOfMatrix w g) ≡ d * d * w
       size = length-bitsOfMatrix d w g q ∙ sym (mul-assoc d d w)
+
       enough : n < d * d → w ≤ length (drop (n * w) (bitsOfMatrix w g))
       enough l = omega (arith, length-drop (n * w) (bitsOfMatrix w g), size, mul-le-mul-right w l, suc-mul n w)
+
       within : n < d * d → valueOf high-first (filled w (drop (n * w) (bitsOfMatrix w g))) ≡ nth d g n
       within l =
           ap (valueOf high-first)
           (filled-take w (drop (n * w) (bitsOfMatrix w g)) (enough l)
-            ∙ ap (λ (k : ℕ). take w (drop (k * w) (bitsOfMatrix w g))) (sym (div-add-mod' n d)))
+          ∙ ap (λ (k : ℕ). take w (drop (k * w) (bitsOfMatrix w g))) (sym (div-add-mod' n d)))
           ∙ sym (at-matrixOf d w (bitsOfMatrix w g) (n / d) (n % d) (row-lt d n l) (col-lt d n l))
           ∙ ap (λ (x : Grid). at x (n / d) (n % d)) (matrix-bits d w g q m)
+
       beyond : d * d ≤ n → valueOf high-first (filled w (drop (n * w) (bitsOfMatrix w g))) ≡ nth d g n
       beyond l =
           ap (λ (x : List Bool). valueOf high-first (filled w x))
@@ -120,20 +123,20 @@ module _ (w d : ℕ) (g : Grid) (q : Square d g) (m : Small d (2 ^ w) g) (pos : 
       let first : k * 8 ≡ k * 2 * 4 = omega arith in
       let second : k * 8 + 4 ≡ (k * 2 + 1) * 4 = omega arith in
       sym (pack-at 36 bs k h
-        ∙ ap (valueOf high-first) (filled-add 4 4 (drop (k * 8) bs))
-        ∙ value-halves (filled 4 (drop (k * 8) bs)) (filled 4 (drop 4 (drop (k * 8) bs))) (length-filled 4 (drop 4 (drop (k * 8) bs)))
-        ∙ ap₂ (λ (x y : ℕ). x * 16 + y)
-          (ap (λ (i : ℕ). valueOf high-first (filled 4 (drop i bs))) first ∙ piece-at 4 e (k * 2))
-          (ap (λ (l : List Bool). valueOf high-first (filled 4 l)) (drop-drop 4 (k * 8) bs ∙ ap (λ (i : ℕ). drop i bs) second) ∙ piece-at 4 e (k * 2 + 1)))
+      ∙ ap (valueOf high-first) (filled-add 4 4 (drop (k * 8) bs))
+      ∙ value-halves (filled 4 (drop (k * 8) bs)) (filled 4 (drop 4 (drop (k * 8) bs))) (length-filled 4 (drop 4 (drop (k * 8) bs)))
+      ∙ ap₂ (λ (x y : ℕ). x * 16 + y)
+      (ap (λ (i : ℕ). valueOf high-first (filled 4 (drop i bs))) first ∙ piece-at 4 e (k * 2))
+      (ap (λ (l : List Bool). valueOf high-first (filled 4 l)) (drop-drop 4 (k * 8) bs ∙ ap (λ (i : ℕ). drop i bs) second) ∙ piece-at 4 e (k * 2 + 1)))
 
 -- the matrix in the first bits is that in all
 pub matrix-front : (d w t : ℕ) (bs : List Bool) → d * d * w ≤ t → matrixOf d w (take t bs) ≡ matrixOf d w bs
 matrix-front d w t bs h =
     sym (grid-self d (matrixOf d w (take t bs)) (matrixOf-square d w (take t bs)))
     ∙ grid-cong d (at (matrixOf d w (take t bs))) (at (matrixOf d w bs))
-      (λ i j hi hj. at-matrixOf d w (take t bs) i j hi hj
-        ∙ ap (valueOf high-first) (take-drop-take ((i * d + j) * w) w t bs (fits i j hi hj))
-        ∙ sym (at-matrixOf d w bs i j hi hj))
+    (λ i j hi hj. at-matrixOf d w (take t bs) i j hi hj
+    ∙ ap (valueOf high-first) (take-drop-take ((i * d + j) * w) w t bs (fits i j hi hj))
+    ∙ sym (at-matrixOf d w bs i j hi hj))
     ∙ grid-self d (matrixOf d w bs) (matrixOf-square d w bs)
   where
     fits : (i j : ℕ) → i < d → j < d → (i * d + j) * w + w ≤ t

@@ -56,16 +56,16 @@ module _ (s : List ℕ) (size : length s ≡ 36) (i : ℕ) (h : i < 64) where
       let e : 4 * i + 4 ≡ 4 * (i + 1) = omega arith in
       append-assoc X (take (4 * i) (bitsIn high-first s)) (bitsOf high-first 4 (cellIn 4 s i))
       ∙ ap (λ (l : List Bool). X ++ l)
-        (ap (λ (l : List Bool). take (4 * i) (bitsIn high-first s) ++ l) half-bits
-          ∙ sym (take-add (4 * i) 4 (bitsIn high-first s))
-          ∙ ap (λ (k : ℕ). take k (bitsIn high-first s)) e)
+      (ap (λ (l : List Bool). take (4 * i) (bitsIn high-first s) ++ l) half-bits
+      ∙ sym (take-add (4 * i) 4 (bitsIn high-first s))
+      ∙ ap (λ (k : ℕ). take k (bitsIn high-first s)) e)
 
 -- packed bytes depend on the bits that they have room for alone
 packed-front : (o : Order) (k m : ℕ) (S : List Bool) → k * 8 ≤ m → m ≤ length S → pack o k (take m S) ≡ pack o k S
 packed-front o k m S hk hm =
     again (take m S)
     ∙ ap (pack o k) (bitsIn-pack o k (take m S) ∙ filled-take (k * 8) (take m S) (omega (arith, length-take-le m S hm)) ∙ take-take (k * 8) m S hk
-      ∙ sym (bitsIn-pack o k S ∙ filled-take (k * 8) S (omega arith)))
+    ∙ sym (bitsIn-pack o k S ∙ filled-take (k * 8) S (omega arith)))
     ∙ sym (again S)
   where
     again : (X : List Bool) → pack o k X ≡ pack o k (bitsIn o (pack o k X))
@@ -79,18 +79,18 @@ unfolding reordered unpack
 output-bits o t m S lS ht hm w =
     ⊎-elim
     (λ e. subst (λ (p : Order). reordered p high-first (take m S) ≡ take m (bitsIn high-first (pack p 36 S))) e
-      (reordered-same high-first (take m S)
-        ∙ sym (ap (take m) (packed-bits high-first 36 S (omega arith)) ∙ take-append-le m S _ (omega arith))))
+    (reordered-same high-first (take m S)
+    ∙ sym (ap (take m) (packed-bits high-first 36 S (omega arith)) ∙ take-append-le m S _ (omega arith))))
     (λ e.
-      let lm : length (take m S) ≡ m = length-take-le m S (omega arith) in
-      let k : ℕ = m / 8 in
-      let whole : m ≡ 8 * k = omega arith in
-      let count : bytesFor (length (take m S)) ≡ k = ap (λ (n : ℕ). bytesFor n) lm ∙ omega arith in
-      ap₂ (λ (n : ℕ) (j : ℕ). take n (bitsIn high-first (pack o j (take m S)))) lm count
-      ∙ ap (λ (l : List ℕ). take m (bitsIn high-first l)) (front k whole)
-      ∙ ap (take m) (sym (bitsIn-take high-first k (pack o 36 S)))
-      ∙ ap (λ (n : ℕ). take m (take n (bitsIn high-first (pack o 36 S)))) (sym whole)
-      ∙ take-take m m (bitsIn high-first (pack o 36 S)) (omega arith))
+    let lm : length (take m S) ≡ m = length-take-le m S (omega arith) in
+    let k : ℕ = m / 8 in
+    let whole : m ≡ 8 * k = omega arith in
+    let count : bytesFor (length (take m S)) ≡ k = ap (λ (n : ℕ). bytesFor n) lm ∙ omega arith in
+    ap₂ (λ (n : ℕ) (j : ℕ). take n (bitsIn high-first (pack o j (take m S)))) lm count
+    ∙ ap (λ (l : List ℕ). take m (bitsIn high-first l)) (front k whole)
+    ∙ ap (take m) (sym (bitsIn-take high-first k (pack o 36 S)))
+    ∙ ap (λ (n : ℕ). take m (take n (bitsIn high-first (pack o 36 S)))) (sym whole)
+    ∙ take-take m m (bitsIn high-first (pack o 36 S)) (omega arith))
     w
   where
     front : (k : ℕ) → m ≡ 8 * k → pack o k (take m S) ≡ take k (pack o 36 S)
@@ -109,10 +109,13 @@ module _ (f : List Bool → List Bool) (r m : ℕ) (pos : 0 < r) (s : List Bool)
     where
       sum : m + (r - 1) ≡ m - r + (r - 1) + 1 * r
       sum = omega arith
+
       count : blocksFor r m ≡ suc (blocksFor r (m - r))
       count = ap (λ (k : ℕ). k / r) sum ∙ add-mul-div-right (m - r + (r - 1)) 1 pos ∙ add-one (blocksFor r (m - r))
+
       some : 0 < blocksFor r (m - r)
       some = le-div-iff-mul-le {k = r} pos .1 (omega arith)
+
       go : (k : ℕ) → 0 < k → outputs f r m (suc k) s ≡ take r s ∷ outputs f r (m - r) k (f s)
       go zero z = absurd (not-suc-le-zero z)
       go (suc k) z =
@@ -126,6 +129,7 @@ module _ (f : List Bool → List Bool) (r m : ℕ) (pos : 0 < r) (s : List Bool)
     where
       sum : m + (r - 1) ≡ m - 1 + 1 * r
       sum = omega arith
+
       one : blocksFor r m ≡ 1
       one = ap (λ (k : ℕ). k / r) sum ∙ add-mul-div-right (m - 1) 1 pos ∙ ap (λ (k : ℕ). k + 1) (div-eq-of-lt (omega arith))
 
@@ -147,7 +151,7 @@ pub record Squeezing (v : ℕ) (s out at : List ℕ) (p : ℕ) : Type 0 where
   pub layout : (high-first ≡ order (variant v)) ⊎ ((variant v .n - 4 * p) % 8 ≡ 0)
   pub left : unpack high-first (4 * p) out
       ++ flatMap (reordered (order (variant v)) high-first)
-        (outputs (permutation (variant v) forward) (variant v .r′) (variant v .n - 4 * p) (blocksFor (variant v .r′) (variant v .n - 4 * p)) (stateIn (variant v) at))
+      (outputs (permutation (variant v) forward) (variant v .r′) (variant v .n - 4 * p) (blocksFor (variant v .r′) (variant v .n - 4 * p)) (stateIn (variant v) at))
       ≡ squeezed (variant v) (stateIn (variant v) s)
 
 module _ (v : ℕ) (low : 1 ≤ v) (high : v ≤ 10) (s : List ℕ) (size : length s ≡ 36) where
@@ -165,7 +169,8 @@ module _ (v : ℕ) (low : 1 ≤ v) (high : v ≤ 10) (s : List ℕ) (size : leng
         kept = sym (pack-none high-first 32);
         wanted = omega (arith, b .digest-least);
         layout = inr (ap (λ (m : ℕ). m % 8) (sub-zero (H .n)) ∙ b .digest-whole);
-        left = ap (λ (m : ℕ). flatMap (reordered (order H) high-first) (outputs (permutation H forward) (H .r′) m (blocksFor (H .r′) m) (stateIn H s))) (sub-zero (H .n)) }
+        left = ap (λ (m : ℕ). flatMap (reordered (order H) high-first) (outputs (permutation H forward) (H .r′) m (blocksFor (H .r′) m) (stateIn H s))) (sub-zero (H .n));
+      }
 
   -- the first m bits that a state gives out
   given : (at : List ℕ) (m : ℕ) → length at ≡ 36 → m ≤ H .r′ → (high-first ≡ order H) ⊎ (m % 8 ≡ 0) → at ≡ stateBytes H (stateIn H at)
@@ -176,7 +181,6 @@ module _ (v : ℕ) (low : 1 ≤ v) (high : v ≤ 10) (s : List ℕ) (size : leng
 
   module _ (out at : List ℕ) (p n q : ℕ) (u : Squeezing v s out at p)
       (en : n ≡ H .n / 8 * 2) (eq : q ≡ H .r′ / 4) where
-
     lo : length out ≡ 32
     lo = ap length (u .kept) ∙ length-pack high-first 32 _
 
@@ -197,10 +201,10 @@ module _ (v : ℕ) (low : 1 ≤ v) (high : v ≤ 10) (s : List ℕ) (size : leng
         let X : List Bool = unpack high-first (4 * p) out in
         let Y : List Bool = take (4 * q) (bitsIn high-first at) in
         let again : unpack high-first (4 * (p + q)) more ≡ X ++ Y =
-            held-again 32 (4 * (p + q)) more (X ++ Y) em (fronted-length out at p q lo la short (omega (arith, b .output-most))) (omega (arith, b .digest-most)) in
+        held-again 32 (4 * (p + q)) more (X ++ Y) em (fronted-length out at p q lo la short (omega (arith, b .output-most))) (omega (arith, b .digest-most)) in
         let block : Y ≡ reordered (order H) high-first (take (H .r′) S) =
-            given at (4 * q) la (omega arith) (⊎-elim inl (λ (k : WholeBytes H). inr (ap (λ (m : ℕ). m % 8) whole ∙ k .output)) (layouts v low high)) (u .ready)
-            ∙ ap (λ (m : ℕ). reordered (order H) high-first (take m S)) whole in
+        given at (4 * q) la (omega arith) (⊎-elim inl (λ (k : WholeBytes H). inr (ap (λ (m : ℕ). m % 8) whole ∙ k .output)) (layouts v low high)) (u .ready)
+        ∙ ap (λ (m : ℕ). reordered (order H) high-first (take m S)) whole in
         let rest : H .n - 4 * p - H .r′ ≡ H .n - 4 * (p + q) = omega arith in
         record {
           ready = stored-ready v low high next fS lf ex;
@@ -209,12 +213,13 @@ module _ (v : ℕ) (low : 1 ≤ v) (high : v ≤ 10) (s : List ℕ) (size : leng
           layout = ⊎-elim inl (λ e. ⊎-elim inl (λ (k : WholeBytes H). inr (omega (arith, k .output))) (layouts v low high)) (u .layout);
           left =
               ap₂ (λ (y z : List Bool). y ++ flatMap (reordered (order H) high-first) (outputs (permutation H forward) (H .r′) (H .n - 4 * (p + q)) (blocksFor (H .r′) (H .n - 4 * (p + q))) z))
-                again (stored v low high next fS lf ex)
+              again (stored v low high next fS lf ex)
               ∙ ap₂ (λ (y : List Bool) (m : ℕ). (X ++ y) ++ flatMap (reordered (order H) high-first) (outputs (permutation H forward) (H .r′) m (blocksFor (H .r′) m) fS)) block (sym rest)
               ∙ append-assoc X _ _
               ∙ sym (ap (λ (l : List (List Bool)). X ++ flatMap (reordered (order H) high-first) l)
-                (outputs-more (permutation H forward) (H .r′) (H .n - 4 * p) (omega (arith, b .output-least)) S (omega arith)) ∙ flat (reordered (order H) high-first) X (take (H .r′) S) _)
-              ∙ u .left }
+              (outputs-more (permutation H forward) (H .r′) (H .n - 4 * p) (omega (arith, b .output-least)) S (omega arith)) ∙ flat (reordered (order H) high-first) X (take (H .r′) S) _)
+              ∙ u .left;
+        }
 
     pub squeezing-last : (last : List ℕ) → n ≤ p + q
         → last ≡ pack high-first 32 (unpack high-first (4 * p) out ++ take (4 * (n - p)) (bitsIn high-first at))
@@ -228,8 +233,8 @@ module _ (v : ℕ) (low : 1 ≤ v) (high : v ≤ 10) (s : List ℕ) (size : leng
         let X : List Bool = unpack high-first (4 * p) out in
         el
         ∙ ap (pack high-first 32)
-          (ap (λ (k : ℕ). X ++ take k (bitsIn high-first at)) size′
-            ∙ ap (λ (y : List Bool). X ++ y) (given at m la (omega arith) (u .layout) (u .ready))
-            ∙ sym (ap (λ (l : List (List Bool)). X ++ flatMap (reordered (order H) high-first) l)
-                (outputs-last (permutation H forward) (H .r′) m (omega (arith, b .output-least)) S (omega (arith, u .wanted)) (omega arith)) ∙ single (reordered (order H) high-first) X (take m S))
-            ∙ u .left)
+        (ap (λ (k : ℕ). X ++ take k (bitsIn high-first at)) size′
+        ∙ ap (λ (y : List Bool). X ++ y) (given at m la (omega arith) (u .layout) (u .ready))
+        ∙ sym (ap (λ (l : List (List Bool)). X ++ flatMap (reordered (order H) high-first) l)
+        (outputs-last (permutation H forward) (H .r′) m (omega (arith, b .output-least)) S (omega (arith, u .wanted)) (omega arith)) ∙ single (reordered (order H) high-first) X (take m S))
+        ∙ u .left)

@@ -67,8 +67,8 @@ module _ (v : ℕ) (low : 1 ≤ v) (high : v ≤ 5) where
   rounds-ready bits w g h eg eh =
       small-window d (2 ^ s) h
       (subst (λ (x : Grid). Small d (2 ^ s) x) (sym (eh ∙ ap (photonRounds (photonOf v) w) eg))
-        (photonRounds-state (photonOf v) (sound v low high) w (matrixOf d s bits)
-          (record { square = matrixOf-square d s bits; small = matrixOf-small d s bits }) .small))
+      (photonRounds-state (photonOf v) (sound v low high) w (matrixOf d s bits)
+      (record { square = matrixOf-square d s bits; small = matrixOf-small d s bits }) .small))
 
   pub photon-state : (bytes r : List ℕ) (w : Direction) (g h : Grid)
       → window d g ≡ matrixOf d s (bitsIn high-first bytes)
@@ -80,7 +80,7 @@ module _ (v : ℕ) (low : 1 ≤ v) (high : v ≤ 5) where
       let F : variant v .family ≡ photon (photonOf v) = photon-variant v low high in
       er
       ∙ ap (λ (m : Grid). pack high-first 36 (bitsOfMatrix s m))
-        (eh ∙ ap (photonRounds (photonOf v) w) (eg ∙ sym (matrix-front d s (variant v .t) (bitsIn high-first bytes) (state-cells v low high))))
+      (eh ∙ ap (photonRounds (photonOf v) w) (eg ∙ sym (matrix-front d s (variant v .t) (bitsIn high-first bytes) (state-cells v low high))))
       ∙ ap (λ (o : Order). pack high-first 36 (photonPermutation (photonOf v) w (take (variant v .t) (bitsIn o bytes)))) (sym (family-order v (photon (photonOf v)) F))
       ∙ family-state v (photon (photonOf v)) F w (take (variant v .t) (bitsIn (order (variant v)) bytes))
 

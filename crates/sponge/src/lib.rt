@@ -6,7 +6,7 @@ ghost use Prim.Native.Nat.{ℕ, _+_, _-_, _*_, _/_, _%_, _^_, _≤_, _<_};
 ghost use lib.ListN.{getD, length, take, drop, replicate};
 ghost use Rattle.standard.specs.Bits.{Order, high-first, bitsOf, bitsIn, pack, unpack, xorInto};
 ghost use Rattle.standard.specs.Rounds.{direction, forward, backward};
-ghost use Rattle.standard.specs.Sponge.{order, permutation, startState, step, squeezed, imageBytes, stateIn};
+ghost use Rattle.standard.specs.Sponge.{order, permutation, startState, step, unstep, squeezed, imageBytes, stateIn};
 ghost use Rattle.standard.specs.Variants.{variant, known};
 ghost use Rattle.sponge.specs.Refusals.{number, entry};
 ghost use Rattle.sponge.specs.Layout.{stateBytes, blockBytes, blockIn, clear};
@@ -15,7 +15,7 @@ ghost use Rattle.photon.specs.Parameters.{photonOf};
 ghost use Rattle.sponge.specs.Cells.{cellIn, nth};
 ghost use Rattle.standard.specs.Grid.{window, Small};
 ghost use Rattle.standard.specs.Photon.{matrixOf, bitsOfMatrix};
-ghost use Rattle.sponge.specs.Images.{imageStatus, permutedImage};
+ghost use Rattle.sponge.specs.Images.{isImage, imageStatus, permutedImage};
 
 // Done, or the one refusal whose condition holds and whose earlier checks passed.
 pub enum Status {
@@ -55,7 +55,9 @@ pub fn number_of(s: Status) -> u8
 
 // Index 0 stands for no variant.
 const STATE_BITS: [usize; 11] = [0, 100, 144, 196, 256, 288, 88, 136, 176, 240, 272];
+
 const BLOCK_BITS: [u32; 11] = [0, 20, 16, 36, 32, 32, 8, 8, 16, 16, 16];
+
 const IMAGE_BYTES: [usize; 11] = [0, 13, 18, 25, 32, 36, 11, 17, 22, 30, 34];
 
 pub fn is_known(v: u8) -> bool
@@ -128,7 +130,7 @@ pub fn clear_from(bytes: &[u8], c: usize) -> bool
 }
 
 // The bytes at the front of 36, zeros behind them.
-fn at_front(bytes: &[u8]) -> [u8; 36]
+pub fn at_front(bytes: &[u8]) -> [u8; 36]
     requires { ⌜ length (now bytes) ≤ 36 ⌝ }
     ensures { λ r. ⌜ r ≡ now (bytes .entry) ++ replicate (36 - length (now (bytes .entry))) 0 ⌝ }
 {
@@ -263,7 +265,7 @@ fn bytes_of(w: usize, g: [[u8; 8]; 8], d: usize) -> [u8; 36]
 }
 
 // The half byte x behind the first p half bytes, which are all that the bytes hold.
-fn with_half(out: [u8; 32], p: usize, x: u8) -> [u8; 32]
+pub fn with_half(out: [u8; 32], p: usize, x: u8) -> [u8; 32]
     requires { ⌜ (p < 64) × (x < 16) ⌝ }
     requires { ⌜ out ≡ pack high-first 32 (unpack high-first (4 * p) out) ⌝ }
     ensures { λ r. ⌜ r ≡ pack high-first 32 (unpack high-first (4 * p) out ++ bitsOf high-first 4 x) ⌝ }
@@ -339,6 +341,28 @@ pub fn stepped(v: u8, s: [u8; 36], b: [u8; 5]) -> [u8; 36]
     permuted(v, taken, false)
 }
 
+// The block step taken back.
+pub fn unstepped(v: u8, s: [u8; 36], b: [u8; 5]) -> [u8; 36]
+    requires { ⌜ (1 ≤ v) × (v ≤ 10) ⌝ }
+    requires { ⌜ s ≡ stateBytes (variant v) (stateIn (variant v) s) ⌝ }
+    requires { ⌜ b ≡ blockBytes (blockIn (variant v) b) ⌝ }
+    ensures { λ r. ⌜ r ≡ stateBytes (variant v) (unstep (variant v) (stateIn (variant v) s) (blockIn (variant v) b)) ⌝ }
+{
+    let before = permuted(v, s, true);
+    with_block(before, b)
+}
+
+// Whether the bytes are an image of the variant.
+pub fn is_image(v: u8, image: &[u8]) -> bool
+    requires { ⌜ (1 ≤ v) × (v ≤ 10) ⌝ }
+    ensures { λ r. ⌜ r ≡ isImage (variant v) (now (image .entry)) ⌝ }
+{
+    if image.len() != image_bytes(v) {
+        return false;
+    }
+    clear_from(image, state_bits(v))
+}
+
 // Both directions of the public operation: the checks in order, then the bytes through the permutation.
 fn permute_image(variant: u8, image: &mut [u8], back: bool) -> Status
     ensures { λ r. ⌜ (r ≡ imageStatus variant (now (image .entry)))
@@ -347,16 +371,12 @@ fn permute_image(variant: u8, image: &mut [u8], back: bool) -> Status
     if !is_known(variant) {
         return Status::UnknownVariant;
     }
-    let n = image_bytes(variant);
-    if image.len() != n {
-        return Status::BadImage;
-    }
-    if !clear_from(image, state_bits(variant)) {
+    if !is_image(variant, image) {
         return Status::BadImage;
     }
     let s = at_front(image);
     let r = permuted(variant, s, back);
-    copy_front(&r, n, image);
+    copy_front(&r, image_bytes(variant), image);
     Status::Done
 }
 

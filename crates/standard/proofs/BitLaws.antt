@@ -546,8 +546,8 @@ pack-add o zero m bs = ap (λ (k : ℕ). pack o k bs) (zero-add m)
 pack-add o (suc n) m bs =
     ap (λ (k : ℕ). pack o k bs) (suc-add n m)
     ∙ ap (λ (l : List ℕ). valueOf o (filled 8 bs) ∷ l)
-      (pack-add o n m (drop 8 bs)
-        ∙ ap (λ (l : List Bool). pack o n (drop 8 bs) ++ pack o m l) (drop-drop (8 * n) 8 bs ∙ ap (λ (k : ℕ). drop k bs) (suc-eight n)))
+    (pack-add o n m (drop 8 bs)
+    ∙ ap (λ (l : List Bool). pack o n (drop 8 bs) ++ pack o m l) (drop-drop (8 * n) 8 bs ∙ ap (λ (k : ℕ). drop k bs) (suc-eight n)))
 
 -- the first bytes of packed bits
 pub take-pack : (o : Order) (n m : ℕ) (bs : List Bool) → n ≤ m → take n (pack o m bs) ≡ pack o n bs

@@ -13,6 +13,7 @@ pub mod MatrixLaws
 pub mod SpongentLaws
 pub mod SpongentVariants
 pub mod OneBlock
+pub mod TakenBack
 pub mod PutBits
 pub mod Padding
 pub mod Streaming

@@ -52,6 +52,10 @@ pub run-append : (H : Variant) (s : List Bool) (xs ys : List (List Bool)) → ru
 unfolding run
 run-append H s xs ys = foldl-append (step H) s xs ys
 
+pub run-none : (H : Variant) (s : List Bool) → run H s [] ≡ s
+unfolding run
+run-none H s = refl
+
 pub run-one : (H : Variant) (s : List Bool) (b : List Bool) (bs : List (List Bool)) → run H s (b ∷ bs) ≡ run H (step H s b) bs
 unfolding run
 run-one H s b bs = refl
@@ -89,7 +93,7 @@ module _ (H : Variant) (h : Lawful H) where
       let ly : length y ≡ H .r = length-reordered high-first (order H) b ∙ lb in
       reordered-injective high-first (order H) (H .r) (h .layout) a b la lb
       (block-injective s x y (lx ∙ sym ly) (omega (arith, h .fits))
-        (permutation-injective forward (xorInto s x) (xorInto s y) (taken-length s x ls) (taken-length s y ls) e))
+      (permutation-injective forward (xorInto s x) (xorInto s y) (taken-length s x ls) (taken-length s y ls) e))
 
   -- different states stay different over equal rows
   pub run-state : (bs : List (List Bool)) (s u : List Bool) → length s ≡ H .t → length u ≡ H .t → run H s bs ≡ run H u bs → s ≡ u
@@ -112,8 +116,8 @@ module _ (xs ys : List (List Bool)) (i : ℕ) (d : DifferAt i xs ys) where
       let ly : length (take k ys) ≡ k = length-take-le k ys (omega (arith, d .within, d .count)) in
       ext-getD [] (take k xs) (take k ys) (lx ∙ sym ly)
       (λ j lj.
-        let lt : j < k = omega arith in
-        getD-take k xs j [] lt ∙ d .elsewhere j (λ e. omega arith) ∙ sym (getD-take k ys j [] lt))
+      let lt : j < k = omega arith in
+      getD-take k xs j [] lt ∙ d .elsewhere j (λ e. omega arith) ∙ sym (getD-take k ys j [] lt))
 
   same-after : (k : ℕ) → k ≤ length xs → drop (suc i) (take k xs) ≡ drop (suc i) (take k ys)
   same-after k l =
@@ -122,10 +126,10 @@ module _ (xs ys : List (List Bool)) (i : ℕ) (d : DifferAt i xs ys) where
       ext-getD [] (drop (suc i) (take k xs)) (drop (suc i) (take k ys))
       (length-drop (suc i) (take k xs) ∙ omega arith ∙ sym (length-drop (suc i) (take k ys)))
       (λ j lj.
-        let lt : suc i + j < k = omega (arith, length-drop (suc i) (take k xs)) in
-        getD-drop (suc i) (take k xs) j [] ∙ getD-take k xs (suc i + j) [] lt
-        ∙ d .elsewhere (suc i + j) (λ e. omega arith)
-        ∙ sym (getD-drop (suc i) (take k ys) j [] ∙ getD-take k ys (suc i + j) [] lt))
+      let lt : suc i + j < k = omega (arith, length-drop (suc i) (take k xs)) in
+      getD-drop (suc i) (take k xs) j [] ∙ getD-take k xs (suc i + j) [] lt
+      ∙ d .elsewhere (suc i + j) (λ e. omega arith)
+      ∙ sym (getD-drop (suc i) (take k ys) j [] ∙ getD-take k ys (suc i + j) [] lt))
 
 -- a row up to k, cut at the place i
 split-row : (xs : List (List Bool)) (i k : ℕ) → i < k → k ≤ length xs
@@ -144,7 +148,6 @@ run-split H s xs i k l h =
 
 module _ (H : Variant) (h : Lawful H) (s : List Bool) (ls : length s ≡ H .t) (xs ys : List (List Bool)) (i k : ℕ)
     (bx : Blocks (H .r) xs) (by : Blocks (H .r) ys) (d : DifferAt i xs ys) (hk : k ≤ length xs) where
-
   -- past the place, equal states would mean equal blocks there
   differ-after : i < k → run H s (take k xs) ≡ run H s (take k ys) → ⊥
   differ-after l e =
@@ -152,19 +155,20 @@ module _ (H : Variant) (h : Lawful H) (s : List Bool) (ls : length s ≡ H .t) (
       let lb : length before ≡ H .t = run-length H h (take i (take k xs)) s ls in
       let hy : k ≤ length ys = omega (arith, d .count) in
       let fronts : take i (take k xs) ≡ take i (take k ys) =
-          take-take i k xs (omega arith) ∙ same-before xs ys i d i (le-refl i) ∙ sym (take-take i k ys (omega arith)) in
+      take-take i k xs (omega arith) ∙ same-before xs ys i d i (le-refl i) ∙ sym (take-take i k ys (omega arith)) in
       let ey : run H s (take k ys) ≡ run H (step H before (getD ys i [])) (drop (suc i) (take k xs)) =
-          run-split H s ys i k l hy
-          ∙ ap₂ (λ (f : List (List Bool)) (g : List (List Bool)). run H (step H (run H s f) (getD ys i [])) g) (sym fronts) (sym (same-after xs ys i d k hk)) in
+      run-split H s ys i k l hy
+      ∙ ap₂ (λ (f : List (List Bool)) (g : List (List Bool)). run H (step H (run H s f) (getD ys i [])) g) (sym fronts) (sym (same-after xs ys i d k hk)) in
       d .differs
       (step-block H h before (getD xs i []) (getD ys i []) lb
-        (block-length (H .r) xs i bx (d .within))
-        (block-length (H .r) ys i by (omega (arith, d .within, d .count)))
-        (run-state H h (drop (suc i) (take k xs)) _ _ (step-length H h before _ lb) (step-length H h before _ lb)
-          (sym (run-split H s xs i k l hk) ∙ e ∙ ey)))
+      (block-length (H .r) xs i bx (d .within))
+      (block-length (H .r) ys i by (omega (arith, d .within, d .count)))
+      (run-state H h (drop (suc i) (take k xs)) _ _ (step-length H h before _ lb) (step-length H h before _ lb)
+      (sym (run-split H s xs i k l hk) ∙ e ∙ ey)))
 
   -- the states after k blocks differ if and only if the changed block is among them
   pub changed-block : (run H s (take k xs) ≡ run H s (take k ys) → ⊥) ↔ (i < k)
-  changed-block =
-      (λ differ. ⊎-elim (λ l. l) (λ l. absurd (differ (ap (run H s) (same-before xs ys i d k l)))) (lt-or-le i k),
-      differ-after)
+  changed-block = (
+    λ differ. ⊎-elim (λ l. l) (λ l. absurd (differ (ap (run H s) (same-before xs ys i d k l)))) (lt-or-le i k),
+    differ-after,
+  )

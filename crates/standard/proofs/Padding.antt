@@ -43,9 +43,10 @@ block-count H h m = count-padded (H .r) h (bitsIn high-first m) ∙ ap (λ (n : 
 pub cut-blocks : (r n : ℕ) (bs : List Bool) → n * r ≤ length bs → Blocks r (cut r n bs)
 unfolding cut
 cut-blocks r zero bs h = tt
-cut-blocks r (suc n) bs h =
-    (length-take-le r bs (omega (arith, h, add-mul n 1 r, suc-times n)),
-    cut-blocks r n (drop r bs) (omega (arith, length-drop r bs, suc-times n)))
+cut-blocks r (suc n) bs h = (
+  length-take-le r bs (omega (arith, h, add-mul n 1 r, suc-times n)),
+  cut-blocks r n (drop r bs) (omega (arith, length-drop r bs, suc-times n)),
+)
   where
     suc-times : (k : ℕ) → suc k * r ≡ k * r + r
     suc-times k = ap (λ (x : ℕ). x * r) (plus-one k) ∙ add-mul k 1 r ∙ ap (λ (x : ℕ). k * r + x) (one-mul r)

@@ -34,12 +34,12 @@ set-bytes s k v hs hv hk i =
     ⊎-elim
     (λ l. subst (λ (x : ℕ). x < 256) (sym (getD-set-other s k i (bitXor (getD s k 0) v) 0 (λ e. omega arith))) (hs i))
     (λ l. ⊎-elim
-      (λ g. subst (λ (x : ℕ). x < 256) (sym (getD-set-other s k i (bitXor (getD s k 0) v) 0 (λ e. omega arith))) (hs i))
-      (λ g.
-        let e : i ≡ k = omega arith in
-        subst (λ (x : ℕ). x < 256) (sym (ap (λ (j : ℕ). getD (set s k (bitXor (getD s k 0) v)) j 0) e ∙ getD-set-same s k (bitXor (getD s k 0) v) 0 hk))
-        (xor-lt 8 (getD s k 0) v (hs k) hv))
-      (lt-or-le k i))
+    (λ g. subst (λ (x : ℕ). x < 256) (sym (getD-set-other s k i (bitXor (getD s k 0) v) 0 (λ e. omega arith))) (hs i))
+    (λ g.
+    let e : i ≡ k = omega arith in
+    subst (λ (x : ℕ). x < 256) (sym (ap (λ (j : ℕ). getD (set s k (bitXor (getD s k 0) v)) j 0) e ∙ getD-set-same s k (bitXor (getD s k 0) v) 0 hk))
+    (xor-lt 8 (getD s k 0) v (hs k) hv))
+    (lt-or-le k i))
     (lt-or-le i k)
 
 -- n bytes that hold X hold X ++ Y after an xor of v into byte k, where v has Y at the place behind X and zeros around it
@@ -51,22 +51,22 @@ put-bits n s X Y k v a b es hk hv ev ex h =
     let hs : (i : ℕ) → getD s i 0 < 256 = λ i. subst (λ (l : List ℕ). getD l i 0 < 256) (sym es) (pack-bytes high-first n X i) in
     let m : ℕ = n * 8 - length X in
     let bits : bitsIn high-first s ≡ X ++ replicate m false =
-        ap (bitsIn high-first) es ∙ bitsIn-pack high-first n X ∙ filled-short (n * 8) X (omega arith) in
+    ap (bitsIn high-first) es ∙ bitsIn-pack high-first n X ∙ filled-short (n * 8) X (omega arith) in
     let mask : replicate (8 * k) false ++ bitsOf high-first 8 v ≡ replicate (length X) false ++ (Y ++ replicate b false) =
-        ap (λ (l : List Bool). replicate (8 * k) false ++ l) ev
-        ∙ sym (append-assoc (replicate (8 * k) false) (replicate a false) (Y ++ replicate b false))
-        ∙ ap (λ (l : List Bool). l ++ (Y ++ replicate b false)) (replicate-append-replicate (8 * k) a false ∙ ap (λ (i : ℕ). replicate i false) ex) in
+    ap (λ (l : List Bool). replicate (8 * k) false ++ l) ev
+    ∙ sym (append-assoc (replicate (8 * k) false) (replicate a false) (Y ++ replicate b false))
+    ∙ ap (λ (l : List Bool). l ++ (Y ++ replicate b false)) (replicate-append-replicate (8 * k) a false ∙ ap (λ (i : ℕ). replicate i false) ex) in
     let lXY : length (X ++ Y) ≡ length X + length Y = length-append X Y in
     let left : m - length Y ≡ n * 8 - length (X ++ Y) = omega arith in
     image-eq high-first n (set s k (bitXor (getD s k 0) v)) (X ++ Y) (set-bytes s k v hs hv (omega arith))
     (length-set s k (bitXor (getD s k 0) v) ∙ ls) (omega arith)
     (bitsIn-xor high-first s k v (omega arith)
-      ∙ ap₂ xorInto bits mask
-      ∙ xorInto-append X (replicate m false) (replicate (length X) false) (Y ++ replicate b false) (sym (length-replicate (length X) false))
-      ∙ ap₂ (λ (p q : List Bool). p ++ q) (xorInto-zeros X (length X))
-        (xorInto-behind (replicate m false) Y b ∙ zeros-with m Y (omega arith))
-      ∙ sym (append-assoc X Y (replicate (m - length Y) false))
-      ∙ ap (λ (i : ℕ). (X ++ Y) ++ replicate i false) left)
+    ∙ ap₂ xorInto bits mask
+    ∙ xorInto-append X (replicate m false) (replicate (length X) false) (Y ++ replicate b false) (sym (length-replicate (length X) false))
+    ∙ ap₂ (λ (p q : List Bool). p ++ q) (xorInto-zeros X (length X))
+    (xorInto-behind (replicate m false) Y b ∙ zeros-with m Y (omega arith))
+    ∙ sym (append-assoc X Y (replicate (m - length Y) false))
+    ∙ ap (λ (i : ℕ). (X ++ Y) ++ replicate i false) left)
 
 -- ---- bytes by halves, the upper first
 
@@ -81,7 +81,7 @@ unfolding bitsOf ordered
 halves x y h =
     ap reverse (lowBits-add 4 4 (x * 16 + y)) ∙ reverse-append (lowBits 4 (x * 16 + y)) (lowBits 4 ((x * 16 + y) / 16))
     ∙ ap₂ (λ (a b : List Bool). reverse a ++ reverse b) (ap (lowBits 4) (digits-div x h))
-      (low-mod 4 (x * 16 + y) ∙ ap (lowBits 4) (digits-mod x h))
+    (low-mod 4 (x * 16 + y) ∙ ap (lowBits 4) (digits-mod x h))
 
 pub low-half : (x : ℕ) → bitsOf high-first 4 (x % 16) ≡ bitsOf high-first 4 x
 unfolding bitsOf ordered

@@ -49,14 +49,16 @@ reordered-back a b bs e =
     ∙ unpack-pack a n bs (enough (length bs))
 
 -- Bits may be reordered and put back where the two orders are one, or the bits fill whole bytes.
+pub reordered-undo : (a b : Order) (bs : List Bool) → (a ≡ b) ⊎ (length bs % 8 ≡ 0) → reordered b a (reordered a b bs) ≡ bs
+reordered-undo a b bs w =
+    ⊎-elim
+    (λ e. subst (λ (c : Order). reordered c a (reordered a c bs) ≡ bs) e (ap (reordered a a) (reordered-same a bs) ∙ reordered-same a bs))
+    (λ e. reordered-back a b bs e)
+    w
+
 pub reordered-injective : (a b : Order) (r : ℕ) → (a ≡ b) ⊎ (r % 8 ≡ 0) → (x y : List Bool) → length x ≡ r → length y ≡ r
     → reordered a b x ≡ reordered a b y → x ≡ y
-reordered-injective a b r w x y lx ly e =
-    ⊎-elim
-    (λ same. sym (reordered-same a x)
-      ∙ subst (λ (c : Order). reordered a c x ≡ reordered a c y) (sym same) e
-      ∙ reordered-same a y)
-    (λ whole. sym (reordered-back a b x (ap (λ (m : ℕ). m % 8) lx ∙ whole))
-      ∙ ap (reordered b a) e
-      ∙ reordered-back a b y (ap (λ (m : ℕ). m % 8) ly ∙ whole))
-    w
+reordered-injective a b r w x y lx ly e = sym (reordered-undo a b x (at x lx)) ∙ ap (reordered b a) e ∙ reordered-undo a b y (at y ly)
+  where
+    at : (z : List Bool) → length z ≡ r → (a ≡ b) ⊎ (length z % 8 ≡ 0)
+    at z l = ⊎-elim inl (λ q. inr (ap (λ (m : ℕ). m % 8) l ∙ q)) w

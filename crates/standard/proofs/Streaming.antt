@@ -25,7 +25,7 @@ module _ (r : ℕ) (pos : 0 < r) where
   count x y =
       let k : ℕ = length (restOf r x ++ y) in
       let e : length (x ++ y) ≡ k + length x / r * r =
-          length-append x y ∙ omega (arith, length-append (restOf r x) y, length-rest x, div-add-mod' (length x) r) in
+      length-append x y ∙ omega (arith, length-append (restOf r x) y, length-rest x, div-add-mod' (length x) r) in
       ap (λ (n : ℕ). n / r) e ∙ add-mul-div-right k (length x / r) pos ∙ add-comm (k / r) (length x / r)
 
   past : (x y : List Bool) → drop (length x / r * r) (x ++ y) ≡ restOf r x ++ y
@@ -38,7 +38,7 @@ module _ (r : ℕ) (pos : 0 < r) where
       ap (λ (n : ℕ). cut r n (x ++ y)) (count x y)
       ∙ cut-add r (length x / r) (length (restOf r x ++ y) / r) (x ++ y)
       ∙ ap₂ (λ (a b : List (List Bool)). a ++ b) (cut-append r (length x / r) x y (within x))
-        (ap (cut r (length (restOf r x ++ y) / r)) (past x y))
+      (ap (cut r (length (restOf r x ++ y) / r)) (past x y))
 
   rest-is : (bs : List Bool) → restOf r bs ≡ drop (length bs / r * r) bs
   unfolding restOf
@@ -68,4 +68,4 @@ module _ (r : ℕ) (pos : 0 < r) where
   whole-padded m =
       whole-append m (true ∷ replicate (r - 1 - length m % r) false)
       ∙ ap (λ (n : ℕ). wholeBlocks r m ++ wholeBlocks r (restOf r m ++ true ∷ replicate (r - 1 - n) false))
-        (sym (ap (λ (n : ℕ). n % r) (length-rest m) ∙ mod-eq-of-lt (mod-lt (length m) {m = r} pos)))
+      (sym (ap (λ (n : ℕ). n % r) (length-rest m) ∙ mod-eq-of-lt (mod-lt (length m) {m = r} pos)))

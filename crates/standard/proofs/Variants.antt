@@ -35,12 +35,18 @@ photon-lawful t r r′ n p h e pos fits room =
       layout = inl refl;
       start-length =
           length-append (replicate (t - 24) false) _
-          ∙ omega (arith, length-replicate (t - 24) false,
+          ∙ omega (
+            arith,
+            length-replicate (t - 24) false,
             length-append (bitsOf high-first 8 (n / 4)) (bitsOf high-first 8 r ++ bitsOf high-first 8 r′),
             length-append (bitsOf high-first 8 r) (bitsOf high-first 8 r′),
-            length-bitsOf high-first 8 (n / 4), length-bitsOf high-first 8 r, length-bitsOf high-first 8 r′);
+            length-bitsOf high-first 8 (n / 4),
+            length-bitsOf high-first 8 r,
+            length-bitsOf high-first 8 r′,
+          );
       keeps = λ w s l. length-photonPermutation p h w s ∙ sym e;
-      undoes = λ w s l. photonPermutation-undo p h w s (l ∙ e) }
+      undoes = λ w s l. photonPermutation-undo p h w s (l ∙ e);
+    }
 
 spongent-lawful : (t r r′ n : ℕ) (p : SpongentParameters) → t ≡ p .t → p .t % 4 ≡ 0 → 0 < r → r ≤ t → r % 8 ≡ 0
     → Lawful (record { t = t; r = r; r′ = r′; n = n; family = spongent p })
@@ -52,7 +58,8 @@ spongent-lawful t r r′ n p e quarters pos fits whole =
       layout = inr whole;
       start-length = length-replicate t false;
       keeps = λ w s l. length-spongentPermutation p quarters w s (l ∙ e) ∙ sym e;
-      undoes = λ w s l. spongentPermutation-undo p quarters w s (l ∙ e) }
+      undoes = λ w s l. spongentPermutation-undo p quarters w s (l ∙ e);
+    }
 
 -- ---- the ten numbers
 
@@ -65,17 +72,17 @@ unfolding variant
 lawful =
     one-to-ten (λ v. Lawful (variant v))
     (one-to-five (λ v. Lawful (variant v))
-      (photon-lawful 100 20 16 80 photon100 sound100 refl (lit< tt) (lit≤ tt) (lit≤ tt))
-      (photon-lawful 144 16 16 128 photon144 sound144 refl (lit< tt) (lit≤ tt) (lit≤ tt))
-      (photon-lawful 196 36 36 160 photon196 sound196 refl (lit< tt) (lit≤ tt) (lit≤ tt))
-      (photon-lawful 256 32 32 224 photon256 sound256 refl (lit< tt) (lit≤ tt) (lit≤ tt))
-      (photon-lawful 288 32 32 256 photon288 sound288 refl (lit< tt) (lit≤ tt) (lit≤ tt)))
+    (photon-lawful 100 20 16 80 photon100 sound100 refl (lit< tt) (lit≤ tt) (lit≤ tt))
+    (photon-lawful 144 16 16 128 photon144 sound144 refl (lit< tt) (lit≤ tt) (lit≤ tt))
+    (photon-lawful 196 36 36 160 photon196 sound196 refl (lit< tt) (lit≤ tt) (lit≤ tt))
+    (photon-lawful 256 32 32 224 photon256 sound256 refl (lit< tt) (lit≤ tt) (lit≤ tt))
+    (photon-lawful 288 32 32 256 photon288 sound288 refl (lit< tt) (lit≤ tt) (lit≤ tt)))
     (six-to-ten (λ v. Lawful (variant v))
-      (spongent-lawful 88 8 8 88 spongent88 refl refl (lit< tt) (lit≤ tt) refl)
-      (spongent-lawful 136 8 8 128 spongent136 refl refl (lit< tt) (lit≤ tt) refl)
-      (spongent-lawful 176 16 16 160 spongent176 refl refl (lit< tt) (lit≤ tt) refl)
-      (spongent-lawful 240 16 16 224 spongent240 refl refl (lit< tt) (lit≤ tt) refl)
-      (spongent-lawful 272 16 16 256 spongent272 refl refl (lit< tt) (lit≤ tt) refl))
+    (spongent-lawful 88 8 8 88 spongent88 refl refl (lit< tt) (lit≤ tt) refl)
+    (spongent-lawful 136 8 8 128 spongent136 refl refl (lit< tt) (lit≤ tt) refl)
+    (spongent-lawful 176 16 16 160 spongent176 refl refl (lit< tt) (lit≤ tt) refl)
+    (spongent-lawful 240 16 16 224 spongent240 refl refl (lit< tt) (lit≤ tt) refl)
+    (spongent-lawful 272 16 16 256 spongent272 refl refl (lit< tt) (lit≤ tt) refl))
 
 -- the sizes that the code relies on
 pub record Bounds (H : Variant) : Type 0 where
@@ -113,7 +120,7 @@ layouts =
     one-to-ten (λ v. (high-first ≡ order (variant v)) ⊎ WholeBytes (variant v))
     (one-to-five (λ v. (high-first ≡ order (variant v)) ⊎ WholeBytes (variant v)) (inl refl) (inl refl) (inl refl) (inl refl) (inl refl))
     (six-to-ten (λ v. (high-first ≡ order (variant v)) ⊎ WholeBytes (variant v))
-      (inr (omega arith)) (inr (omega arith)) (inr (omega arith)) (inr (omega arith)) (inr (omega arith)))
+    (inr (omega arith)) (inr (omega arith)) (inr (omega arith)) (inr (omega arith)) (inr (omega arith)))
 
 -- ---- the theorems by number
 

@@ -2,11 +2,11 @@
 -- Assumes nothing.
 use mathlib.Core.Path.{_≡_}
 use mathlib.Core.Bool.{Bool, true, false}
-use mathlib.Core.List.{List, [], _∷_, _++_, foldl, flatMap}
+use mathlib.Core.List.{List, [], _∷_, _++_, foldl, flatMap, reverse}
 use Prim.Native.Nat.{ℕ, zero, suc, _+_, _-_, _*_, _/_, _%_, _<_}
 use lib.ListN.{length, getD, take, drop, replicate}
 use Rattle.standard.specs.Bits.{Order, low-first, high-first, bitsOf, bitsIn, pack, unpack, bytesFor, reordered, cut, xorInto}
-use Rattle.standard.specs.Rounds.{Direction, forward}
+use Rattle.standard.specs.Rounds.{Direction, forward, backward}
 use Rattle.standard.specs.Photon.{PhotonParameters, photonPermutation}
 use Rattle.standard.specs.Spongent.{SpongentParameters, spongentPermutation}
 
@@ -67,9 +67,17 @@ messageBlocks H m = wholeBlocks (H .r) (padded (H .r) (bitsIn high-first m))
 unfoldable pub step : Variant → List Bool → List Bool → List Bool
 step H s b = permutation H forward (xorInto s (reordered high-first (order H) b))
 
+-- the block step taken back
+unfoldable pub unstep : Variant → List Bool → List Bool → List Bool
+unstep H s b = xorInto (permutation H backward s) (reordered high-first (order H) b)
+
 -- the state after a row of blocks
 unfoldable pub run : Variant → List Bool → List (List Bool) → List Bool
 run H s bs = foldl (step H) s bs
+
+-- the state before a row of blocks that led to s, the last block taken back first
+unfoldable pub unrun : Variant → List Bool → List (List Bool) → List Bool
+unrun H s bs = foldl (unstep H) s (reverse bs)
 
 -- the state after the last block of a message
 unfoldable pub endState : Variant → List ℕ → List Bool

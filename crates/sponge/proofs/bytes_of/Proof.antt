@@ -23,7 +23,7 @@ loop-holds : tie.Need-loop-holds Inv-loop μ-loop
 loop-holds c = (omega arith, upto-none _ refl)
 
 byte-of-requires : tie.Need-byte-of-requires Inv-loop μ-loop
-byte-of-requires c κs = 
+byte-of-requires c κs =
     let s = c .before .before in
     (s .pre .0, (s .pre .1 .0, (s .pre .1 .1, omega arith)))
 
@@ -37,12 +37,12 @@ loop-less : tie.Need-loop-less Inv-loop μ-loop
 loop-less c = omega arith
 
 loop-again : tie.Need-loop-again Inv-loop μ-loop
-loop-again c = 
+loop-again c =
     let l = c .before .before .loop in
     (omega arith, upto-more (l .k) _ (l .out) (c .byte-of .result) (omega arith) (c .byte-of .ensures) (l .inv .1))
 
 returns : tie.Need-returns Inv-loop μ-loop
-returns c = 
+returns c =
     let l = c .before .loop in
     let a = c .before .before .args in
     let bits = bitsOfMatrix (a .w) (window (a .d) (a .g)) in

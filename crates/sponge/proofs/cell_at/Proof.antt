@@ -11,7 +11,7 @@ mul-if1 : tie.Need-mul-if1
 mul-if1 c = omega (arith, square-le (c .args .d) (omega arith))
 
 returns : tie.Need-returns
-returns c = 
+returns c =
     let a = c .before .args in
     sym (past (a .d) _ (window-square (a .d) (a .t1)) (a .n) (c .if1 .taken) (omega arith))
 
@@ -31,7 +31,7 @@ index-2-result : tie.Need-index-2-result
 index-2-result c = omega (arith, col-lt (c .before .args .d) (c .before .args .n) (c .if1 .left))
 
 returns-2 : tie.Need-returns-2
-returns-2 c = 
+returns-2 c =
     let a = c .before .before .args in
     sym (at-window (a .d) (a .t1) _ _ (row-lt (a .d) (a .n) (c .before .if1 .left)) (col-lt (a .d) (a .n) (c .before .if1 .left)))
 

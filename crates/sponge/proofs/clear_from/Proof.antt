@@ -32,8 +32,8 @@ returns-3 c =
     let a = c .before .before .before .before .before .args in
     let s = a .bytes .now in
     sym (half-byte s (a .c) (omega arith) (omega arith)
-      ∙ ap (λ (t : Bool). t && clear (bitsIn high-first (drop (a .c / 8 + 1) s)))
-        (width-set high-first 4 (getD s (a .c / 8) 0) (c .if3 .taken)))
+    ∙ ap (λ (t : Bool). t && clear (bitsIn high-first (drop (a .c / 8 + 1) s)))
+    (width-set high-first 4 (getD s (a .c / 8) 0) (c .if3 .taken)))
 
 add-zero-from : tie.Need-add-zero-from
 add-zero-from c = search needs
@@ -47,8 +47,8 @@ returns-4 c =
     let s = a .bytes .now in
     c .zero-from2 .ensures
     ∙ sym (half-byte s (a .c) (omega arith) (omega arith)
-      ∙ ap (λ (t : Bool). t && clear (bitsIn high-first (drop (a .c / 8 + 1) s)))
-        (width-clear high-first 4 (getD s (a .c / 8) 0) (c .before .if3 .left)))
+    ∙ ap (λ (t : Bool). t && clear (bitsIn high-first (drop (a .c / 8 + 1) s)))
+    (width-clear high-first 4 (getD s (a .c / 8) 0) (c .before .if3 .left)))
 
 pub clear-from-spec : {M : Type 1} → statement M
 clear-from-spec =

@@ -31,7 +31,7 @@ loop-less : tie.Need-loop-less Inv-loop μ-loop
 loop-less c = omega arith
 
 loop-again : tie.Need-loop-again Inv-loop μ-loop
-loop-again c = 
+loop-again c =
     let at = c .before .before in
     let s = at .before .args in
     (omega arith, simp length-set (at .loop .inv .1), rw (at .loop .inv .2) (front-more (s .out .now) (s .s .now) (at .loop .i) (omega arith) (omega arith)))
@@ -40,7 +40,7 @@ same-length : tie.Need-same-length Inv-loop μ-loop
 same-length c = c .before .loop .inv .1
 
 returns : tie.Need-returns Inv-loop μ-loop
-returns c = 
+returns c =
     let s = c .before .before .args in
     let e : c .before .loop .i ≡ s .n = omega arith in
     c .before .loop .inv .2 ∙ rw e

@@ -25,7 +25,7 @@ loop-holds : tie.Need-loop-holds Inv-loop μ-loop
 loop-holds c = (omega arith, (omega arith, upto-none _ refl))
 
 read-row-requires : tie.Need-read-row-requires Inv-loop μ-loop
-read-row-requires c κs = 
+read-row-requires c κs =
     let l = c .before .loop in
     let start = c .before .before in
     let d = start .args .d in
@@ -39,7 +39,7 @@ array-set-from-out : tie.Need-array-set-from-out Inv-loop μ-loop
 array-set-from-out c = omega arith
 
 add-base : tie.Need-add-base Inv-loop μ-loop
-add-base c = 
+add-base c =
     let l = c .before .before .loop in
     let d = c .before .before .before .args .d in
     let h : l .i ≤ 7 = omega arith in
@@ -52,17 +52,21 @@ loop-less : tie.Need-loop-less Inv-loop μ-loop
 loop-less c = omega arith
 
 loop-again : tie.Need-loop-again Inv-loop μ-loop
-loop-again c = 
+loop-again c =
     let l = c .before .before .loop in
-    let a = c .before .before .before .args in
-    (omega arith, (omega (arith, l .inv .1 .0, add-mul (l .i) 1 (a .d)),
-    upto-more (l .i) _ (l .out) (c .read-row .result) (omega arith)
-    (λ j h. c .read-row .ensures j h ∙ ap (λ (b : ℕ). cellIn (a .w) (a .s) (b + j)) (l .inv .1 .0))
-    (l .inv .1 .1)))
+    let a = c .before .before .before .args in (
+      omega arith,
+      (
+        omega (arith, l .inv .1 .0, add-mul (l .i) 1 (a .d)),
+        upto-more (l .i) _ (l .out) (c .read-row .result) (omega arith)
+            (λ j h. c .read-row .ensures j h ∙ ap (λ (b : ℕ). cellIn (a .w) (a .s) (b + j)) (l .inv .1 .0))
+            (l .inv .1 .1),
+      ),
+    )
 
 returns : tie.Need-returns Inv-loop μ-loop
 unfolding cellIn
-returns c = 
+returns c =
     let l = c .before .loop in
     let a = c .before .before .args in
     let bits = bitsIn high-first (a .s) in

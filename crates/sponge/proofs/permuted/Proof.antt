@@ -14,12 +14,12 @@ returns : tie.Need-returns
 returns c = search needs
 
 permuted-requires : tie.Need-permuted-requires
-permuted-requires c κs = 
+permuted-requires c κs =
     let a = c .before .args in
     ((omega arith, omega arith), spongent-ready (a .v) (omega arith) (omega arith) (a .s) (c .before .pre .1))
 
 returns-2 : tie.Need-returns-2
-returns-2 c = 
+returns-2 c =
     let a = c .before .before .args in
     spongent-state (a .v) (omega arith) (omega arith) (a .s) (c .permuted .result) (direction (a .back)) (c .permuted .ensures)
 

@@ -22,7 +22,7 @@ cell-bits-requires : tie.Need-cell-bits-requires
 cell-bits-requires c κs = search needs
 
 grid-of-requires : tie.Need-grid-of-requires
-grid-of-requires c κs = 
+grid-of-requires c κs =
     let v = c .before .before .args .v in
     let ed = c .before .size-of .ensures in
     let es = c .cell-bits .ensures in
@@ -30,24 +30,28 @@ grid-of-requires c κs =
 
 permuted-requires : tie.Need-permuted-requires
 permuted-requires c κs =
-    let a = c .before .before .before .args in
-    ((omega arith, omega arith),
-    matrix-ready (a .v) (omega arith) (omega arith) (bitsIn high-first (a .s)) (c .grid-of .result)
-    (at-sizes (λ n w. window n (c .grid-of .result) ≡ matrixOf n w (bitsIn high-first (a .s)))
-      (c .before .before .size-of .ensures) (c .before .cell-bits .ensures) (c .grid-of .ensures)))
+    let a = c .before .before .before .args in (
+      (omega arith, omega arith),
+      matrix-ready (a .v) (omega arith) (omega arith) (bitsIn high-first (a .s)) (c .grid-of .result)
+          (at-sizes (λ n w. window n (c .grid-of .result) ≡ matrixOf n w (bitsIn high-first (a .s)))
+          (c .before .before .size-of .ensures) (c .before .cell-bits .ensures) (c .grid-of .ensures)),
+    )
 
 bytes-of-requires : tie.Need-bytes-of-requires
 bytes-of-requires c κs =
     let a = c .before .before .before .before .args in
     let ed = c .before .before .before .size-of .ensures in
     let es = c .before .before .cell-bits .ensures in
-    let g = c .before .grid-of .result in
-    (subst (λ (w : ℕ). (w ≡ 4) ⊎ (w ≡ 8)) (sym es) (cell-widths (a .v) (omega arith) (omega arith)),
-    ((omega (arith, sound (a .v) (omega arith) (omega arith) .pos), omega (arith, sound (a .v) (omega arith) (omega arith) .most)),
-    at-sizes (λ n w. Small n (2 ^ w) (c .permuted .result)) (sym ed) (sym es)
-    (rounds-ready (a .v) (omega arith) (omega arith) (bitsIn high-first (a .s)) (direction (a .back)) g (c .permuted .result)
-      (at-sizes (λ n w. window n g ≡ matrixOf n w (bitsIn high-first (a .s))) ed es (c .before .grid-of .ensures))
-      (c .permuted .ensures))))
+    let g = c .before .grid-of .result in (
+      subst (λ (w : ℕ). (w ≡ 4) ⊎ (w ≡ 8)) (sym es) (cell-widths (a .v) (omega arith) (omega arith)),
+      (
+        (omega (arith, sound (a .v) (omega arith) (omega arith) .pos), omega (arith, sound (a .v) (omega arith) (omega arith) .most)),
+        at-sizes (λ n w. Small n (2 ^ w) (c .permuted .result)) (sym ed) (sym es)
+            (rounds-ready (a .v) (omega arith) (omega arith) (bitsIn high-first (a .s)) (direction (a .back)) g (c .permuted .result)
+            (at-sizes (λ n w. window n g ≡ matrixOf n w (bitsIn high-first (a .s))) ed es (c .before .grid-of .ensures))
+            (c .permuted .ensures)),
+      ),
+    )
 
 returns : tie.Need-returns
 returns c =

@@ -33,7 +33,7 @@ loop-less : tie.Need-loop-less Inv-loop μ-loop
 loop-less c = omega arith
 
 loop-again : tie.Need-loop-again Inv-loop μ-loop
-loop-again c = 
+loop-again c =
     let l = c .before .before .loop in
     (omega arith, upto-more (l .j) _ (l .out) (c .cell-of .result) (omega arith) (c .cell-of .ensures) (l .inv .1))
 

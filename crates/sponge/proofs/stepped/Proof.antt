@@ -21,14 +21,15 @@ with-block-requires : tie.Need-with-block-requires
 with-block-requires c κs = search needs
 
 permuted-requires : tie.Need-permuted-requires
-permuted-requires c κs = 
+permuted-requires c κs =
     let start = c .before in
     let a = start .args in
     let e = taken (a .v) (omega arith) (omega arith) (a .s) (c .with-block .result) (a .b) (omega arith) (omega arith)
-        (bytes-lt 36 (c .with-block .result) _ (c .with-block .ok)) (omega arith) (start .pre .1 .0) (start .pre .1 .1) (c .with-block .ensures) in
-    (start .pre .0,
-    stored-ready (a .v) (omega arith) (omega arith) (c .with-block .result) _
-    (length-xorInto _ _ ∙ state-length (a .v) (omega arith) (omega arith) (a .s) (omega arith)) e)
+    (bytes-lt 36 (c .with-block .result) _ (c .with-block .ok)) (omega arith) (start .pre .1 .0) (start .pre .1 .1) (c .with-block .ensures) in (
+      start .pre .0,
+      stored-ready (a .v) (omega arith) (omega arith) (c .with-block .result) _
+          (length-xorInto _ _ ∙ state-length (a .v) (omega arith) (omega arith) (a .s) (omega arith)) e,
+    )
 
 returns : tie.Need-returns
 unfolding step
@@ -37,11 +38,11 @@ returns c =
     let a = start .args in
     let x = c .before .with-block in
     let e = taken (a .v) (omega arith) (omega arith) (a .s) (x .result) (a .b) (omega arith) (omega arith)
-        (bytes-lt 36 (x .result) _ (x .ok)) (omega arith) (start .pre .1 .0) (start .pre .1 .1) (x .ensures) in
+    (bytes-lt 36 (x .result) _ (x .ok)) (omega arith) (start .pre .1 .0) (start .pre .1 .1) (x .ensures) in
     c .permuted .ensures
     ∙ ap (λ (s : List Bool). stateBytes (variant (a .v)) (permutation (variant (a .v)) forward s))
-      (stored (a .v) (omega arith) (omega arith) (x .result) _
-        (length-xorInto _ _ ∙ state-length (a .v) (omega arith) (omega arith) (a .s) (omega arith)) e)
+    (stored (a .v) (omega arith) (omega arith) (x .result) _
+    (length-xorInto _ _ ∙ state-length (a .v) (omega arith) (omega arith) (a .s) (omega arith)) e)
 
 pub stepped-spec : {M : Type 1} → statement M
 stepped-spec = tie.close (tie.spec with-block-requires permuted-requires returns)

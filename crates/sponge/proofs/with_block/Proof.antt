@@ -41,11 +41,12 @@ loop-again c =
     let l = c .before in
     let b : List ℕ = l .before .args .t2 in
     let s : List ℕ = l .before .args .s in
-    let i : ℕ = l .loop .i in
-    (omega arith,
-    ap (λ (x : List ℕ). set x i (bitXor (getD x i 0) (getD b i 0))) (l .loop .inv .1)
-    ∙ bytesXor-more s b i (omega arith) (omega arith)
-    ∙ ap (λ (m : ℕ). bytesXor s (take m b)) (sym (add-one i)))
+    let i : ℕ = l .loop .i in (
+      omega arith,
+      ap (λ (x : List ℕ). set x i (bitXor (getD x i 0) (getD b i 0))) (l .loop .inv .1)
+          ∙ bytesXor-more s b i (omega arith) (omega arith)
+          ∙ ap (λ (m : ℕ). bytesXor s (take m b)) (sym (add-one i)),
+    )
 
 returns : tie.Need-returns Inv-loop μ-loop
 returns c o =

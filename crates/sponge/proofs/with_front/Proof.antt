@@ -30,14 +30,15 @@ cell-of-requires : tie.Need-cell-of-requires Inv-loop μ-loop
 cell-of-requires c κs = (inl refl, omega arith)
 
 with-half-requires : tie.Need-with-half-requires Inv-loop μ-loop
-with-half-requires c κs = 
+with-half-requires c κs =
     let start = c .before .before .before in
     let a = start .args in
     let l = c .before .before .loop in
     let Z : List Bool = unpack high-first (4 * a .p) (a .out) ++ take (4 * l .i) (bitsIn high-first (a .s)) in
-    let lZ = fronted-length (a .out) (a .s) (a .p) (l .i) (omega arith) (omega arith) (omega arith) (omega arith) in
-    ((omega arith, omega (arith, c .cell-of .ensures, half-lt (a .s) (omega arith) (l .i) (omega arith))),
-    l .inv .1 ∙ ap (pack high-first 32) (sym (held-again 32 (4 * (a .p + l .i)) (l .r) Z (l .inv .1) lZ (omega arith))))
+    let lZ = fronted-length (a .out) (a .s) (a .p) (l .i) (omega arith) (omega arith) (omega arith) (omega arith) in (
+      (omega arith, omega (arith, c .cell-of .ensures, half-lt (a .s) (omega arith) (l .i) (omega arith))),
+      l .inv .1 ∙ ap (pack high-first 32) (sym (held-again 32 (4 * (a .p + l .i)) (l .r) Z (l .inv .1) lZ (omega arith))),
+    )
 
 add-i : tie.Need-add-i Inv-loop μ-loop
 add-i c = omega arith
@@ -46,20 +47,21 @@ loop-less : tie.Need-loop-less Inv-loop μ-loop
 loop-less c = omega arith
 
 loop-again : tie.Need-loop-again Inv-loop μ-loop
-loop-again c = 
+loop-again c =
     let start = c .before .before .before .before in
     let a = start .args in
     let l = c .before .before .before .loop in
     let Z : List Bool = unpack high-first (4 * a .p) (a .out) ++ take (4 * l .i) (bitsIn high-first (a .s)) in
-    let lZ = fronted-length (a .out) (a .s) (a .p) (l .i) (omega arith) (omega arith) (omega arith) (omega arith) in
-    (omega arith,
-    c .with-half .ensures
-    ∙ ap (λ (b : List Bool). pack high-first 32 (b ++ bitsOf high-first 4 (c .before .cell-of .result))) (held-again 32 (4 * (a .p + l .i)) (l .r) Z (l .inv .1) lZ (omega arith))
-    ∙ ap (λ (x : ℕ). pack high-first 32 (Z ++ bitsOf high-first 4 x)) (c .before .cell-of .ensures)
-    ∙ ap (pack high-first 32) (front-half (a .s) (omega arith) (l .i) (omega arith) (unpack high-first (4 * a .p) (a .out))))
+    let lZ = fronted-length (a .out) (a .s) (a .p) (l .i) (omega arith) (omega arith) (omega arith) (omega arith) in (
+      omega arith,
+      c .with-half .ensures
+          ∙ ap (λ (b : List Bool). pack high-first 32 (b ++ bitsOf high-first 4 (c .before .cell-of .result))) (held-again 32 (4 * (a .p + l .i)) (l .r) Z (l .inv .1) lZ (omega arith))
+          ∙ ap (λ (x : ℕ). pack high-first 32 (Z ++ bitsOf high-first 4 x)) (c .before .cell-of .ensures)
+          ∙ ap (pack high-first 32) (front-half (a .s) (omega arith) (l .i) (omega arith) (unpack high-first (4 * a .p) (a .out))),
+    )
 
 returns : tie.Need-returns Inv-loop μ-loop
-returns c = 
+returns c =
     let a = c .before .before .args in
     let l = c .before .loop in
     let e : l .i ≡ a .q = omega arith in

@@ -22,7 +22,7 @@ array-write-r : tie.Need-array-write-r
 array-write-r c = search needs
 
 returns : tie.Need-returns
-returns c = 
+returns c =
     let start = c .before in
     let a = start .args in
     let X : List Bool = unpack high-first (4 * a .p) (a .out) in
@@ -38,7 +38,7 @@ array-write-r-2 : tie.Need-array-write-r-2
 array-write-r-2 c = search needs
 
 returns-2 : tie.Need-returns-2
-returns-2 c = 
+returns-2 c =
     let start = c .before in
     let a = start .args in
     let X : List Bool = unpack high-first (4 * a .p) (a .out) in

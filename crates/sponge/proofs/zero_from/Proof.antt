@@ -25,8 +25,8 @@ returns : tie.Need-returns Inv-loop μ-loop
 returns c =
     let at = c .before .before .before in
     sym (at .loop .inv
-      ∙ stopped high-first (at .before .args .bytes .now) (at .loop .i) (c .before .before .loop-test .taken)
-        (omega (arith, c .before .shared-slice-known .given (at .loop .i))) (c .if1 .taken))
+    ∙ stopped high-first (at .before .args .bytes .now) (at .loop .i) (c .before .before .loop-test .taken)
+    (omega (arith, c .before .shared-slice-known .given (at .loop .i))) (c .if1 .taken))
 
 add-i : tie.Need-add-i Inv-loop μ-loop
 add-i c = omega arith
