@@ -1,11 +1,10 @@
 -- What each way through the checks of start, update and finish comes to.
 -- Assumes nothing.
-use mathlib.Core.Path.{_≡_, sym, ap, ap₂, _∙_, subst}
-use mathlib.Core.Bool.{Bool, true, false, cond, not}
+use mathlib.Core.Path.{_≡_, sym, subst}
+use mathlib.Core.Bool.{true, false}
 use mathlib.Core.List.{List, []}
 use mathlib.Core.Logic.{⊎-elim}
 use Prim.Native.Nat.{ℕ, _+_, _≤_, _<_}
-use lib.Dec.{ltb}
 use lib.ListN.{length}
 use borrow.Author.Tests.{lt-ltb, le-ltb}
 use Rattle.standard.specs.Bits.{high-first, bitsIn}
@@ -22,16 +21,13 @@ use Rattle.hasher.specs.Running.{most, variantOf, closed, heldIn, stateO
 
 pub start-unknown : (v : ℕ) → known v ≡ false → started v ≡ refused UnknownVariant nothing
 unfolding started
-start-unknown v e = ap (λ (b : Bool). cond (not b) (refused UnknownVariant nothing) (done (holding v 0 0 (startState (variant v)) []))) e
+start-unknown v e = rw e
 
 pub start-done : (v : ℕ) → known v ≡ true → started v ≡ done (holding v 0 0 (startState (variant v)) [])
 unfolding started
-start-done v e = ap (λ (b : Bool). cond (not b) (refused UnknownVariant nothing) (done (holding v 0 0 (startState (variant v)) []))) e
+start-done v e = rw e
 
--- ---- update and finish: the first two checks are the same
-
-abbrev checked : Hasher → Advanced → Bool → Bool → Advanced
-checked h next a b = cond (not a) (refused Malformed h) (cond b (refused WrongStage h) next)
+-- ---- finish and update
 
 module _ (h : Hasher) where
   abbrev last : Hasher
@@ -39,38 +35,35 @@ module _ (h : Hasher) where
 
   pub finish-malformed : wellFormed h ≡ false → finished h ≡ refused Malformed h
   unfolding finished
-  finish-malformed e = ap (λ (a : Bool). checked h (done last) a (closed h)) e
+  finish-malformed e = rw e
 
   pub finish-closed : wellFormed h ≡ true → closed h ≡ true → finished h ≡ refused WrongStage h
   unfolding finished
-  finish-closed e s = ap₂ (checked h (done last)) e s
+  finish-closed e s = rw (e, s)
 
   pub finish-done : wellFormed h ≡ true → closed h ≡ false → finished h ≡ done last
   unfolding finished
-  finish-done e s = ap₂ (checked h (done last)) e s
+  finish-done e s = rw (e, s)
 
   module _ (piece : List ℕ) where
     abbrev next : Hasher
     next = grown h (length piece) (bitsIn high-first piece)
 
-    abbrev within : Bool → Advanced
-    within b = cond b (refused TooLong h) (done next)
-
     pub update-malformed : wellFormed h ≡ false → updated h piece ≡ refused Malformed h
     unfolding updated
-    update-malformed e = ap (λ (a : Bool). checked h (within (ltb most (h .total + length piece))) a (closed h)) e
+    update-malformed e = rw e
 
     pub update-closed : wellFormed h ≡ true → closed h ≡ true → updated h piece ≡ refused WrongStage h
     unfolding updated
-    update-closed e s = ap₂ (checked h (within (ltb most (h .total + length piece)))) e s
+    update-closed e s = rw (e, s)
 
     pub update-long : wellFormed h ≡ true → closed h ≡ false → most < h .total + length piece → updated h piece ≡ refused TooLong h
     unfolding updated
-    update-long e s l = ap₂ (checked h (within (ltb most (h .total + length piece)))) e s ∙ ap within (lt-ltb most (h .total + length piece) l)
+    update-long e s l = rw (e, s, lt-ltb most (h .total + length piece) l)
 
     pub update-done : wellFormed h ≡ true → closed h ≡ false → h .total + length piece ≤ most → updated h piece ≡ done next
     unfolding updated
-    update-done e s l = ap₂ (checked h (within (ltb most (h .total + length piece)))) e s ∙ ap within (le-ltb most (h .total + length piece) l)
+    update-done e s l = rw (e, s, le-ltb most (h .total + length piece) l)
 
     -- what holds of each way holds of the answer
     pub update-ways : (P : Advanced → Type 0)

@@ -1,3 +1,4 @@
+-- The laws of the running hash, and the theorems on it: Keeps, UpdateAppend, Demand2.
 pub mod HeldBits
 pub mod Owned
 pub mod WellFormed

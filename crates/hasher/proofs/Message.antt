@@ -1,12 +1,11 @@
 -- The running hash from its start over a message to the end: its state is the message's end state.
 -- Assumes nothing.
 use mathlib.Core.Path.{_≡_, refl, sym, ap, ap₂, _∙_}
-use mathlib.Core.Bool.{Bool, true, false, cond, not, _&&_}
+use mathlib.Core.Bool.{Bool, true, false, _&&_}
 use mathlib.Core.List.{List, [], _++_}
 use Prim.Native.Nat.{ℕ, _+_, _≤_}
 use native.Mathlib.Nat.{zero-add, mod-eq-of-lt}
 use native.Mathlib.Omega.{arith}
-use lib.Dec.{ltb}
 use lib.ListN.{length}
 use borrow.Author.Tests.{le-ltb, le-leb}
 use Rattle.standard.specs.Bits.{high-first, bitsIn}
@@ -17,12 +16,11 @@ use Rattle.standard.proofs.Streaming.{whole-padded}
 use Rattle.standard.proofs.OneBlock.{Lawful, run-append, run-length}
 use Rattle.standard.proofs.Variants.{lawful}
 use Rattle.sponge.specs.declared.Status.{Status}
-use Rattle.sponge.specs.declared.Status.the-variants.{Done, UnknownVariant, Malformed, TooLong, OutputTooShort}
 use Rattle.sponge.specs.Layout.{stateBytes, blockBytes}
 use Rattle.hasher.specs.declared.Hasher.{Hasher}
 use Rattle.hasher.specs.declared.Advanced.{Advanced}
 use Rattle.hasher.specs.Running.{most, closed, heldCount, heldIn, stateOf, wellFormed, holding, done, grown, started, updated, finished}
-use Rattle.hasher.specs.Reading.{resultOf, resultBytes, readStatus, written, readInto, wholeStatus, wholeInto}
+use Rattle.hasher.specs.Reading.{resultOf, readStatus, written, readInto, wholeStatus, wholeInto}
 use Rattle.hasher.specs.Sized.{Sized}
 use Rattle.hasher.proofs.WellFormed.{Facts, well-formed, open-count}
 use Rattle.hasher.proofs.Grown.{holding-sized, state-holding, held-holding, holding-facts, holding-same, grown-state, grown-held, grown-facts, grown-closed}
@@ -145,10 +143,7 @@ module _ (v : ℕ) (low : 1 ≤ v) (high : v ≤ 10) where
 
     pub ended-status : (image : Bool) (n : ℕ) → readStatus ended image n ≡ wholeStatus v m image n
     unfolding readStatus wholeStatus
-    ended-status image n =
-        ap (λ (a : Bool). cond (not a) Malformed (cond (ltb n (resultBytes H image)) OutputTooShort Done)) ended-whole
-        ∙ sym (ap₂ (λ (a b : Bool). cond (not a) UnknownVariant (cond b TooLong (cond (ltb n (resultBytes H image)) OutputTooShort Done)))
-        (known-true v low high) (le-ltb most (length m) few))
+    ended-status image n = rw (ended-whole, known-true v low high, le-ltb most (length m) few)
 
     pub ended-into : (image : Bool) (out : List ℕ) → readInto ended image out ≡ wholeInto v m image out
     unfolding readInto wholeInto

@@ -1,11 +1,10 @@
 -- What each way through the checks of a read and of a whole message comes to, and the result over the front of the output.
 -- Assumes nothing.
 use mathlib.Core.Path.{_≡_, refl, sym, ap, ap₂, _∙_}
-use mathlib.Core.Bool.{Bool, true, false, cond, not}
+use mathlib.Core.Bool.{Bool, true, false, cond}
 use mathlib.Core.List.{List, _++_}
 use Prim.Native.Nat.{ℕ, _+_, _/_, _≤_, _<_}
 use native.Mathlib.Omega.{arith}
-use lib.Dec.{ltb}
 use lib.ListN.{length, take, drop}
 use borrow.Author.Tests.{lt-ltb, le-ltb}
 use Rattle.standard.specs.Bits.{high-first, pack}
@@ -88,31 +87,26 @@ module _ (h : Hasher) (image : Bool) (out : List ℕ) where
   abbrev result : List ℕ
   result = resultOf (variantOf h) image (stateOf h)
 
-  abbrev ladder : Bool → Bool → Bool → Status
-  ladder a b c = cond (not a) Malformed (cond (not b) WrongStage (cond c OutputTooShort Done))
-
   leaves : (s : Status) (after : List ℕ) → readStatus h image (length out) ≡ s → after ≡ written s result out → Read h image out s after
   unfolding readInto
   leaves s after e a = (sym e, a ∙ ap (λ (t : Status). written t result out) (sym e))
 
   pub read-malformed : wellFormed h ≡ false → Read h image out Malformed out
   unfolding readStatus
-  read-malformed e = leaves Malformed out (ap (λ (a : Bool). ladder a (closed h) (ltb (length out) size)) e) refl
+  read-malformed e = leaves Malformed out (rw e) refl
 
   module _ (w : wellFormed h ≡ true) where
     pub read-open : closed h ≡ false → Read h image out WrongStage out
     unfolding readStatus
-    read-open e = leaves WrongStage out (ap₂ (λ (a b : Bool). ladder a b (ltb (length out) size)) w e) refl
+    read-open e = leaves WrongStage out (rw (w, e)) refl
 
     pub read-short : closed h ≡ true → length out < size → Read h image out OutputTooShort out
     unfolding readStatus
-    read-short e l =
-        leaves OutputTooShort out (ap₂ (λ (a b : Bool). ladder a b (ltb (length out) size)) w e ∙ ap (ladder true true) (lt-ltb (length out) size l)) refl
+    read-short e l = leaves OutputTooShort out (rw (w, e, lt-ltb (length out) size l)) refl
 
     pub read-done : closed h ≡ true → size ≤ length out → (after : List ℕ) → after ≡ result ++ drop (length result) out → Read h image out Done after
     unfolding readStatus
-    read-done e l after a =
-        leaves Done after (ap₂ (λ (a b : Bool). ladder a b (ltb (length out) size)) w e ∙ ap (ladder true true) (le-ltb (length out) size l)) a
+    read-done e l after a = leaves Done after (rw (w, e, le-ltb (length out) size l)) a
 
 -- ---- a whole message
 
@@ -126,26 +120,19 @@ module _ (v : ℕ) (m : List ℕ) (image : Bool) (out : List ℕ) where
   abbrev whole-result : List ℕ
   whole-result = resultOf (variant v) image (endState (variant v) m)
 
-  abbrev whole-ladder : Bool → Bool → Bool → Status
-  whole-ladder a b c = cond (not a) UnknownVariant (cond b TooLong (cond c OutputTooShort Done))
-
   whole-leaves : (s : Status) (after : List ℕ) → wholeStatus v m image (length out) ≡ s → after ≡ written s whole-result out → Whole v m image out s after
   unfolding wholeInto
   whole-leaves s after e a = (sym e, a ∙ ap (λ (t : Status). written t whole-result out) (sym e))
 
   pub whole-unknown : known v ≡ false → Whole v m image out UnknownVariant out
   unfolding wholeStatus
-  whole-unknown e = whole-leaves UnknownVariant out (ap (λ (a : Bool). whole-ladder a (ltb most (length m)) (ltb (length out) whole-size)) e) refl
+  whole-unknown e = whole-leaves UnknownVariant out (rw e) refl
 
   module _ (k : known v ≡ true) where
     pub whole-long : most < length m → Whole v m image out TooLong out
     unfolding wholeStatus
-    whole-long l =
-        whole-leaves TooLong out (ap₂ (λ (a b : Bool). whole-ladder a b (ltb (length out) whole-size)) k (lt-ltb most (length m) l)) refl
+    whole-long l = whole-leaves TooLong out (rw (k, lt-ltb most (length m) l)) refl
 
-    module _ (few : length m ≤ most) where
-      pub whole-short : length out < whole-size → Whole v m image out OutputTooShort out
-      unfolding wholeStatus
-      whole-short l =
-          whole-leaves OutputTooShort out
-          (ap₂ (λ (a b : Bool). whole-ladder a b (ltb (length out) whole-size)) k (le-ltb most (length m) few) ∙ ap (whole-ladder true false) (lt-ltb (length out) whole-size l)) refl
+    pub whole-short : length m ≤ most → length out < whole-size → Whole v m image out OutputTooShort out
+    unfolding wholeStatus
+    whole-short few l = whole-leaves OutputTooShort out (rw (k, le-ltb most (length m) few, lt-ltb (length out) whole-size l)) refl

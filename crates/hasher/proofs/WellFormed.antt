@@ -1,6 +1,6 @@
 -- What a well-formed running hash is: its sizes, how many bits it holds, and that its bytes are those of its state and held bits.
 -- Assumes nothing.
-use mathlib.Core.Path.{_≡_, refl, sym, ap, ap₂, _∙_, subst}
+use mathlib.Core.Path.{_≡_, refl, sym, ap, _∙_, subst}
 use mathlib.Core.Bool.{Bool, true, false, cond, _&&_, false≢true}
 use mathlib.Core.List.{List, _++_}
 use mathlib.Core.Logic.{_⊎_, inl, inr, ⊎-elim}
@@ -170,30 +170,21 @@ module _ (h : Hasher) (f : Facts h) (w : Owned h) where
 -- ---- the tests in the code's order
 
 module _ (h : Hasher) where
-  abbrev state-test : Bool
-  state-test = clear (drop (variantOf h .t) (bitsIn (order (variantOf h)) (h .state)))
-
-  abbrev held-test : Bool
-  held-test = clear (drop (heldCount h) (bitsIn high-first (h .held)))
-
   pub ill-variant : known (h .variant) ≡ false → wellFormed h ≡ false
   unfolding wellFormed
-  ill-variant k = ap (λ (a : Bool). a && leb (h .stage) 1 && leb (h .total) most && state-test && held-test) k
+  ill-variant k = rw k
 
   pub ill-stage : known (h .variant) ≡ true → 1 < h .stage → wellFormed h ≡ false
   unfolding wellFormed
-  ill-stage k l = ap₂ (λ (a b : Bool). a && b && leb (h .total) most && state-test && held-test) k (lt-leb (h .stage) 1 l)
+  ill-stage k l = rw (k, lt-leb (h .stage) 1 l)
 
   module _ (k : known (h .variant) ≡ true) (l : h .stage ≤ 1) where
     pub ill-total : most < h .total → wellFormed h ≡ false
     unfolding wellFormed
-    ill-total m =
-        ap₂ (λ (a b : Bool). a && b && leb (h .total) most && state-test && held-test) k (le-leb (h .stage) 1 l)
-        ∙ ap (λ (b : Bool). b && state-test && held-test) (lt-leb (h .total) most m)
+    ill-total m = rw (k, le-leb (h .stage) 1 l, lt-leb (h .total) most m)
 
     -- the first three hold: the bits decide
     pub in-range : h .total ≤ most → wellFormed h ≡ (clear (drop (variantOf h .t) (bitsIn high-first (h .state))) && clear (drop (heldCount h) (bitsIn high-first (h .held))))
     unfolding wellFormed
     in-range m =
-        ap₂ (λ (a b : Bool). a && b && leb (h .total) most && state-test && held-test) k (le-leb (h .stage) 1 l)
-        ∙ ap₂ (λ (b s : Bool). b && s && held-test) (le-leb (h .total) most m) (spare h (known-low (h .variant) k) (known-high (h .variant) k))
+        rw (k, le-leb (h .stage) 1 l, le-leb (h .total) most m, spare h (known-low (h .variant) k) (known-high (h .variant) k))

@@ -1,7 +1,9 @@
 -- `hasher::held_count` meets its contract: none in a closed running hash, and the bits past the last whole block in an open one. Assumes nothing.
 use mathlib.Core.Path.{sym, ap, _∙_}
-use Prim.Native.Nat.{ℕ, _*_, _%_}
+use Prim.Native.Nat.{ℕ, _*_, _%_, _≤_, _<_}
 use native.Mathlib.Nat.{mod-lt}
+use mir.Syntax.{w64}
+use mir.Val.{Fits}
 use native.Mathlib.Omega.{arith}
 use borrow.Author.Needs.{needs}
 use borrow.Author.Tests.{eq-eqb, ne-eqb}
@@ -9,6 +11,9 @@ use Rattle.standard.proofs.Variants.{bounds}
 use Rattle.hasher.proofs.WellFormed.{open-count, closed-count}
 use Rattle.hasher.proofs.held_count.Statement.{statement}
 use Rattle.hasher.proofs.held_count.Tie as tie
+
+rem-fits : (x r : ℕ) → 0 < r → r ≤ 36 → Fits w64 (x % r)
+rem-fits x r pos small = omega (arith, mod-lt x {m = r} pos)
 
 returns : tie.Need-returns
 returns c = sym (closed-count (c .before .before .args .h) (eq-eqb _ _ (c .if1 .taken)))
@@ -28,7 +33,7 @@ cast-result : tie.Need-cast-result
 cast-result c =
     let s = c .before .before .before .before in
     let b = bounds (s .args .h .variant) (s .pre .0 .0) (s .pre .0 .1) in
-    omega (arith, c .block-bits .ensures, b .rate-most, mod-lt (8 * s .args .h .total) {m = c .block-bits .result} (omega (arith, c .block-bits .ensures, b .rate-least)))
+    rem-fits _ (c .block-bits .result) (omega (arith, c .block-bits .ensures, b .rate-least)) (omega (arith, c .block-bits .ensures, b .rate-most))
 
 returns-2 : tie.Need-returns-2
 returns-2 c =
