@@ -1,2 +1,4 @@
 pub mod FirstRefusal
 pub mod EntryLaws
+pub mod ListLaws
+pub mod KnownValues

@@ -1,8 +1,9 @@
 -- A segment list (document 01: cut sheet): entries (pairs) of eight bytes that name segments (parts) of a buffer.
 -- Assumes nothing.
+use mathlib.Core.Path.{_≡_}
 use mathlib.Core.Bool.{Bool, cond, not, _&&_}
 use mathlib.Core.List.{List, [], _∷_, foldl, flatMap, sum}
-use Prim.Native.Nat.{ℕ, zero, suc, _+_, _*_, _/_, _%_}
+use Prim.Native.Nat.{ℕ, zero, suc, _+_, _*_, _/_, _%_, _<_}
 use lib.Dec.{eqb, ltb, leb}
 use lib.ListN.{length, take, drop}
 use Rattle.standard.specs.Grid.{tab}
@@ -66,6 +67,12 @@ firstOf (s ∷ ss) = whenDone s (firstOf ss) s
 -- the refusal of all entries: the first that one of them gives
 unfoldable pub entriesStatus : List ℕ → ℕ → Status
 entriesStatus list n = firstOf (tab (count list) (entryStatus list n))
+
+-- the entries before entry k pass, and it is refused by s
+pub record StopsAt (list : List ℕ) (n k : ℕ) (s : Status) : Type 0 where
+  pub there : k < count list
+  pub earlier : (j : ℕ) → j < k → segmentStatus list n j ≡ Done
+  pub refused : segmentStatus list n k ≡ s
 
 -- the message: the segments joined in order
 unfoldable pub messageOf : List ℕ → List ℕ → List ℕ
