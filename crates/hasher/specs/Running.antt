@@ -87,5 +87,5 @@ finished h =
     cond (not (wellFormed h)) (refused Malformed h)
     (cond (closed h) (refused WrongStage h)
     (done
-      (holding (h .variant) 1 (h .total)
-        (run (variantOf h) (stateOf h) (wholeBlocks (variantOf h .r) (padded (variantOf h .r) (heldIn h)))) [])))
+    (holding (h .variant) 1 (h .total)
+    (run (variantOf h) (stateOf h) (wholeBlocks (variantOf h .r) (padded (variantOf h .r) (heldIn h)))) [])))

@@ -10,7 +10,6 @@ ghost use Rattle.standard.specs.Variants.{variant};
 ghost use Rattle.sponge.specs.Layout.{stateBytes, blockBytes};
 ghost use Rattle.hasher.specs.Running.{most, closed, heldCount, wellFormed, grown, started, updated, finished};
 ghost use Rattle.hasher.specs.Reading.{resultBytes, resultOf, readStatus, readInto, wholeStatus, wholeInto};
-
 use sponge::Status;
 
 // Any 52 bytes are one. Stage 0 is open, 1 is closed. The state is an image at the front of its bytes; the held bits are those of
@@ -73,12 +72,30 @@ pub fn start(variant: u8) -> Advanced
     let held = [0u8; 5];
     if !sponge::is_known(variant) {
         let none = [0u8; 36];
-        let h = Hasher { variant: 0, stage: 0, total: 0, state: none, held: held };
-        return Advanced { status: Status::UnknownVariant, hasher: h };
+        let h = Hasher {
+            variant: 0,
+            stage: 0,
+            total: 0,
+            state: none,
+            held: held,
+        };
+        return Advanced {
+            status: Status::UnknownVariant,
+            hasher: h,
+        };
     }
     let state = sponge::start_bytes(variant);
-    let h = Hasher { variant: variant, stage: 0, total: 0, state: state, held: held };
-    Advanced { status: Status::Done, hasher: h }
+    let h = Hasher {
+        variant: variant,
+        stage: 0,
+        total: 0,
+        state: state,
+        held: held,
+    };
+    Advanced {
+        status: Status::Done,
+        hasher: h,
+    }
 }
 
 // The byte x behind c held bits: at a whole byte, or from the middle of one on.
@@ -147,18 +164,36 @@ fn push(h: Hasher, x: u8) -> Hasher
     let total = h.total + 1;
     if c + 8 < r {
         let next = with_byte(held, c, x);
-        return Hasher { variant: v, stage: h.stage, total: total, state: state, held: next };
+        return Hasher {
+            variant: v,
+            stage: h.stage,
+            total: total,
+            state: state,
+            held: next,
+        };
     }
     if c + 8 == r {
         let block = with_byte(held, c, x);
         let s = sponge::stepped(v, state, block);
         let none = [0u8; 5];
-        return Hasher { variant: v, stage: h.stage, total: total, state: s, held: none };
+        return Hasher {
+            variant: v,
+            stage: h.stage,
+            total: total,
+            state: s,
+            held: none,
+        };
     }
     let block = with_upper(held, c, x);
     let s = sponge::stepped(v, state, block);
     let rest = lower(x);
-    Hasher { variant: v, stage: h.stage, total: total, state: s, held: rest }
+    Hasher {
+        variant: v,
+        stage: h.stage,
+        total: total,
+        state: s,
+        held: rest,
+    }
 }
 
 // Every byte of the piece, in order.
@@ -181,16 +216,28 @@ pub fn update(h: Hasher, piece: &[u8]) -> Advanced
     ensures { λ r. ⌜ r ≡ updated h (now (piece .entry)) ⌝ }
 {
     if !is_well_formed(h) {
-        return Advanced { status: Status::Malformed, hasher: h };
+        return Advanced {
+            status: Status::Malformed,
+            hasher: h,
+        };
     }
     if h.stage == 1 {
-        return Advanced { status: Status::WrongStage, hasher: h };
+        return Advanced {
+            status: Status::WrongStage,
+            hasher: h,
+        };
     }
     if ((MOST - h.total) as usize) < piece.len() {
-        return Advanced { status: Status::TooLong, hasher: h };
+        return Advanced {
+            status: Status::TooLong,
+            hasher: h,
+        };
     }
     let g = push_all(h, piece);
-    Advanced { status: Status::Done, hasher: g }
+    Advanced {
+        status: Status::Done,
+        hasher: g,
+    }
 }
 
 // Refusals 2, 3.
@@ -198,10 +245,16 @@ pub fn finish(h: Hasher) -> Advanced
     ensures { λ r. ⌜ r ≡ finished h ⌝ }
 {
     if !is_well_formed(h) {
-        return Advanced { status: Status::Malformed, hasher: h };
+        return Advanced {
+            status: Status::Malformed,
+            hasher: h,
+        };
     }
     if h.stage == 1 {
-        return Advanced { status: Status::WrongStage, hasher: h };
+        return Advanced {
+            status: Status::WrongStage,
+            hasher: h,
+        };
     }
     let v = h.variant;
     let held = h.held;
@@ -209,15 +262,28 @@ pub fn finish(h: Hasher) -> Advanced
     let block = with_one(held, held_count(h));
     let s = sponge::stepped(v, state, block);
     let none = [0u8; 5];
-    let g = Hasher { variant: v, stage: 1, total: h.total, state: s, held: none };
-    Advanced { status: Status::Done, hasher: g }
+    let g = Hasher {
+        variant: v,
+        stage: 1,
+        total: h.total,
+        state: s,
+        held: none,
+    };
+    Advanced {
+        status: Status::Done,
+        hasher: g,
+    }
 }
 
 // The bytes of a result: of an image, or of a digest.
 pub fn result_bytes(v: u8, image: bool) -> usize
     ensures { λ r. ⌜ r ≡ resultBytes (variant v) image ⌝ }
 {
-    if image { sponge::image_bytes(v) } else { sponge::digest_bytes(v) }
+    if image {
+        sponge::image_bytes(v)
+    } else {
+        sponge::digest_bytes(v)
+    }
 }
 
 // The result for an end state over the front of an output that is long enough.

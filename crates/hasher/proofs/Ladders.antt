@@ -1,0 +1,70 @@
+-- What each way through the checks of start, update and finish comes to.
+-- Assumes nothing.
+use mathlib.Core.Path.{_≡_, refl, sym, ap, ap₂, _∙_}
+use mathlib.Core.Bool.{Bool, true, false, cond, not}
+use mathlib.Core.List.{List, []}
+use Prim.Native.Nat.{ℕ, _+_, _≤_, _<_}
+use lib.Dec.{ltb}
+use lib.ListN.{length}
+use borrow.Author.Tests.{lt-ltb, le-ltb}
+use Rattle.standard.specs.Bits.{high-first, bitsIn}
+use Rattle.standard.specs.Sponge.{startState, padded, wholeBlocks, run}
+use Rattle.standard.specs.Variants.{variant, known}
+use Rattle.sponge.specs.declared.Status.the-variants.{UnknownVariant, Malformed, WrongStage, TooLong}
+use Rattle.hasher.specs.declared.Hasher.{Hasher}
+use Rattle.hasher.specs.declared.Advanced.{Advanced}
+use Rattle.hasher.specs.Running.{most, variantOf, closed, heldIn, stateOf, wellFormed, holding, refused, done, nothing, grown, started, updated, finished}
+
+-- ---- start
+
+pub start-unknown : (v : ℕ) → known v ≡ false → started v ≡ refused UnknownVariant nothing
+unfolding started
+start-unknown v e = ap (λ (b : Bool). cond (not b) (refused UnknownVariant nothing) (done (holding v 0 0 (startState (variant v)) []))) e
+
+pub start-done : (v : ℕ) → known v ≡ true → started v ≡ done (holding v 0 0 (startState (variant v)) [])
+unfolding started
+start-done v e = ap (λ (b : Bool). cond (not b) (refused UnknownVariant nothing) (done (holding v 0 0 (startState (variant v)) []))) e
+
+-- ---- update and finish: the first two checks are the same
+
+abbrev checked : Hasher → Advanced → Bool → Bool → Advanced
+checked h next a b = cond (not a) (refused Malformed h) (cond b (refused WrongStage h) next)
+
+module _ (h : Hasher) where
+  abbrev last : Hasher
+  last = holding (h .variant) 1 (h .total) (run (variantOf h) (stateOf h) (wholeBlocks (variantOf h .r) (padded (variantOf h .r) (heldIn h)))) []
+
+  pub finish-malformed : wellFormed h ≡ false → finished h ≡ refused Malformed h
+  unfolding finished
+  finish-malformed e = ap (λ (a : Bool). checked h (done last) a (closed h)) e
+
+  pub finish-closed : wellFormed h ≡ true → closed h ≡ true → finished h ≡ refused WrongStage h
+  unfolding finished
+  finish-closed e s = ap₂ (checked h (done last)) e s
+
+  pub finish-done : wellFormed h ≡ true → closed h ≡ false → finished h ≡ done last
+  unfolding finished
+  finish-done e s = ap₂ (checked h (done last)) e s
+
+  module _ (piece : List ℕ) where
+    abbrev next : Hasher
+    next = grown h (length piece) (bitsIn high-first piece)
+
+    abbrev within : Bool → Advanced
+    within b = cond b (refused TooLong h) (done next)
+
+    pub update-malformed : wellFormed h ≡ false → updated h piece ≡ refused Malformed h
+    unfolding updated
+    update-malformed e = ap (λ (a : Bool). checked h (within (ltb most (h .total + length piece))) a (closed h)) e
+
+    pub update-closed : wellFormed h ≡ true → closed h ≡ true → updated h piece ≡ refused WrongStage h
+    unfolding updated
+    update-closed e s = ap₂ (checked h (within (ltb most (h .total + length piece)))) e s
+
+    pub update-long : wellFormed h ≡ true → closed h ≡ false → most < h .total + length piece → updated h piece ≡ refused TooLong h
+    unfolding updated
+    update-long e s l = ap₂ (checked h (within (ltb most (h .total + length piece)))) e s ∙ ap within (lt-ltb most (h .total + length piece) l)
+
+    pub update-done : wellFormed h ≡ true → closed h ≡ false → h .total + length piece ≤ most → updated h piece ≡ done next
+    unfolding updated
+    update-done e s l = ap₂ (checked h (within (ltb most (h .total + length piece)))) e s ∙ ap within (le-ltb most (h .total + length piece) l)
