@@ -57,7 +57,7 @@ list-short list e = leb-true (length list) 4096 (and-true (eqb (length list % 8)
 -- ---- answers
 
 -- a check that comes out Done was not refused here, and goes on to Done
-passed : (t : Bool) (x y : Status) → (x ≡ Done → ⊥) → cond t x y ≡ Done → (t ≡ false) × (y ≡ Done)
+pub passed : (t : Bool) (x y : Status) → (x ≡ Done → ⊥) → cond t x y ≡ Done → (t ≡ false) × (y ≡ Done)
 passed true x y n e = absurd (n e)
 passed false x y n e = (refl, e)
 

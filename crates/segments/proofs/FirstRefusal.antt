@@ -59,7 +59,7 @@ tag-refused s o e = miss refusals 0 tt (rw e at o)
 
 -- ---- a row of answers
 
-row-done : (s r : Status) → whenDone s r s ≡ Done → (s ≡ Done) × (r ≡ Done)
+pub row-done : (s r : Status) → whenDone s r s ≡ Done → (s ≡ Done) × (r ≡ Done)
 row-done s r e = ⊎-elim (λ d. (d, rw d at e)) (λ n. absurd (n (sym (kept s r s n) ∙ e))) (done-or s)
 
 -- where every answer is Done, so is the row's

@@ -3,7 +3,7 @@
 use mathlib.Core.Path.{_≡_, refl, sym, ap, ap₂, _∙_}
 use mathlib.Core.Bool.{Bool, true, false, cond}
 use mathlib.Core.List.{List, [], _∷_, _++_, append-assoc, append-nil, flatMap, sum}
-use Prim.Native.Nat.{ℕ, zero, suc, _+_, _≤_, _<_}
+use Prim.Native.Nat.{ℕ, zero, suc, _+_, _-_, _≤_, _<_}
 use native.Mathlib.Nat.{add-assoc}
 use native.Mathlib.Omega.{arith}
 use lib.Dec.{ltb}
@@ -52,6 +52,19 @@ lengths-suc list k = ap (sum _+_ 0) (tab-snoc k (lengthOf list)) ∙ sum-snoc (t
 pub segment-length : (list buffer : List ℕ) (k : ℕ) → endOf list k ≤ length buffer → length (segmentIn list buffer k) ≡ lengthOf list k
 unfolding segmentIn endOf
 segment-length list buffer k h = simp (length-take, length-drop) (omega arith)
+
+-- the first k segments are no longer than those of more entries
+joined-more : (list buffer : List ℕ) (k d : ℕ) → length (joined list buffer k) ≤ length (joined list buffer (k + d))
+joined-more list buffer k zero = let e : k + 0 ≡ k = omega arith in rw e (omega arith)
+joined-more list buffer k (suc d) =
+    let e : k + suc d ≡ suc (k + d) = omega arith in
+    rw e (omega (arith, joined-more list buffer k d, ap length (joined-suc list buffer (k + d)), length-append (joined list buffer (k + d)) (segmentIn list buffer (k + d))))
+
+pub joined-within : (list buffer : List ℕ) (k : ℕ) → k ≤ count list → length (joined list buffer k) ≤ length (messageOf list buffer)
+unfolding messageOf
+joined-within list buffer k h =
+    let e : k + (count list - k) ≡ count list = omega arith in
+    rw e at (joined-more list buffer k (count list - k))
 
 module _ (list buffer : List ℕ) where
   -- the first k entries pass

@@ -1,10 +1,18 @@
-// Lists of segments of a buffer: the check of an entry and the segment that it names.
+// Lists of segments of a buffer: the check of an entry, the segment that it names, and the digest over all of them.
 ghost use mathlib.Core.Path.{_≡_};
-ghost use mathlib.Core.Bool.{true};
+ghost use mathlib.Core.Bool.{true, false};
 ghost use Prim.Native.Nat.{_+_, _<_, _≤_};
 ghost use lib.ListN.{length, take, drop};
-ghost use Rattle.segments.specs.Entries.{bigEndian, offsetOf, lengthOf, endOf, formerEnd, isList, count, entryStatus, segmentStatus, segmentOf, entriesStatus};
+ghost use Rattle.sponge.specs.declared.Status.the-variants.{Done};
+ghost use Rattle.hasher.specs.Running.{most, closed, wellFormed, updated};
+ghost use Rattle.hasher.specs.Reading.{readStatus, readInto};
+ghost use Rattle.segments.specs.Entries.{bigEndian, offsetOf, lengthOf, endOf, formerEnd, isList, count, entryStatus, segmentStatus, segmentOf, entriesStatus, messageOf, totalOf};
+ghost use Rattle.segments.specs.Digests.{listStatus, listInto};
+use hasher::Hasher;
 use sponge::Status;
+
+// The most bytes that a message may have.
+const MOST: u64 = 16777215;
 
 fn wide(b: u8) -> u64
     ensures { λ r. ⌜ (r ≡ b) × (r < 256) ⌝ }
@@ -120,4 +128,85 @@ fn check_all(list: &[u8], buffer: &[u8]) -> Status
         }
     }
     Status::Done
+}
+
+// The bytes that the entries name together.
+fn total_length(list: &[u8]) -> u64
+    requires { ⌜ isList (now list) ≡ true ⌝ }
+    ensures { λ r. ⌜ r ≡ totalOf (now (list .entry)) ⌝ }
+{
+    let n = list.len() / 8;
+    let mut sum: u64 = 0;
+    let mut k = 0;
+    while k < n {
+        sum += length_at(list, k);
+        k += 1;
+    }
+    sum
+}
+
+// Refusals 1, 9, 10, 11, 4, 5, for an output of n bytes.
+fn check_list(variant: u8, list: &[u8], buffer: &[u8], image: bool, n: usize) -> Status
+    ensures { λ r. ⌜ r ≡ listStatus variant (now (list .entry)) (now (buffer .entry)) image n ⌝ }
+{
+    if !sponge::is_known(variant) {
+        return Status::UnknownVariant;
+    }
+    if !is_list(list) {
+        return Status::BadList;
+    }
+    let s = check_all(list, buffer);
+    let Status::Done = s else {
+        return s;
+    };
+    if MOST < total_length(list) {
+        return Status::TooLong;
+    }
+    if n < hasher::result_bytes(variant, image) {
+        return Status::OutputTooShort;
+    }
+    Status::Done
+}
+
+// The running hash after every segment in turn, each read where it lies in the buffer.
+fn update_all(h: Hasher, list: &[u8], buffer: &[u8]) -> Hasher
+    requires { ⌜ (wellFormed h ≡ true) × (closed h ≡ false) ⌝ }
+    requires { ⌜ (isList (now list) ≡ true) × (entriesStatus (now list) (length (now buffer)) ≡ Done) ⌝ }
+    requires { ⌜ h .total + length (messageOf (now list) (now buffer)) ≤ most ⌝ }
+    ensures { λ r. ⌜ r ≡ updated h (messageOf (now (list .entry)) (now (buffer .entry))) .hasher ⌝ }
+{
+    let n = list.len() / 8;
+    let mut g = h;
+    let mut k = 0;
+    while k < n {
+        let u = hasher::update(g, segment(list, buffer, k));
+        g = u.hasher;
+        k += 1;
+    }
+    g
+}
+
+// The digest or, if `image`, the end state.
+fn read_result(h: Hasher, image: bool, out: &mut [u8]) -> Status
+    ensures { λ r. ⌜ (r ≡ readStatus h image (length (now (out .entry)))) × (now (out .exit) ≡ readInto h image (now (out .entry))) ⌝ }
+{
+    if image {
+        return hasher::end_state(h, out);
+    }
+    hasher::digest(h, out)
+}
+
+// The digest over the segments of a list or, if `image`, the end state: refusals 1, 9, 10, 11, 4, 5. A refusal leaves every byte.
+pub fn digest_list(variant: u8, list: &[u8], buffer: &[u8], image: bool, out: &mut [u8]) -> Status
+    ensures { λ r. ⌜ (r ≡ listStatus variant (now (list .entry)) (now (buffer .entry)) image (length (now (out .entry))))
+        × (now (out .exit) ≡ listInto variant (now (list .entry)) (now (buffer .entry)) image (now (out .entry))) ⌝ }
+{
+    let s = check_list(variant, list, buffer, image, out.len());
+    let Status::Done = s else {
+        return s;
+    };
+    let begun = hasher::start(variant);
+    let h = update_all(begun.hasher, list, buffer);
+    let ended = hasher::finish(h);
+    read_result(ended.hasher, image, out)
 }
