@@ -1,13 +1,12 @@
 -- A running hash made of its parts, and one that goes on: it stays well formed, and going on with x and then y is going on with x ++ y.
 -- Assumes nothing.
 use mathlib.Core.Path.{_≡_, refl, sym, ap, ap₂, _∙_, subst}
-use mathlib.Core.Bool.{Bool, true, false, cond}
+use mathlib.Core.Bool.{Bool, false}
 use mathlib.Core.List.{List, [], _∷_, _++_, append-assoc, append-nil}
-use Prim.Native.Nat.{ℕ, _+_, _-_, _*_, _/_, _%_, _≤_, _<_}
+use Prim.Native.Nat.{ℕ, _+_, _-_, _*_, _%_, _≤_, _<_}
 use native.Mathlib.Nat.{mod-add-mod}
 use native.Mathlib.Numerals.{add-one}
 use native.Mathlib.Omega.{arith}
-use lib.Dec.{eqb}
 use lib.ListN.{length, take, getD, length-append}
 use lib.Seq.{length-take-le, take-suc}
 use Rattle.standard.specs.Bits.{high-first, bitsIn, unpack}
@@ -20,10 +19,9 @@ use Rattle.standard.proofs.Variants.{Bounds, bounds, lawful}
 use Rattle.sponge.specs.Layout.{stateBytes, blockBytes}
 use Rattle.sponge.proofs.States.{stored}
 use Rattle.hasher.specs.declared.Hasher.{Hasher}
-use Rattle.hasher.specs.Running.{most, variantOf, closed, heldCount, heldIn, stateOf, wellFormed, holding, grown}
+use Rattle.hasher.specs.Running.{most, variantOf, closed, heldCount, heldIn, stateOf, holding, grown}
 use Rattle.hasher.specs.Sized.{Sized}
-use Rattle.hasher.proofs.Owned.{Owned}
-use Rattle.hasher.proofs.WellFormed.{Facts, facts, well-formed, open-count, count-lt, state-long, held-long, packed-clear, state-kept, held-kept}
+use Rattle.hasher.proofs.WellFormed.{Facts, open-count, count-lt, state-long, held-long, packed-clear}
 
 -- ---- a running hash with the state s and the held bits b
 
@@ -138,18 +136,15 @@ module _ (h : Hasher) (f : Facts h) (z : Sized h) (o : closed h ≡ false) where
   all-rest : restOf (H .r) (heldIn h ++ []) ≡ heldIn h
   all-rest = ap (restOf (H .r)) (append-nil (heldIn h)) ∙ rest-short (H .r) (L .rate-pos) (heldIn h) held-short
 
--- going on with nothing changes nothing
-pub grown-none : (h : Hasher) (f : Facts h) (w : Owned h) (o : closed h ≡ false) → grown h 0 [] ≡ h
+-- going on with nothing changes nothing, where the bytes are those of the state and of the held bits
+pub grown-none : (h : Hasher) (f : Facts h) (z : Sized h) (o : closed h ≡ false)
+    → h .state ≡ stateBytes (variantOf h) (stateOf h) → h .held ≡ blockBytes (heldIn h) → grown h 0 [] ≡ h
 unfolding grown run
-grown-none h f w o =
+grown-none h f z o es eh =
     let H : Variant = variantOf h in
     let t : h .total + 0 ≡ h .total = omega arith in
-    let z = w .sized in
-    let s : stateBytes H (run H (stateOf h) (wholeBlocks (H .r) (heldIn h ++ []))) ≡ h .state =
-    ap (λ (bs : List (List Bool)). stateBytes H (run H (stateOf h) bs)) (no-blocks h f z o) ∙ sym (state-kept h f w) in
-    let b : blockBytes (restOf (H .r) (heldIn h ++ [])) ≡ h .held = ap blockBytes (all-rest h f z o) ∙ sym (held-kept h f w) in
-    ap (λ (n : ℕ). record { variant = h .variant; stage = h .stage; total = n; state = stateBytes H (run H (stateOf h) (wholeBlocks (H .r) (heldIn h ++ []))); held = blockBytes (restOf (H .r) (heldIn h ++ [])) }) t
-    ∙ ap₂ (λ (x y : List ℕ). record { variant = h .variant; stage = h .stage; total = h .total; state = x; held = y }) s b
+    holding-same (h .variant) (h .stage) t (ap (run H (stateOf h)) (no-blocks h f z o)) (all-rest h f z o)
+    ∙ ap₂ (λ (x y : List ℕ). record { variant = h .variant; stage = h .stage; total = h .total; state = x; held = y }) (sym es) (sym eh)
 
 -- ---- byte by byte: the first i bytes of a piece
 

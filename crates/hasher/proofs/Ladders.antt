@@ -1,8 +1,9 @@
 -- What each way through the checks of start, update and finish comes to.
 -- Assumes nothing.
-use mathlib.Core.Path.{_≡_, refl, sym, ap, ap₂, _∙_}
+use mathlib.Core.Path.{_≡_, sym, ap, ap₂, _∙_, subst}
 use mathlib.Core.Bool.{Bool, true, false, cond, not}
 use mathlib.Core.List.{List, []}
+use mathlib.Core.Logic.{⊎-elim}
 use Prim.Native.Nat.{ℕ, _+_, _≤_, _<_}
 use lib.Dec.{ltb}
 use lib.ListN.{length}
@@ -10,9 +11,11 @@ use borrow.Author.Tests.{lt-ltb, le-ltb}
 use Rattle.standard.specs.Bits.{high-first, bitsIn}
 use Rattle.standard.specs.Sponge.{startState, padded, wholeBlocks, run}
 use Rattle.standard.specs.Variants.{variant, known}
+use Rattle.standard.proofs.Tests.{lt-or-le}
 use Rattle.sponge.specs.declared.Status.the-variants.{UnknownVariant, Malformed, WrongStage, TooLong}
 use Rattle.hasher.specs.declared.Hasher.{Hasher}
 use Rattle.hasher.specs.declared.Advanced.{Advanced}
+use Rattle.hasher.proofs.WellFormed.{either}
 use Rattle.hasher.specs.Running.{most, variantOf, closed, heldIn, stateOf, wellFormed, holding, refused, done, nothing, grown, started, updated, finished}
 
 -- ---- start
@@ -68,3 +71,33 @@ module _ (h : Hasher) where
     pub update-done : wellFormed h ≡ true → closed h ≡ false → h .total + length piece ≤ most → updated h piece ≡ done next
     unfolding updated
     update-done e s l = ap₂ (checked h (within (ltb most (h .total + length piece)))) e s ∙ ap within (le-ltb most (h .total + length piece) l)
+
+    -- what holds of each way holds of the answer
+    pub update-ways : (P : Advanced → Type 0)
+        → (wellFormed h ≡ false → P (refused Malformed h))
+        → (wellFormed h ≡ true → closed h ≡ true → P (refused WrongStage h))
+        → (wellFormed h ≡ true → closed h ≡ false → most < h .total + length piece → P (refused TooLong h))
+        → (wellFormed h ≡ true → closed h ≡ false → h .total + length piece ≤ most → P (done next))
+        → P (updated h piece)
+    update-ways P malformed wrong long ready =
+        ⊎-elim
+        (λ e. ⊎-elim
+        (λ s. subst P (sym (update-closed e s)) (wrong e s))
+        (λ s. ⊎-elim
+        (λ l. subst P (sym (update-long e s l)) (long e s l))
+        (λ l. subst P (sym (update-done e s l)) (ready e s l))
+        (lt-or-le most (h .total + length piece)))
+        (either (closed h)))
+        (λ e. subst P (sym (update-malformed e)) (malformed e))
+        (either (wellFormed h))
+
+  pub finish-ways : (P : Advanced → Type 0)
+      → (wellFormed h ≡ false → P (refused Malformed h))
+      → (wellFormed h ≡ true → closed h ≡ true → P (refused WrongStage h))
+      → (wellFormed h ≡ true → closed h ≡ false → P (done last))
+      → P (finished h)
+  finish-ways P malformed wrong ready =
+      ⊎-elim
+      (λ e. ⊎-elim (λ s. subst P (sym (finish-closed e s)) (wrong e s)) (λ s. subst P (sym (finish-done e s)) (ready e s)) (either (closed h)))
+      (λ e. subst P (sym (finish-malformed e)) (malformed e))
+      (either (wellFormed h))

@@ -6,3 +6,7 @@ pub mod OneMore
 pub mod Ladders
 pub mod ReadLaws
 pub mod Message
+pub mod Keeps
+pub mod UpdateAppend
+pub mod PieceByPiece
+pub mod Demand2

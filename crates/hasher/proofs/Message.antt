@@ -1,12 +1,12 @@
 -- The running hash from its start over a message to the end: its state is the message's end state.
 -- Assumes nothing.
-use mathlib.Core.Path.{_≡_, refl, sym, ap, ap₂, _∙_, subst}
+use mathlib.Core.Path.{_≡_, refl, sym, ap, ap₂, _∙_}
 use mathlib.Core.Bool.{Bool, true, false, cond, not, _&&_}
-use mathlib.Core.List.{List, [], _∷_, _++_}
-use Prim.Native.Nat.{ℕ, _+_, _*_, _%_, _≤_, _<_}
+use mathlib.Core.List.{List, [], _++_}
+use Prim.Native.Nat.{ℕ, _+_, _≤_}
 use native.Mathlib.Nat.{zero-add, mod-eq-of-lt}
 use native.Mathlib.Omega.{arith}
-use lib.Dec.{ltb, leb}
+use lib.Dec.{ltb}
 use lib.ListN.{length}
 use borrow.Author.Tests.{le-ltb, le-leb}
 use Rattle.standard.specs.Bits.{high-first, bitsIn}
@@ -18,12 +18,13 @@ use Rattle.standard.proofs.OneBlock.{Lawful, run-append, run-length}
 use Rattle.standard.proofs.Variants.{lawful}
 use Rattle.sponge.specs.declared.Status.{Status}
 use Rattle.sponge.specs.declared.Status.the-variants.{Done, UnknownVariant, Malformed, TooLong, OutputTooShort}
+use Rattle.sponge.specs.Layout.{stateBytes, blockBytes}
 use Rattle.hasher.specs.declared.Hasher.{Hasher}
 use Rattle.hasher.specs.declared.Advanced.{Advanced}
-use Rattle.hasher.specs.Running.{most, variantOf, closed, heldCount, heldIn, stateOf, wellFormed, holding, done, grown, started, updated, finished}
+use Rattle.hasher.specs.Running.{most, closed, heldCount, heldIn, stateOf, wellFormed, holding, done, grown, started, updated, finished}
 use Rattle.hasher.specs.Reading.{resultOf, resultBytes, readStatus, written, readInto, wholeStatus, wholeInto}
 use Rattle.hasher.specs.Sized.{Sized}
-use Rattle.hasher.proofs.WellFormed.{Facts, well-formed, open-count, state-long}
+use Rattle.hasher.proofs.WellFormed.{Facts, well-formed, open-count}
 use Rattle.hasher.proofs.Grown.{holding-sized, state-holding, held-holding, holding-facts, holding-same, grown-state, grown-held, grown-facts, grown-closed}
 use Rattle.hasher.proofs.Ladders.{start-done, update-done, finish-done}
 
@@ -69,6 +70,13 @@ module _ (v : ℕ) (low : 1 ≤ v) (high : v ≤ 10) where
 
   begun-held : heldIn begun ≡ []
   begun-held = held-holding v 0 0 (startState H) [] low high (L .start-length) none-held
+
+  -- its bytes are those of its state and of no held bits
+  pub begun-kept : begun .state ≡ stateBytes H (stateOf begun)
+  begun-kept = ap (stateBytes H) (sym begun-state)
+
+  pub none-kept : begun .held ≡ blockBytes (heldIn begun)
+  none-kept = ap blockBytes (sym begun-held)
 
   -- ---- a message
 

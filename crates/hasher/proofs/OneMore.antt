@@ -7,20 +7,20 @@ use Prim.Native.Nat.{ℕ, _+_, _-_, _*_, _/_, _%_, _≤_, _<_}
 use native.Mathlib.Nat.{one-mul, mod-eq-of-lt}
 use native.Mathlib.Omega.{arith}
 use lib.Arith.{digits-div}
-use lib.ListN.{length, take, drop, replicate, length-append, length-replicate, replicate-append-replicate}
+use lib.ListN.{length, drop, replicate, length-append, length-replicate, replicate-append-replicate}
 use lib.Seq.{take-at, drop-at}
 use Rattle.standard.specs.Bits.{Order, high-first, bitsOf, bitsIn, pack, unpack, cut}
-use Rattle.standard.specs.Sponge.{Variant, order, padded, wholeBlocks, restOf, step, run, stateIn}
+use Rattle.standard.specs.Sponge.{Variant, padded, wholeBlocks, restOf, step, run, stateIn}
 use Rattle.standard.specs.Variants.{variant}
 use Rattle.standard.proofs.BitLaws.{length-bitsOf, length-pack, pack-bytes, pack-none, unpack-pack, image-eq}
 use Rattle.standard.proofs.PutBits.{byte-halves}
 use Rattle.standard.proofs.Streaming.{whole-short, rest-short}
-use Rattle.standard.proofs.OneBlock.{Lawful, run-one}
+use Rattle.standard.proofs.OneBlock.{Lawful}
 use Rattle.standard.proofs.Variants.{Bounds, bounds, lawful}
 use Rattle.sponge.specs.Layout.{stateBytes, blockBytes, blockIn}
 use Rattle.sponge.proofs.LayoutLaws.{packed-bits}
 use Rattle.hasher.specs.declared.Hasher.{Hasher}
-use Rattle.hasher.specs.Running.{most, variantOf, closed, heldCount, heldIn, stateOf, holding, done, grown}
+use Rattle.hasher.specs.Running.{variantOf, heldCount, heldIn, stateOf, holding, done, grown}
 use Rattle.hasher.proofs.Owned.{Owned}
 use Rattle.hasher.proofs.WellFormed.{Facts, count-lt, count-quarters, held-long, state-kept, held-kept}
 

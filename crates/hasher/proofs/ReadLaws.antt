@@ -1,15 +1,15 @@
 -- What each way through the checks of a read and of a whole message comes to, and the result over the front of the output.
 -- Assumes nothing.
-use mathlib.Core.Path.{_≡_, refl, sym, ap, ap₂, _∙_, subst}
+use mathlib.Core.Path.{_≡_, refl, sym, ap, ap₂, _∙_}
 use mathlib.Core.Bool.{Bool, true, false, cond, not}
 use mathlib.Core.List.{List, _++_}
-use Prim.Native.Nat.{ℕ, _+_, _*_, _/_, _%_, _≤_, _<_}
+use Prim.Native.Nat.{ℕ, _+_, _/_, _≤_, _<_}
 use native.Mathlib.Omega.{arith}
 use lib.Dec.{ltb}
 use lib.ListN.{length, take, drop}
 use borrow.Author.Tests.{lt-ltb, le-ltb}
 use Rattle.standard.specs.Bits.{high-first, pack}
-use Rattle.standard.specs.Sponge.{Variant, order, endState, squeezed, imageBytes, imageOf, stateIn}
+use Rattle.standard.specs.Sponge.{Variant, order, endState, squeezed, imageBytes, imageOf}
 use Rattle.standard.specs.Variants.{variant, known}
 use Rattle.standard.proofs.BitLaws.{length-pack, take-pack}
 use Rattle.standard.proofs.Variants.{Bounds, bounds}
@@ -149,9 +149,3 @@ module _ (v : ℕ) (m : List ℕ) (image : Bool) (out : List ℕ) where
       whole-short l =
           whole-leaves OutputTooShort out
           (ap₂ (λ (a b : Bool). whole-ladder a b (ltb (length out) whole-size)) k (le-ltb most (length m) few) ∙ ap (whole-ladder true false) (lt-ltb (length out) whole-size l)) refl
-
-      pub whole-done : whole-size ≤ length out → (after : List ℕ) → after ≡ whole-result ++ drop (length whole-result) out → Whole v m image out Done after
-      unfolding wholeStatus
-      whole-done l after a =
-          whole-leaves Done after
-          (ap₂ (λ (a b : Bool). whole-ladder a b (ltb (length out) whole-size)) k (le-ltb most (length m) few) ∙ ap (whole-ladder true false) (le-ltb (length out) whole-size l)) a

@@ -2,17 +2,17 @@
 -- Assumes nothing.
 use mathlib.Core.Path.{_≡_, refl, sym, ap, ap₂, _∙_, subst}
 use mathlib.Core.Bool.{Bool, true, false, cond, _&&_, false≢true}
-use mathlib.Core.List.{List, [], _++_}
+use mathlib.Core.List.{List, _++_}
 use mathlib.Core.Logic.{_⊎_, inl, inr, ⊎-elim}
-use Prim.Native.Nat.{ℕ, _+_, _-_, _*_, _/_, _%_, _≤_, _<_}
+use Prim.Native.Nat.{ℕ, _+_, _-_, _*_, _%_, _≤_, _<_}
 use native.Mathlib.Nat.{mod-lt, dvd-mod-iff, dvd-of-mod-eq-zero, mod-eq-zero-of-dvd}
 use native.Mathlib.Omega.{arith}
-use lib.Dec.{eqb, leb}
+use lib.Dec.{leb}
 use lib.ListN.{length, take, drop, getD, replicate, length-drop, take-append-drop}
 use lib.Seq.{drop-at}
 use borrow.Author.Tests.{leb-true, le-leb, lt-leb}
 use Rattle.standard.specs.Bits.{Order, high-first, bitsIn, pack, unpack}
-use Rattle.standard.specs.Sponge.{Variant, order, stateIn}
+use Rattle.standard.specs.Sponge.{order, stateIn}
 use Rattle.standard.specs.Variants.{variant, known}
 use Rattle.standard.proofs.Tests.{lt-or-le}
 use Rattle.standard.proofs.BitLaws.{length-bitsIn, length-unpack, image-eq}
@@ -76,7 +76,7 @@ pub open-count : (h : Hasher) → closed h ≡ false → heldCount h ≡ 8 * h .
 unfolding heldCount
 open-count h e = ap (λ (b : Bool). cond b 0 (8 * h .total % variantOf h .r)) e
 
-either : (b : Bool) → (b ≡ true) ⊎ (b ≡ false)
+pub either : (b : Bool) → (b ≡ true) ⊎ (b ≡ false)
 either true = inl refl
 either false = inr refl
 

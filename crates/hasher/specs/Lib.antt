@@ -1,4 +1,5 @@
--- The definitions that the contracts of this crate cite.
+-- The definitions that the contracts and the theorems of this crate cite.
 pub mod Running
 pub mod Reading
 pub mod Sized
+pub mod Pieces

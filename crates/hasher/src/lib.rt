@@ -2,10 +2,10 @@
 ghost use mathlib.Core.Path.{_≡_};
 ghost use mathlib.Core.Bool.{true, false};
 ghost use mathlib.Core.List.{[], _∷_, _++_};
-ghost use Prim.Native.Nat.{ℕ, _+_, _-_, _*_, _/_, _%_, _≤_, _<_};
-ghost use lib.ListN.{length, take, drop};
-ghost use Rattle.standard.specs.Bits.{high-first, bitsOf, bitsIn, pack, unpack};
-ghost use Rattle.standard.specs.Sponge.{startState, endState, squeezed, stateIn};
+ghost use Prim.Native.Nat.{_+_, _/_, _%_, _≤_, _<_};
+ghost use lib.ListN.{length, drop};
+ghost use Rattle.standard.specs.Bits.{high-first, bitsOf, bitsIn, unpack};
+ghost use Rattle.standard.specs.Sponge.{stateIn};
 ghost use Rattle.standard.specs.Variants.{variant};
 ghost use Rattle.sponge.specs.Layout.{stateBytes, blockBytes};
 ghost use Rattle.hasher.specs.Running.{most, closed, heldCount, wellFormed, grown, started, updated, finished};

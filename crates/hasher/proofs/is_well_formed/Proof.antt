@@ -1,5 +1,5 @@
 -- `hasher::is_well_formed` meets its contract: the tests one by one. Assumes nothing.
-use mathlib.Core.Path.{_≡_, sym, ap, ap₂, _∙_}
+use mathlib.Core.Path.{sym, ap, ap₂, _∙_}
 use mathlib.Core.Bool.{Bool, _&&_}
 use Prim.Native.Nat.{ℕ, _%_}
 use lib.ListN.{drop}

@@ -1,5 +1,5 @@
 -- `hasher::push` meets its contract: the byte fits behind the held bits, fills the block, or passes its end by half. Assumes nothing.
-use mathlib.Core.Path.{_≡_, ap, _∙_}
+use mathlib.Core.Path.{ap, _∙_}
 use Prim.Native.Nat.{ℕ, _%_, _+_, _<_}
 use native.Mathlib.Omega.{arith}
 use borrow.Author.Needs.{needs}

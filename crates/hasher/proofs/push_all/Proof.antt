@@ -1,16 +1,15 @@
 -- `hasher::push_all` meets its contract. The loop's invariant: the running hash has gone on with the first i bytes of the piece. Assumes nothing.
-use mathlib.Core.Path.{_≡_, sym, ap, _∙_, subst}
-use Prim.Native.Nat.{ℕ, _+_, _-_, _≤_, _<_}
+use mathlib.Core.Path.{_≡_, sym, ap, _∙_}
+use Prim.Native.Nat.{ℕ, _-_, _≤_, _<_}
 use native.Mathlib.Omega.{arith}
 use lib.ListN.{length, take, getD}
 use lib.Seq.{take-all}
 use mathlib.Core.List.{List, [], _∷_}
-use mathlib.Core.Bool.{false}
 use Rattle.standard.specs.Bits.{high-first, bitsIn}
 use Rattle.hasher.specs.declared.Hasher.{Hasher}
-use Rattle.hasher.specs.Running.{most, closed, wellFormed, grown}
+use Rattle.hasher.specs.Running.{closed, wellFormed, grown}
 use Rattle.hasher.proofs.Owned.{owned}
-use Rattle.hasher.proofs.WellFormed.{facts, well-formed}
+use Rattle.hasher.proofs.WellFormed.{facts, well-formed, state-kept, held-kept}
 use Rattle.hasher.proofs.Grown.{grown-none, grown-total, grown-closed, first-facts, first-more}
 use Rattle.hasher.proofs.push_all.Statement.{statement}
 use Rattle.hasher.proofs.push_all.Tie as tie
@@ -25,7 +24,9 @@ loop-holds : tie.Need-loop-holds Inv-loop μ-loop
 unfolding bitsIn
 loop-holds c =
     let h = c .before .args .h in
-    (omega arith, sym (grown-none h (facts h (c .before .pre .0 .0)) (owned h _ (c .before .good .0)) (c .before .pre .0 .1)))
+    let f = facts h (c .before .pre .0 .0) in
+    let w = owned h _ (c .before .good .0) in
+    (omega arith, sym (grown-none h f (w .sized) (c .before .pre .0 .1) (state-kept h f w) (held-kept h f w)))
 
 shared-slice-read-push : tie.Need-shared-slice-read-push Inv-loop μ-loop
 shared-slice-read-push c = omega arith

@@ -1,5 +1,5 @@
 -- `hasher::result_bytes` meets its contract. Assumes nothing.
-use mathlib.Core.Path.{_≡_, sym, _∙_}
+use mathlib.Core.Path.{sym, _∙_}
 use borrow.Author.Needs.{needs}
 use Rattle.standard.specs.Variants.{variant}
 use Rattle.hasher.proofs.ReadLaws.{image-size, digest-size}

@@ -1,5 +1,4 @@
 -- `hasher::write_result` meets its contract: the front of the state's bytes, or of the digest's. Assumes nothing.
-use mathlib.Core.Path.{_≡_, sym, _∙_}
 use native.Mathlib.Omega.{arith}
 use borrow.Author.Needs.{needs}
 use Rattle.standard.specs.Sponge.{stateIn}
