@@ -26,12 +26,12 @@ entries-done list n e = every-done (count list) (entryStatus list n) e
 -- ---- joined segments, and the sum of their lengths
 
 -- the message of the first k entries
-abbrev pub joined : List ℕ → List ℕ → ℕ → List ℕ
-joined list buffer k = flatMap (λ s. s) (tab k (segmentIn list buffer))
+abbrev pub messageUpTo : List ℕ → List ℕ → ℕ → List ℕ
+messageUpTo list buffer k = flatMap (λ s. s) (tab k (segmentIn list buffer))
 
 -- the sum of their lengths
-abbrev pub lengths : List ℕ → ℕ → ℕ
-lengths list k = sum _+_ 0 (tab k (lengthOf list))
+abbrev pub totalUpTo : List ℕ → ℕ → ℕ
+totalUpTo list k = sum _+_ 0 (tab k (lengthOf list))
 
 flat-snoc : (xs : List (List ℕ)) (x : List ℕ) → flatMap (λ s. s) (xs ++ (x ∷ [])) ≡ flatMap (λ s. s) xs ++ x
 unfolding flatMap
@@ -43,28 +43,28 @@ unfolding sum
 sum-snoc [] x = omega arith
 sum-snoc (y ∷ xs) x = ap (λ (r : ℕ). y + r) (sum-snoc xs x) ∙ sym (add-assoc y (sum _+_ 0 xs) x)
 
-pub joined-suc : (list buffer : List ℕ) (k : ℕ) → joined list buffer (suc k) ≡ joined list buffer k ++ segmentIn list buffer k
-joined-suc list buffer k = ap (flatMap (λ s. s)) (tab-snoc k (segmentIn list buffer)) ∙ flat-snoc (tab k (segmentIn list buffer)) (segmentIn list buffer k)
+pub message-suc : (list buffer : List ℕ) (k : ℕ) → messageUpTo list buffer (suc k) ≡ messageUpTo list buffer k ++ segmentIn list buffer k
+message-suc list buffer k = ap (flatMap (λ s. s)) (tab-snoc k (segmentIn list buffer)) ∙ flat-snoc (tab k (segmentIn list buffer)) (segmentIn list buffer k)
 
-pub lengths-suc : (list : List ℕ) (k : ℕ) → lengths list (suc k) ≡ lengths list k + lengthOf list k
-lengths-suc list k = ap (sum _+_ 0) (tab-snoc k (lengthOf list)) ∙ sum-snoc (tab k (lengthOf list)) (lengthOf list k)
+pub total-suc : (list : List ℕ) (k : ℕ) → totalUpTo list (suc k) ≡ totalUpTo list k + lengthOf list k
+total-suc list k = ap (sum _+_ 0) (tab-snoc k (lengthOf list)) ∙ sum-snoc (tab k (lengthOf list)) (lengthOf list k)
 
 pub segment-length : (list buffer : List ℕ) (k : ℕ) → endOf list k ≤ length buffer → length (segmentIn list buffer k) ≡ lengthOf list k
 unfolding segmentIn endOf
 segment-length list buffer k h = simp (length-take, length-drop) (omega arith)
 
 -- the first k segments are no longer than those of more entries
-joined-more : (list buffer : List ℕ) (k d : ℕ) → length (joined list buffer k) ≤ length (joined list buffer (k + d))
-joined-more list buffer k zero = let e : k + 0 ≡ k = omega arith in rw e (omega arith)
-joined-more list buffer k (suc d) =
+message-more : (list buffer : List ℕ) (k d : ℕ) → length (messageUpTo list buffer k) ≤ length (messageUpTo list buffer (k + d))
+message-more list buffer k zero = let e : k + 0 ≡ k = omega arith in rw e (omega arith)
+message-more list buffer k (suc d) =
     let e : k + suc d ≡ suc (k + d) = omega arith in
-    rw e (omega (arith, joined-more list buffer k d, ap length (joined-suc list buffer (k + d)), length-append (joined list buffer (k + d)) (segmentIn list buffer (k + d))))
+    rw e (omega (arith, message-more list buffer k d, ap length (message-suc list buffer (k + d)), length-append (messageUpTo list buffer (k + d)) (segmentIn list buffer (k + d))))
 
-pub joined-within : (list buffer : List ℕ) (k : ℕ) → k ≤ count list → length (joined list buffer k) ≤ length (messageOf list buffer)
+pub message-up-to-within : (list buffer : List ℕ) (k : ℕ) → k ≤ count list → length (messageUpTo list buffer k) ≤ length (messageOf list buffer)
 unfolding messageOf
-joined-within list buffer k h =
+message-up-to-within list buffer k h =
     let e : k + (count list - k) ≡ count list = omega arith in
-    rw e at (joined-more list buffer k (count list - k))
+    rw e at (message-more list buffer k (count list - k))
 
 module _ (list buffer : List ℕ) where
   -- the first k entries pass
@@ -77,36 +77,36 @@ module _ (list buffer : List ℕ) where
   fits : (k : ℕ) → Passed (suc k) → Fits list (length buffer) k
   fits k p = entry-fits list (length buffer) k (p k (omega arith))
 
-  pub joined-length : (k : ℕ) → Passed k → length (joined list buffer k) ≡ lengths list k
+  pub message-up-to-length : (k : ℕ) → Passed k → length (messageUpTo list buffer k) ≡ totalUpTo list k
   unfolding flatMap sum
-  joined-length zero p = refl
-  joined-length (suc k) p =
-      ap length (joined-suc list buffer k)
-      ∙ length-append (joined list buffer k) (segmentIn list buffer k)
-      ∙ ap₂ (λ (a b : ℕ). a + b) (joined-length k (fewer k p)) (segment-length list buffer k (fits k p .within))
-      ∙ sym (lengths-suc list k)
+  message-up-to-length zero p = refl
+  message-up-to-length (suc k) p =
+      ap length (message-suc list buffer k)
+      ∙ length-append (messageUpTo list buffer k) (segmentIn list buffer k)
+      ∙ ap₂ (λ (a b : ℕ). a + b) (message-up-to-length k (fewer k p)) (segment-length list buffer k (fits k p .within))
+      ∙ sym (total-suc list k)
 
   former-within : (k : ℕ) → Passed k → formerEnd list k ≤ length buffer
   unfolding formerEnd
   former-within zero p = omega arith
   former-within (suc k) p = fits k p .within
 
-  lengths-former : (k : ℕ) → Passed k → lengths list k ≤ formerEnd list k
+  total-former : (k : ℕ) → Passed k → totalUpTo list k ≤ formerEnd list k
   unfolding formerEnd endOf sum
-  lengths-former zero p = omega arith
-  lengths-former (suc k) p = omega (arith, lengths-suc list k, lengths-former k (fewer k p), fits k p .ordered)
+  total-former zero p = omega arith
+  total-former (suc k) p = omega (arith, total-suc list k, total-former k (fewer k p), fits k p .ordered)
 
   -- The message of an accepted list has as many bytes as its entries name together.
   pub message-length : entriesStatus list (length buffer) ≡ Done → length (messageOf list buffer) ≡ totalOf list
   unfolding messageOf totalOf
-  message-length e = joined-length (count list) (entries-done list (length buffer) e)
+  message-length e = message-up-to-length (count list) (entries-done list (length buffer) e)
 
   -- It never has more bytes than the buffer.
   pub message-within : entriesStatus list (length buffer) ≡ Done → length (messageOf list buffer) ≤ length buffer
   unfolding totalOf
   message-within e =
       let p = entries-done list (length buffer) e in
-      omega (arith, message-length e, lengths-former (count list) p, former-within (count list) p)
+      omega (arith, message-length e, total-former (count list) p, former-within (count list) p)
 
 -- ---- the list's check and that of its entries
 

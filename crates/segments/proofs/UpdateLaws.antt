@@ -1,58 +1,58 @@
 -- Updates with the segments of a list in turn: together they are one update with its message.
 -- Assumes nothing.
-use mathlib.Core.Path.{_≡_, refl, sym, ap, ap₂, _∙_}
+use mathlib.Core.Path.{_≡_, refl, sym, ap, _∙_}
 use mathlib.Core.Bool.{true, false}
 use mathlib.Core.List.{List, [], _++_, flatMap}
-use Prim.Native.Nat.{ℕ, suc, _+_, _≤_, _<_}
+use Prim.Native.Nat.{ℕ, _+_, _≤_, _<_}
 use native.Mathlib.Numerals.{add-one}
 use native.Mathlib.Omega.{arith}
 use lib.ListN.{length, length-append}
-use Rattle.standard.specs.Bits.{high-first, bitsIn}
-use Rattle.standard.proofs.BitLaws.{length-bitsIn, bitsIn-append}
+use Rattle.standard.specs.Bits.{bitsIn}
 use Rattle.sponge.specs.declared.Status.{Status}
 use Rattle.sponge.specs.declared.Status.the-variants.{Done}
 use Rattle.sponge.specs.Refusals.{whenDone}
 use Rattle.hasher.specs.declared.Hasher.{Hasher}
 use Rattle.hasher.specs.declared.Advanced.{Advanced}
-use Rattle.hasher.specs.Running.{most, closed, grown, updated}
-use Rattle.hasher.specs.Sized.{Sized}
-use Rattle.hasher.proofs.WellFormed.{Facts, well-formed}
-use Rattle.hasher.proofs.Grown.{grown-total, grown-closed, grown-facts, grown-grown}
+use Rattle.hasher.specs.Running.{most, closed, wellFormed, updated}
+use Rattle.hasher.proofs.Owned.{Owned}
+use Rattle.hasher.proofs.WellFormed.{facts, state-kept, held-kept}
+use Rattle.hasher.proofs.Grown.{grown-none}
 use Rattle.hasher.proofs.Ladders.{update-done}
+use Rattle.hasher.proofs.UpdateAppend.{update-append}
 use Rattle.segments.specs.Entries.{isList, count, segmentIn, segmentStatus, segmentOf, entriesStatus, messageOf}
-use Rattle.segments.proofs.ListLaws.{joined, joined-suc, joined-within, passed-entries}
+use Rattle.segments.proofs.ListLaws.{messageUpTo, message-suc, message-up-to-within, passed-entries}
 
--- a running hash that has taken the bytes m
-abbrev pub after : Hasher → List ℕ → Hasher
-after h m = grown h (length m) (bitsIn high-first m)
+module _ (h : Hasher) (w : Owned h) (e : wellFormed h ≡ true) (o : closed h ≡ false) where
+  update-is-done : (m : List ℕ) → h .total + length m ≤ most → updated h m .status ≡ Done
+  update-is-done m few = ap (λ (a : Advanced). a .status) (update-done h m e o few)
 
-module _ (h : Hasher) (f : Facts h) (z : Sized h) (o : closed h ≡ false) where
-  after-more : (m s : List ℕ) → h .total + length (m ++ s) ≤ most → updated (after h m) s .hasher ≡ after h (m ++ s)
-  after-more m s few =
-      let l = length-bitsIn high-first m in
-      ap (λ (a : Advanced). a .hasher)
-      (update-done (after h m) s (well-formed _ (grown-facts h f z o (length m) (bitsIn high-first m) l (omega (arith, length-append m s))))
-      (grown-closed h (length m) (bitsIn high-first m) o)
-      (omega (arith, grown-total h (length m) (bitsIn high-first m), length-append m s)))
-      ∙ grown-grown h f z o (length m) (bitsIn high-first m) l (length s) (bitsIn high-first s)
-      ∙ ap₂ (grown h) (sym (length-append m s)) (sym (bitsIn-append high-first m s))
+  -- an update with m, and then one with s
+  update-twice : (m s : List ℕ) → h .total + length (m ++ s) ≤ most → updated (updated h m .hasher) s ≡ updated h (m ++ s)
+  update-twice m s few =
+      sym (ap (λ (t : Status). whenDone t (updated (updated h m .hasher) s) (updated h m)) (update-is-done m (omega (arith, length-append m s))))
+      ∙ update-append h (w .sized) m s (update-is-done (m ++ s) few)
 
-  module _ (list buffer : List ℕ) (whole : isList list ≡ true) (e : entriesStatus list (length buffer) ≡ Done)
+  module _ (list buffer : List ℕ) (whole : isList list ≡ true) (all-fit : entriesStatus list (length buffer) ≡ Done)
       (few : h .total + length (messageOf list buffer) ≤ most) where
+    -- the running hash after the first k segments
+    abbrev pub after : ℕ → Hasher
+    after k = updated h (messageUpTo list buffer k) .hasher
+
+    pub no-segment : h ≡ after 0
+    unfolding flatMap bitsIn
+    no-segment =
+        sym (ap (λ (a : Advanced). a .hasher) (update-done h [] e o (omega arith))
+        ∙ grown-none h (facts h e) (w .sized) o (state-kept h (facts h e) w) (held-kept h (facts h e) w))
+
     -- the segment of an entry of a list that passes
     segment-there : (k : ℕ) → k < count list → segmentOf list buffer k ≡ segmentIn list buffer k
     unfolding segmentOf
-    segment-there k l = ap (λ (s : Status). whenDone s (segmentIn list buffer k) []) (passed-entries list (length buffer) whole e k l)
+    segment-there k l = ap (λ (s : Status). whenDone s (segmentIn list buffer k) []) (passed-entries list (length buffer) whole all-fit k l)
 
-    -- one segment more
-    pub next-segment : (k : ℕ) → k < count list → updated (after h (joined list buffer k)) (segmentOf list buffer k) .hasher ≡ after h (joined list buffer (k + 1))
+    pub next-segment : (k : ℕ) → k < count list → updated (after k) (segmentOf list buffer k) .hasher ≡ after (k + 1)
     next-segment k l =
-        let j : joined list buffer (k + 1) ≡ joined list buffer k ++ segmentIn list buffer k = ap (joined list buffer) (add-one k) ∙ joined-suc list buffer k in
-        ap (λ (s : List ℕ). updated (after h (joined list buffer k)) s .hasher) (segment-there k l)
-        ∙ after-more (joined list buffer k) (segmentIn list buffer k) (omega (arith, ap length j, joined-within list buffer (k + 1) (omega arith)))
-        ∙ ap (after h) (sym j)
-
-    -- all of them
-    pub all-segments : updated h (messageOf list buffer) .hasher ≡ after h (joined list buffer (count list))
-    unfolding messageOf
-    all-segments = ap (λ (a : Advanced). a .hasher) (update-done h (messageOf list buffer) (well-formed h f) o few)
+        let j : messageUpTo list buffer (k + 1) ≡ messageUpTo list buffer k ++ segmentIn list buffer k = ap (messageUpTo list buffer) (add-one k) ∙ message-suc list buffer k in
+        ap (λ (a : Advanced). a .hasher)
+        (ap (updated (after k)) (segment-there k l)
+        ∙ update-twice (messageUpTo list buffer k) (segmentIn list buffer k) (omega (arith, ap length j, message-up-to-within list buffer (k + 1) (omega arith)))
+        ∙ ap (updated h) (sym j))

@@ -5,13 +5,13 @@ use Prim.Native.Nat.{ℕ, _+_, _*_, _-_, _≤_}
 use native.Mathlib.Omega.{arith}
 use native.Mathlib.Numerals.{add-one}
 use Rattle.segments.specs.Entries.{count, totalOf}
-use Rattle.segments.proofs.ListLaws.{lengths, lengths-suc}
+use Rattle.segments.proofs.ListLaws.{totalUpTo, total-suc}
 use Rattle.segments.proofs.EntryLaws.{list-short}
 use Rattle.segments.proofs.total_length.Statement.{statement}
 use Rattle.segments.proofs.total_length.Tie as tie
 
 abbrev Inv-loop : tie.InvT-loop
-Inv-loop list n sum₀ k₀ sum k = (k ≤ n) × (sum ≡ lengths list k) × (sum ≤ k * 4294967295)
+Inv-loop list n sum₀ k₀ sum k = (k ≤ n) × (sum ≡ totalUpTo list k) × (sum ≤ k * 4294967295)
 
 abbrev μ-loop : tie.MeasureT-loop
 μ-loop list n sum₀ k₀ sum k = n - k
@@ -36,14 +36,14 @@ loop-again : tie.Need-loop-again Inv-loop μ-loop
 loop-again c =
     let list = c .before .before .before .before .args .list .now in
     let k = c .before .before .loop .k in
-    (omega arith, ap₂ (λ (a b : ℕ). a + b) (c .before .before .loop .inv .1) (c .length-at .ensures .0) ∙ sym (lengths-suc list k) ∙ ap (lengths list) (sym (add-one k)), omega (arith, c .length-at .ensures .1))
+    (omega arith, ap₂ (λ (a b : ℕ). a + b) (c .before .before .loop .inv .1) (c .length-at .ensures .0) ∙ sym (total-suc list k) ∙ ap (totalUpTo list) (sym (add-one k)), omega (arith, c .length-at .ensures .1))
 
 returns : tie.Need-returns Inv-loop μ-loop
 unfolding totalOf
 returns c =
     let list = c .before .before .before .args .list .now in
     let e : c .before .loop .k ≡ count list = omega arith in
-    c .before .loop .inv .1 ∙ ap (lengths list) e
+    c .before .loop .inv .1 ∙ ap (totalUpTo list) e
 
 pub total-length-spec : {M : Type 1} → statement M
 total-length-spec =
