@@ -3,7 +3,7 @@
 use mathlib.Core.Path.{_≡_, refl, sym, ap, ap₂, _∙_}
 use mathlib.Core.Bool.{Bool, true, false, cond, not}
 use mathlib.Core.List.{List}
-use Prim.Native.Nat.{ℕ, _+_, _≤_, _<_}
+use Prim.Native.Nat.{ℕ, _≤_, _<_}
 use native.Mathlib.Omega.{arith}
 use lib.Dec.{ltb}
 use lib.ListN.{length}
@@ -23,8 +23,7 @@ use Rattle.hasher.proofs.Ladders.{start-done}
 use Rattle.hasher.proofs.Message.{begun-facts, all-calls, ended-status, ended-into}
 use Rattle.segments.specs.Entries.{isList, entriesStatus, messageOf, totalOf}
 use Rattle.segments.specs.Digests.{listStatus, listInto}
-use Rattle.segments.proofs.FirstRefusal.{not-done, kept, row-done}
-use Rattle.segments.proofs.EntryLaws.{passed}
+use Rattle.segments.proofs.Answers.{not-done, kept, passed, row-done}
 use Rattle.segments.proofs.ListLaws.{message-length}
 
 -- ---- the checks in order

@@ -1,19 +1,19 @@
 -- What the bytes of an entry stand for, and what an answer of its check says.
 -- Assumes nothing.
-use mathlib.Core.Path.{_≡_, refl, sym, ap, ap₂, _∙_}
-use mathlib.Core.Bool.{Bool, true, false, cond, not, _&&_}
-use mathlib.Core.List.{List, [], _∷_}
-use Prim.Native.Nat.{ℕ, zero, suc, _+_, _-_, _*_, _/_, _%_, _≤_, _<_}
+use mathlib.Core.Path.{_≡_, refl, sym, ap, _∙_}
+use mathlib.Core.Bool.{true, not}
+use mathlib.Core.List.{List, _∷_}
+use Prim.Native.Nat.{ℕ, zero, suc, _+_, _-_, _*_, _%_, _≤_, _<_}
 use native.Mathlib.Numerals.{add-one}
 use native.Mathlib.Omega.{arith}
 use lib.Dec.{eqb, ltb, leb}
 use lib.ListN.{length, take, drop, getD}
 use lib.Seq.{drop-cons}
-use borrow.Author.Tests.{ltb-true, ltb-false, leb-true, eqb-true, not-true, not-false, lt-ltb}
-use Rattle.sponge.specs.declared.Status.{Status}
+use borrow.Author.Tests.{ltb-true, ltb-false, leb-true, not-false, lt-ltb}
 use Rattle.sponge.specs.declared.Status.the-variants.{Done, OutOfRange, BadList, Misordered, PastEnd}
-use Rattle.segments.specs.Entries.{bigEndian, offsetOf, lengthOf, endOf, formerEnd, isList, count, entryStatus, segmentStatus}
-use Rattle.segments.proofs.FirstRefusal.{not-done}
+use Rattle.hasher.proofs.WellFormed.{and-right}
+use Rattle.segments.specs.Entries.{bigEndian, offsetOf, endOf, formerEnd, isList, count, entryStatus, segmentStatus}
+use Rattle.segments.proofs.Answers.{not-done, passed}
 
 -- ---- the numbers of an entry
 
@@ -46,20 +46,11 @@ former-behind list (suc k) n = ap (endOf list) (omega arith)
 
 -- ---- lists of whole entries
 
-and-true : (a b : Bool) → (a && b) ≡ true → (a ≡ true) × (b ≡ true)
-and-true true b e = (refl, e)
-and-true false b e = let z : _≡_ {A = Bool} true false = sym e in (cc, cc)
-
 pub list-short : (list : List ℕ) → isList list ≡ true → length list ≤ 4096
 unfolding isList
-list-short list e = leb-true (length list) 4096 (and-true (eqb (length list % 8) 0) (leb (length list) 4096) e .1)
+list-short list e = leb-true (length list) 4096 (and-right (eqb (length list % 8) 0) (leb (length list) 4096) e)
 
 -- ---- answers
-
--- a check that comes out Done was not refused here, and goes on to Done
-pub passed : (t : Bool) (x y : Status) → (x ≡ Done → ⊥) → cond t x y ≡ Done → (t ≡ false) × (y ≡ Done)
-passed true x y n e = absurd (n e)
-passed false x y n e = (refl, e)
 
 -- an entry that is not refused begins where the former ends or later, and ends within the buffer
 pub record Fits (list : List ℕ) (n k : ℕ) : Type 0 where

@@ -12,10 +12,11 @@ use Rattle.standard.specs.Grid.{tab}
 use Rattle.standard.proofs.Tab.{tab-snoc}
 use Rattle.sponge.specs.declared.Status.{Status}
 use Rattle.sponge.specs.declared.Status.the-variants.{Done, Misordered, PastEnd}
-use Rattle.sponge.specs.Refusals.{number, entry}
-use Rattle.segments.specs.Entries.{offsetOf, lengthOf, endOf, formerEnd, isList, count, segmentIn, entryStatus, segmentStatus, firstOf, entriesStatus, StopsAt, messageOf, totalOf}
-use Rattle.segments.proofs.FirstRefusal.{not-done, every-done, first-done, first-at, First, first-of}
-use Rattle.segments.proofs.EntryLaws.{Fits, entry-fits, Checked, segment-checked, segment-entry}
+use Rattle.sponge.specs.Refusals.{entry}
+use Rattle.segments.specs.Entries.{offsetOf, lengthOf, endOf, formerEnd, isList, count, segmentIn, entryStatus, segmentStatus, entriesStatus, StopsAt, messageOf, totalOf}
+use Rattle.segments.proofs.Answers.{not-done}
+use Rattle.segments.proofs.FirstRefusal.{every-done, first-done, first-at, First, first-of}
+use Rattle.segments.proofs.EntryLaws.{Fits, entry-fits, segment-checked, segment-entry}
 
 -- ---- the entries of a list that passes
 

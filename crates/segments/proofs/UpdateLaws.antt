@@ -1,6 +1,6 @@
 -- Updates with the segments of a list in turn: together they are one update with its message.
 -- Assumes nothing.
-use mathlib.Core.Path.{_≡_, refl, sym, ap, _∙_}
+use mathlib.Core.Path.{_≡_, sym, ap, _∙_}
 use mathlib.Core.Bool.{true, false}
 use mathlib.Core.List.{List, [], _++_, flatMap}
 use Prim.Native.Nat.{ℕ, _+_, _≤_, _<_}
@@ -19,7 +19,7 @@ use Rattle.hasher.proofs.WellFormed.{facts, state-kept, held-kept}
 use Rattle.hasher.proofs.Grown.{grown-none}
 use Rattle.hasher.proofs.Ladders.{update-done}
 use Rattle.hasher.proofs.UpdateAppend.{update-append}
-use Rattle.segments.specs.Entries.{isList, count, segmentIn, segmentStatus, segmentOf, entriesStatus, messageOf}
+use Rattle.segments.specs.Entries.{isList, count, segmentIn, segmentOf, entriesStatus, messageOf}
 use Rattle.segments.proofs.ListLaws.{messageUpTo, message-suc, message-up-to-within, passed-entries}
 
 module _ (h : Hasher) (w : Owned h) (e : wellFormed h ≡ true) (o : closed h ≡ false) where

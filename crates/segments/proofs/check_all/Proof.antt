@@ -7,7 +7,8 @@ use borrow.Author.Count.{below-none, below-more}
 use borrow.Author.Needs.{needs}
 use Rattle.sponge.specs.declared.Status.the-variants.{Done}
 use Rattle.segments.specs.Entries.{count, entryStatus, entriesStatus}
-use Rattle.segments.proofs.FirstRefusal.{first-at, first-done, tag-refused}
+use Rattle.segments.proofs.FirstRefusal.{first-at, first-done}
+use Rattle.segments.proofs.Answers.{tag-refused}
 use Rattle.segments.proofs.check_all.Statement.{statement}
 use Rattle.segments.proofs.check_all.Tie as tie
 

@@ -5,7 +5,7 @@ use native.Mathlib.Omega.{arith}
 use lib.ListN.{length}
 use borrow.Author.Needs.{needs}
 use Rattle.segments.specs.Entries.{segmentOf, segmentIn, endOf, lengthOf}
-use Rattle.segments.proofs.FirstRefusal.{tag-refused, kept}
+use Rattle.segments.proofs.Answers.{tag-refused, kept}
 use Rattle.segments.proofs.EntryLaws.{segment-checked, entry-fits}
 use Rattle.segments.proofs.segment.Statement.{statement}
 use Rattle.segments.proofs.segment.Tie as tie
@@ -19,12 +19,12 @@ enum-told c = search needs
 offset-at-requires : tie.Need-offset-at-requires
 offset-at-requires c κs =
     let s = c .before .before .before .before .before .args in
-    segment-checked (s .list .now) (length (s .buffer .now)) (s .k) (sym (c .before .before .check .ensures) ∙ c .enum-told .given .1) .there
+    omega (arith, segment-checked (s .list .now) (length (s .buffer .now)) (s .k) (sym (c .before .before .check .ensures) ∙ c .enum-told .given .1) .there)
 
 end-at-requires : tie.Need-end-at-requires
 end-at-requires c κs =
     let s = c .before .before .before .before .before .before .args in
-    segment-checked (s .list .now) (length (s .buffer .now)) (s .k) (sym (c .before .before .before .check .ensures) ∙ c .before .enum-told .given .1) .there
+    omega (arith, segment-checked (s .list .now) (length (s .buffer .now)) (s .k) (sym (c .before .before .before .check .ensures) ∙ c .before .enum-told .given .1) .there)
 
 sub-result : tie.Need-sub-result
 unfolding endOf
