@@ -2,3 +2,4 @@ pub mod Passing
 pub mod LeadingLaws
 pub mod BlockHalves
 pub mod Runs
+pub mod RecoverLaws
