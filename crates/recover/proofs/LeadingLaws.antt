@@ -15,7 +15,7 @@ use Rattle.standard.proofs.BitLaws.{length-xorInto}
 use Rattle.standard.proofs.Reordered.{length-reordered, reordered-undo}
 use Rattle.standard.proofs.OneBlock.{Lawful}
 use Rattle.standard.proofs.TakenBack.{difference-of, difference-back, before-length, wanted-length, leads-to, leads-from}
-use Rattle.recover.specs.Leading.{endStateWith, sameBits, leading}
+use Rattle.recover.specs.Leading.{endStateWith, sameBits, leading, OnlyLeads}
 use Rattle.recover.proofs.Passing.{same-refl, same-eq, passing-none, passing-one}
 
 module _ (H : Variant) (h : Lawful H) (m : List ℕ) (place : ℕ) (within : place < length (messageBlocks H m)) (s : List Bool) (ls : length s ≡ H .t) where
@@ -93,3 +93,19 @@ module _ (H : Variant) (h : Lawful H) (m : List ℕ) (place : ℕ) (within : pla
       sym (there c l)
       ∙ ap (reordered (order H) high-first)
       (sym (ap (take (H .r)) (tells c l (same-eq _ s q)) ∙ take-at k _ (H .r) (length-reordered high-first (order H) c ∙ l))))
+
+  -- a block that leads there is the difference
+  pub leads-same : (c : List Bool) → length c ≡ H .r → endStateWith H m place c ≡ s → c ≡ B
+  leads-same c l e =
+      let k : List Bool = reordered high-first (order H) c in
+      sym (there c l)
+      ∙ ap (reordered (order H) high-first)
+        (sym (ap (take (H .r)) (tells c l e) ∙ take-at k _ (H .r) (length-reordered high-first (order H) c ∙ l)))
+
+  -- and the difference does not reach past it
+  pub leads-short : (c : List Bool) → length c ≡ H .r → endStateWith H m place c ≡ s → drop (H .r) D ≡ replicate (H .t - H .r) false
+  leads-short c l e =
+      ap (drop (H .r)) (tells c l e) ∙ drop-at (reordered high-first (order H) c) _ (H .r) (length-reordered high-first (order H) c ∙ l)
+
+  pub only : drop (H .r) D ≡ replicate (H .t - H .r) false → OnlyLeads H m place s B
+  only z = record { size = block-length; leads = block-leads z; others = λ c l n e. n (leads-same c l e) }
