@@ -18,7 +18,7 @@ use Rattle.standard.proofs.Tab.{length-tab, tab-snoc, tab-cong}
 use Rattle.standard.proofs.Undo.{All}
 use Rattle.standard.proofs.FieldLaws.{double-xor, double-zero, mul-lt, mul-double, mul-none, mul-step, dot-lt, dot-snoc}
 use Rattle.photon.specs.Rows.{lane, columnFrom, withoutLow, Mixing, SmallRows}
-use Rattle.photon.proofs.Lanes.{lane-xor}
+use Rattle.photon.proofs.Lanes.{lane-zero, lane-xor}
 
 -- the sum of those of the first n rows whose coefficient is odd
 abbrev pub oddSum : (ℕ → ℕ) → (ℕ → ℕ) → ℕ → ℕ
@@ -27,11 +27,6 @@ oddSum f g (suc n) = bitXor (oddSum f g n) (cond (eqb (f n % 2) 1) (g n) 0)
 
 pub odd-more : (f g : ℕ → ℕ) (n sum w : ℕ) → w ≡ cond (eqb (f n % 2) 1) (g n) 0 → sum ≡ oddSum f g n → bitXor sum w ≡ oddSum f g (n + 1)
 odd-more f g n sum w e h = ap₂ bitXor h e ∙ ap (oddSum f g) (sym (add-one n))
-
-lane-zero : (j : ℕ) → lane j 0 ≡ 0
-unfolding lane
-lane-zero zero = refl
-lane-zero (suc j) = lane-zero j
 
 lane-odd : (j : ℕ) (f g : ℕ → ℕ) (n : ℕ) → lane j (oddSum f g n) ≡ oddSum f (λ i. lane j (g i)) n
 lane-odd j f g zero = lane-zero j

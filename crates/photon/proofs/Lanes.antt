@@ -2,18 +2,19 @@
 -- Assumes nothing.
 use mathlib.Core.Path.{_≡_, refl, sym, ap, ap₂, _∙_, subst}
 use mathlib.Core.Bool.{Bool, true, false, cond}
+use mathlib.Core.Logic.{⊎-elim}
 use Prim.Native.Nat.{ℕ, zero, suc, _+_, _-_, _*_, _/_, _%_, _^_, _≤_, _<_, suc-le-suc}
-use native.Mathlib.Nat.{mod-lt, mod-eq-of-lt, div-eq-of-lt, div-eq-of-lt-le, div-div-eq-div-mul, div-add-mod', add-mul, mul-comm, mul-right-comm, one-mul, zero-mul, mul-le-mul, pow-suc, zero-lt-suc, not-suc-le-zero}
+use native.Mathlib.Nat.{mod-lt, mod-eq-of-lt, mod-eq-sub-mod, div-eq-of-lt, div-eq-of-lt-le, div-div-eq-div-mul, div-lt-iff-lt-mul, div-add-mod', add-zero, add-suc, add-mul, mul-one, mul-assoc, mul-comm, mul-div-cancel, mul-mod-left, div-one, le-of-suc-le-suc, mul-right-comm, one-mul, zero-mul, mul-le-mul, pow-suc, zero-lt-suc, not-suc-le-zero}
 use native.Mathlib.Omega.{arith}
-use lib.Arith.{digits-lt, digits-div, digits-mod, mod-mul}
+use lib.Arith.{lt-one, digits-lt, digits-div, digits-mod, mod-mul}
 use lib.Pow.{pow-pos, pow-mono, pow-add}
 use mathlib.Core.List.{List}
 use lib.ListN.{getD}
 use lib.Dec.{ltb}
-use lib.Bits.{bitXor, bitAnd, xor-zero-r, xor-shr, xor-mod, and-shr, and-mod, and-mask}
+use lib.Bits.{bitXor, bitAnd, xor-zero-l, xor-zero-r, xor-shr, xor-mod, and-shr, and-mod, and-mask}
 use borrow.Author.Tests.{ltb-true, ltb-false}
 use Rattle.standard.specs.Field.{double, Modulus}
-use Rattle.standard.proofs.Tests.{same-below}
+use Rattle.standard.proofs.Tests.{same-below, lt-or-le}
 use Rattle.standard.proofs.FieldLaws.{double-lt}
 use Rattle.photon.specs.Rows.{lane}
 
@@ -21,6 +22,11 @@ pub lane-lt : (j x : ℕ) → lane j x < 256
 unfolding lane
 lane-lt zero x = mod-lt x (zero-lt-suc 255)
 lane-lt (suc j) x = lane-lt j (x / 256)
+
+pub lane-zero : (j : ℕ) → lane j 0 ≡ 0
+unfolding lane
+lane-zero zero = refl
+lane-zero (suc j) = lane-zero j
 
 pub lane-xor : (j a b : ℕ) → lane j (bitXor a b) ≡ bitXor (lane j a) (lane j b)
 unfolding lane
@@ -173,3 +179,78 @@ held-more row n x y h l e k =
     cells (suc j) hj =
         let at : 8 - n + j ≡ 8 - (n + 1) + suc j = omega arith in
         ap (lane j) (digits-div x l) ∙ k .cell j (omega arith) ∙ ap (λ (i : ℕ). getD row i 0) at
+
+-- ---- a row shifted by whole cells
+
+cells-suc : (e : ℕ) → 2 ^ (8 * suc e) ≡ 2 ^ (8 * e) * 256
+cells-suc e = let more : 8 * suc e ≡ 8 * e + 8 = omega arith in ap (λ (m : ℕ). 2 ^ m) more ∙ pow-add 2 (8 * e) 8
+
+-- shifted up by e cells: those below are empty
+lane-up : (j e x : ℕ) → lane (j + e) (x * 2 ^ (8 * e)) ≡ lane j x
+unfolding lane
+lane-up j zero x = ap₂ lane (add-zero j) (mul-one x)
+lane-up j (suc e) x =
+    ap₂ lane (add-suc j e) (ap (λ (m : ℕ). x * m) (cells-suc e) ∙ sym (mul-assoc x (2 ^ (8 * e)) 256))
+    ∙ ap (lane (j + e)) (mul-div-cancel (x * 2 ^ (8 * e)) (zero-lt-suc 255)) ∙ lane-up j e x
+
+lane-under : (j e x : ℕ) → j < e → lane j (x * 2 ^ (8 * e)) ≡ 0
+unfolding lane
+lane-under j zero x h = absurd (not-suc-le-zero h)
+lane-under zero (suc e) x h =
+    ap (λ (m : ℕ). m % 256) (ap (λ (m : ℕ). x * m) (cells-suc e) ∙ sym (mul-assoc x (2 ^ (8 * e)) 256)) ∙ mul-mod-left (x * 2 ^ (8 * e)) 256
+lane-under (suc j) (suc e) x h =
+    ap (λ (m : ℕ). lane j (m / 256)) (ap (λ (m : ℕ). x * m) (cells-suc e) ∙ sym (mul-assoc x (2 ^ (8 * e)) 256))
+    ∙ ap (lane j) (mul-div-cancel (x * 2 ^ (8 * e)) (zero-lt-suc 255)) ∙ lane-under j e x (le-of-suc-le-suc h)
+
+-- shifted down by e cells
+lane-down : (j e x : ℕ) → lane j (x / 2 ^ (8 * e)) ≡ lane (j + e) x
+unfolding lane
+lane-down j zero x = ap₂ lane (sym (add-zero j)) (div-one x)
+lane-down j (suc e) x =
+    ap (lane j) (ap (λ (m : ℕ). x / m) (cells-suc e ∙ mul-comm (2 ^ (8 * e)) 256) ∙ sym (div-div-eq-div-mul x 256 (2 ^ (8 * e))))
+    ∙ lane-down j e (x / 256) ∙ ap (λ (m : ℕ). lane m x) (sym (add-suc j e))
+
+-- cut to n cells
+lane-cut : (j n x : ℕ) → j < n → lane j (x % 2 ^ (8 * n)) ≡ lane j x
+unfolding lane
+lane-cut j zero x h = absurd (not-suc-le-zero h)
+lane-cut zero (suc n) x h =
+    ap (λ (m : ℕ). x % m % 256) (cells-suc n) ∙ ap (λ (m : ℕ). m % 256) (mod-mul x {m = 2 ^ (8 * n)} {c = 256} (pow-pos (8 * n)) (zero-lt-suc 255))
+    ∙ digits-mod (x / 256 % 2 ^ (8 * n)) (mod-lt x (zero-lt-suc 255))
+lane-cut (suc j) (suc n) x h =
+    ap (λ (m : ℕ). lane j (x % m / 256)) (cells-suc n) ∙ ap (λ (m : ℕ). lane j (m / 256)) (mod-mul x {m = 2 ^ (8 * n)} {c = 256} (pow-pos (8 * n)) (zero-lt-suc 255))
+    ∙ ap (lane j) (digits-div (x / 256 % 2 ^ (8 * n)) (mod-lt x (zero-lt-suc 255))) ∙ lane-cut j n (x / 256) (le-of-suc-le-suc h)
+
+lane-past : (j n x : ℕ) → x < 2 ^ (8 * n) → n ≤ j → lane j x ≡ 0
+unfolding lane
+lane-past j zero x h l = ap (lane j) (lt-one h) ∙ lane-zero j
+lane-past zero (suc n) x h l = absurd (not-suc-le-zero l)
+lane-past (suc j) (suc n) x h l =
+    lane-past j n (x / 256) (div-lt-iff-lt-mul (zero-lt-suc 255) .1 (subst (λ (m : ℕ). x < m) (cells-suc n) h)) (le-of-suc-le-suc l)
+
+-- the first d cells turned: what lies above them is shifted out, the rest goes down, and the cells that fall out come in at the top
+pub lane-turned : (d by j x : ℕ) → 0 < by → by < d → d ≤ 8 → j < d
+    → lane j (bitXor (x * 2 ^ (8 * (8 - d)) % 2 ^ 64 / 2 ^ (8 * (8 - d + by))) (x * 2 ^ (8 * (d - by)) % 2 ^ 64)) ≡ lane ((j + by) % d) x
+lane-turned d by j x p q u hj =
+    lane-xor j (y % 2 ^ 64 / 2 ^ (8 * (8 - d + by))) (w % 2 ^ 64)
+    ∙ ap₂ bitXor (lane-down j (8 - d + by) (y % 2 ^ 64)) (lane-cut j 8 w (omega arith))
+    ∙ ⊎-elim within past (lt-or-le (j + by) d)
+  where
+    y : ℕ
+    y = x * 2 ^ (8 * (8 - d))
+
+    w : ℕ
+    w = x * 2 ^ (8 * (d - by))
+
+    within : j + by < d → bitXor (lane (j + (8 - d + by)) (y % 2 ^ 64)) (lane j w) ≡ lane ((j + by) % d) x
+    within h =
+        let place : j + (8 - d + by) ≡ j + by + (8 - d) = omega arith in
+        ap₂ bitXor (lane-cut (j + (8 - d + by)) 8 y (omega arith) ∙ ap (λ (m : ℕ). lane m y) place ∙ lane-up (j + by) (8 - d) x) (lane-under j (d - by) x (omega arith))
+        ∙ xor-zero-r (lane (j + by) x) ∙ ap (λ (m : ℕ). lane m x) (sym (mod-eq-of-lt h))
+
+    past : d ≤ j + by → bitXor (lane (j + (8 - d + by)) (y % 2 ^ 64)) (lane j w) ≡ lane ((j + by) % d) x
+    past h =
+        let place : j ≡ j + by - d + (d - by) = omega arith in
+        let turn : (j + by) % d ≡ j + by - d = mod-eq-sub-mod h ∙ mod-eq-of-lt (omega arith) in
+        ap₂ bitXor (lane-past (j + (8 - d + by)) 8 (y % 2 ^ 64) (mod-lt y (pow-pos 64)) (omega arith)) (ap (λ (m : ℕ). lane m w) place ∙ lane-up (j + by - d) (d - by) x)
+        ∙ xor-zero-l (lane (j + by - d) x) ∙ ap (λ (m : ℕ). lane m x) (sym turn)

@@ -1,7 +1,7 @@
 -- The steps of a variant as the code makes them, with its size, tables and coefficients looked up; and what each asks of the state.
 -- Assumes nothing.
 use mathlib.Core.Path.{_≡_, sym, ap, ap₂, _∙_, subst}
-use mathlib.Core.Bool.{Bool, true, false, cond}
+use mathlib.Core.Bool.{Bool, cond}
 use mathlib.Core.List.{List, [], reverse}
 use mathlib.Core.Logic.{⊎-elim}
 use Prim.Native.Nat.{ℕ, _-_, _^_, _≤_, _<_}
@@ -28,9 +28,9 @@ module _ (p : PhotonParameters) (n : ℕ) (e : n ≡ p .d) (g r : Grid) where
   sub-at back k b f =
       subst (λ (i : ℕ). window i r ≡ subCells i (boxOf k) (window i g)) e f ∙ ap (λ (y : List ℕ). subCells (p .d) y (window (p .d) g)) (b .table)
 
-  pub shift-at : (m m′ : ℕ) → m ≡ m′ → window n r ≡ shiftRows n m (window n g) → window (p .d) r ≡ shiftRows (p .d) m′ (window (p .d) g)
-  shift-at m m′ em f =
-      subst (λ (i : ℕ). window i r ≡ shiftRows i m (window i g)) e f ∙ ap (λ (k : ℕ). shiftRows (p .d) k (window (p .d) g)) em
+  pub shift-at : (back : Bool) → window n r ≡ shiftRows n (cond back (n - 1) 1) (window n g)
+      → window (p .d) r ≡ shiftRows (p .d) (cond back (p .d - 1) 1) (window (p .d) g)
+  shift-at back f = subst (λ (i : ℕ). window i r ≡ shiftRows i (cond back (i - 1) 1) (window i g)) e f
 
   pub mix-at : (s poly : ℕ) (z z′ : List ℕ) → s ≡ p .s → poly ≡ p .poly → cells (p .d) z ≡ z′
       → window n r ≡ mixColumns (2 ^ s) poly n (cells n z) (window n g) → window (p .d) r ≡ mixColumns (2 ^ p .s) (p .poly) (p .d) z′ (window (p .d) g)
@@ -88,7 +88,3 @@ flip-small d top g f e m =
           ∙ ap (λ (row : List ℕ). getD row j 0) (getD-reverse (window d g) i [] (omega (arith, q .rows)))))
           (window-small d top g m .cell (length (window d g) - 1 - i) j (omega (arith, q .rows)) hj);
     })
-
-pub turn-fits : (back : Bool) (n : ℕ) → n ≤ 8 → cond back (n - 1) 1 ≤ 8
-turn-fits true n h = omega arith
-turn-fits false n h = omega arith

@@ -4,7 +4,7 @@ ghost use mathlib.Core.Path.{_≡_};
 ghost use mathlib.Core.Bool.{cond};
 ghost use mathlib.Core.List.{map, reverse};
 ghost use Prim.Native.Nat.{ℕ, _+_, _-_, _*_, _%_, _^_, _≤_, _<_};
-ghost use lib.ListN.{getD};
+ghost use lib.ListN.{getD, length};
 ghost use lib.Dec.{eqb};
 ghost use Rattle.standard.specs.Rounds.{direction, inTurn, iterate};
 ghost use Rattle.standard.specs.Grid.{at, cells, window, transpose, Small};
@@ -137,50 +137,51 @@ fn wide(x: u8) -> usize
     x as usize
 }
 
-// An entry of an S-box: 0 and 1 are the 4-bit box and its inverse, 2 and 3 the 8-bit box and its inverse.
-fn lookup(kind: u8, x: u8) -> u8
-    requires { ⌜ (kind < 4) × (x < boundOf kind) ⌝ }
-    ensures { λ r. ⌜ r ≡ getD (boxOf kind) x 0 ⌝ }
-{
-    let i = wide(x);
-    if kind == 0 {
-        return PRESENT[i];
-    }
-    if kind == 1 {
-        return UNPRESENT[i];
-    }
-    if kind == 2 {
-        return AES[i];
-    }
-    UNAES[i]
-}
-
-fn sub_row(kind: u8, row: [u8; 8], d: usize) -> [u8; 8]
-    requires { ⌜ (d ≤ 8) × (kind < 4) ⌝ }
-    requires { ⌜ ((j : ℕ) → j < d → getD row j 0 < boundOf kind) ⌝ }
-    ensures { λ r. ⌜ ((j : ℕ) → j < d → getD r j 0 ≡ getD (boxOf kind) (getD row j 0) 0) ⌝ }
+fn sub_row(table: &[u8], row: [u8; 8], d: usize) -> [u8; 8]
+    requires { ⌜ d ≤ 8 ⌝ }
+    requires { ⌜ ((j : ℕ) → j < d → getD row j 0 < length (now table)) ⌝ }
+    ensures { λ r. ⌜ ((j : ℕ) → j < d → getD r j 0 ≡ getD (now (table .entry)) (getD row j 0) 0) ⌝ }
 {
     let mut out = row;
     let mut j = 0;
     while j < d {
-        out[j] = lookup(kind, out[j]);
+        let k = wide(out[j]);
+        out[j] = table[k];
         j += 1;
     }
     out
 }
 
+fn sub_rows(table: &[u8], g: [[u8; 8]; 8], d: usize) -> [[u8; 8]; 8]
+    requires { ⌜ d ≤ 8 ⌝ }
+    requires { ⌜ Small d (length (now table)) g ⌝ }
+    ensures { λ r. ⌜ window d r ≡ subCells d (now (table .entry)) (window d g) ⌝ }
+{
+    let mut out = g;
+    let mut i = 0;
+    while i < d {
+        out[i] = sub_row(table, out[i], d);
+        i += 1;
+    }
+    out
+}
+
+// By an S-box of this number: 0 and 1 are the 4-bit box and its inverse, 2 and 3 the 8-bit box and its inverse.
 fn sub_cells(kind: u8, g: [[u8; 8]; 8], d: usize) -> [[u8; 8]; 8]
     requires { ⌜ (d ≤ 8) × (kind < 4) ⌝ }
     requires { ⌜ Small d (boundOf kind) g ⌝ }
     ensures { λ r. ⌜ window d r ≡ subCells d (boxOf kind) (window d g) ⌝ }
 {
-    let mut out = g;
-    let mut i = 0;
-    while i < d {
-        out[i] = sub_row(kind, out[i], d);
-        i += 1;
+    if kind == 0 {
+        return sub_rows(&PRESENT, g, d);
     }
-    out
+    if kind == 1 {
+        return sub_rows(&UNPRESENT, g, d);
+    }
+    if kind == 2 {
+        return sub_rows(&AES, g, d);
+    }
+    sub_rows(&UNAES, g, d)
 }
 
 fn add_constants(g: [[u8; 8]; 8], d: usize, rc: u8, ic: [u8; 8]) -> [[u8; 8]; 8]
@@ -191,34 +192,6 @@ fn add_constants(g: [[u8; 8]; 8], d: usize, rc: u8, ic: [u8; 8]) -> [[u8; 8]; 8]
     let mut i = 0;
     while i < d {
         out[i][0] = out[i][0] ^ (rc ^ ic[i]);
-        i += 1;
-    }
-    out
-}
-
-// The row turned left by `by` places.
-fn turn_row(row: [u8; 8], d: usize, by: usize) -> [u8; 8]
-    requires { ⌜ (d ≤ 8) × (by ≤ 64) ⌝ }
-    ensures { λ r. ⌜ ((j : ℕ) → j < d → getD r j 0 ≡ getD row ((j + by) % d) 0) ⌝ }
-{
-    let mut out = row;
-    let mut j = 0;
-    while j < d {
-        let k = (j + by) % d;
-        out[j] = row[k];
-        j += 1;
-    }
-    out
-}
-
-fn shift_rows(g: [[u8; 8]; 8], d: usize, m: usize) -> [[u8; 8]; 8]
-    requires { ⌜ (d ≤ 8) × (m ≤ 8) ⌝ }
-    ensures { λ r. ⌜ window d r ≡ shiftRows d m (window d g) ⌝ }
-{
-    let mut out = g;
-    let mut i = 0;
-    while i < d {
-        out[i] = turn_row(out[i], d, m * i);
         i += 1;
     }
     out
@@ -259,6 +232,49 @@ fn unpacked(x: u64) -> [u8; 8]
         out[j] = low_cell(rest);
         rest = rest / 256;
         j += 1;
+    }
+    out
+}
+
+// The first d cells of a row turned left by `by` places.
+fn turned(x: u64, d: usize, by: usize) -> u64
+    requires { ⌜ (0 < by) × (by < d) ⌝ }
+    requires { ⌜ d ≤ 8 ⌝ }
+    ensures { λ r. ⌜ ((j : ℕ) → j < d → lane j r ≡ lane ((j + by) % d) x) ⌝ }
+{
+    let top = x << (8 * (8 - d));
+    (top >> (8 * (8 - d + by))) ^ (x << (8 * (d - by)))
+}
+
+fn turn_row(row: [u8; 8], d: usize, by: usize) -> [u8; 8]
+    requires { ⌜ (0 < by) × (by < d) ⌝ }
+    requires { ⌜ d ≤ 8 ⌝ }
+    ensures { λ r. ⌜ ((j : ℕ) → j < d → getD r j 0 ≡ getD row ((j + by) % d) 0) ⌝ }
+{
+    let x = packed(row);
+    let y = turned(x, d, by);
+    unpacked(y)
+}
+
+// By how many places row i turns: the inverse turns on to where the row began.
+fn turn_of(d: usize, i: usize, back: bool) -> usize
+    requires { ⌜ i ≤ d ⌝ }
+    ensures { λ r. ⌜ r ≡ cond back (d - i) i ⌝ }
+{
+    if back { d - i } else { i }
+}
+
+// Row 0 stays as it is.
+fn shift_rows(g: [[u8; 8]; 8], d: usize, back: bool) -> [[u8; 8]; 8]
+    requires { ⌜ (0 < d) × (d ≤ 8) ⌝ }
+    ensures { λ r. ⌜ window d r ≡ shiftRows d (cond back (d - 1) 1) (window d g) ⌝ }
+{
+    let mut out = g;
+    let mut i = 1;
+    while i < d {
+        let by = turn_of(d, i, back);
+        out[i] = turn_row(out[i], d, by);
+        i += 1;
     }
     out
 }
@@ -420,22 +436,13 @@ pub fn cells_substituted(v: usize, g: [[u8; 8]; 8], back: bool) -> [[u8; 8]; 8]
     sub_cells(kind, g, d)
 }
 
-// The factor of ShiftRows: row i turns by that many times i places, and the inverse turns on to where the row began.
-fn turn_factor(d: usize, back: bool) -> usize
-    requires { ⌜ 0 < d ⌝ }
-    ensures { λ r. ⌜ r ≡ cond back (d - 1) 1 ⌝ }
-{
-    if back { d - 1 } else { 1 }
-}
-
 // ShiftRows of a variant, or its inverse.
 pub fn rows_shifted(v: usize, g: [[u8; 8]; 8], back: bool) -> [[u8; 8]; 8]
     requires { ⌜ (1 ≤ v) × (v ≤ 5) ⌝ }
     ensures { λ r. ⌜ window (photonOf v .d) r ≡ shiftRows (photonOf v .d) (cond back (photonOf v .d - 1) 1) (window (photonOf v .d) g) ⌝ }
 {
     let d = size_of(v);
-    let m = turn_factor(d, back);
-    shift_rows(g, d, m)
+    shift_rows(g, d, back)
 }
 
 // MixColumnsSerial of a variant.
