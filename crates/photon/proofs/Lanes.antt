@@ -1,4 +1,4 @@
--- The cells of a row that is held in one number: each cell of a sum of rows is the sum of the cells, and the doubling of a row doubles each cell.
+-- The cells of a row that is held in one number: a sum of rows sums the cells, the doubling of a row doubles each, and shifts by whole cells turn it.
 -- Assumes nothing.
 use mathlib.Core.Path.{_≡_, refl, sym, ap, ap₂, _∙_, subst}
 use mathlib.Core.Bool.{Bool, true, false, cond}

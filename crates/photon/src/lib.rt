@@ -2,14 +2,14 @@
 // Each step serves both directions: `back` asks for the inverse.
 ghost use mathlib.Core.Path.{_≡_};
 ghost use mathlib.Core.Bool.{cond};
-ghost use mathlib.Core.List.{map, reverse};
+ghost use mathlib.Core.List.{reverse};
 ghost use Prim.Native.Nat.{ℕ, _+_, _-_, _*_, _%_, _^_, _≤_, _<_};
 ghost use lib.ListN.{getD, length};
 ghost use lib.Dec.{eqb};
-ghost use Rattle.standard.specs.Rounds.{direction, inTurn, iterate};
-ghost use Rattle.standard.specs.Grid.{at, cells, window, transpose, Small};
-ghost use Rattle.standard.specs.Field.{double, mul, dot, Modulus};
-ghost use Rattle.standard.specs.Photon.{addConstants, subCells, shiftRows, serial, mixColumns, unmixColumns, roundConstants, photonRound, photonRounds};
+ghost use Rattle.standard.specs.Rounds.{direction, inTurn};
+ghost use Rattle.standard.specs.Grid.{at, cells, window, Small};
+ghost use Rattle.standard.specs.Field.{double, dot, Modulus};
+ghost use Rattle.standard.specs.Photon.{addConstants, subCells, shiftRows, mixColumns, unmixColumns, roundConstants, photonRound, photonRounds};
 ghost use Rattle.photon.specs.Parameters.{photonOf, boxOf, boundOf, BoxNumber};
 ghost use Rattle.photon.specs.Rows.{lane, columnFrom, withoutLow, Mixing, Narrow, SmallRows};
 
@@ -303,8 +303,9 @@ fn low_bit(a: u8, x: u64) -> u64
     if a % 2 == 1 { x } else { 0 }
 }
 
-// The sum of coefficient times row, over the d rows from row n on, for the coefficients without their b lowest bits.
-// It takes four bits of each coefficient more, from what `high` has of the bits above: each bit's rows are summed, and the sums are doubled from the highest on.
+// The sum of coefficient times row, over the d rows from row n on, with the b lowest bits of each coefficient left out.
+// `high` is that sum with four bits more left out. For each of the four the rows whose coefficient has that bit are summed;
+// from the highest bit down, what there is is doubled and the bit's sum added.
 fn nibble_sum(
     rows: &[u64; 16],
     n: usize,
