@@ -98,7 +98,7 @@ module _ (v : ℕ) (m : List ℕ) (place : ℕ) (image out : List ℕ) where
               left OutputTooShort out (front ∙ ap₂ (λ (x y : Bool). ladder true false true x y F) d (lt-ltb (length out) (blockSize (variant v)) h)) refl
 
           module _ (e : blockSize (variant v) ≤ length out) where
-            far : recoverStatus v m place image (length out) ≡ ladder true false true true false F
+            pub far : recoverStatus v m place image (length out) ≡ ladder true false true true false F
             far = front ∙ ap₂ (λ (x y : Bool). ladder true false true x y F) d (le-ltb (length out) (blockSize (variant v)) e)
 
             pub left-none : leading (variant v) m place (stateIn (variant v) image) ≡ [] → Left v m place image out NoBlock out
