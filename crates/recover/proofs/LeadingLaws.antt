@@ -100,7 +100,7 @@ module _ (H : Variant) (h : Lawful H) (m : List ℕ) (place : ℕ) (within : pla
       let k : List Bool = reordered high-first (order H) c in
       sym (there c l)
       ∙ ap (reordered (order H) high-first)
-        (sym (ap (take (H .r)) (tells c l e) ∙ take-at k _ (H .r) (length-reordered high-first (order H) c ∙ l)))
+      (sym (ap (take (H .r)) (tells c l e) ∙ take-at k _ (H .r) (length-reordered high-first (order H) c ∙ l)))
 
   -- and the difference does not reach past it
   pub leads-short : (c : List Bool) → length c ≡ H .r → endStateWith H m place c ≡ s → drop (H .r) D ≡ replicate (H .t - H .r) false
