@@ -5,7 +5,10 @@ use std::fmt::Write;
 use crate::bits::{unpack, Order};
 use crate::padding::Padding;
 use crate::variants::{variant, Family, Variant, VARIANTS};
-use crate::{digest_with, image, permute, sponge, unpermute};
+use crate::{digest, digest_with, end_state, image, permute, sponge, unpermute};
+
+/// The message of the examples of Annex B.1.
+const PHOTON_MESSAGE: &[u8] = b"The PHOTON Lightweight Hash Functions Family";
 
 /// The message of the examples of Annex B.2.
 const SPONGENT_MESSAGE: &[u8] = b"Sponge + Present = Spongent";
@@ -17,8 +20,9 @@ const PERMUTE: Operation = ("permute", permute);
 const UNPERMUTE: Operation = ("unpermute", unpermute);
 
 /// One line for each call of either permutation: the single permutations of
-/// Annex B forward and back, then calls that are refused. A line has the
-/// form `OP VARIANT INPUT STATUS OUTPUT`.
+/// Annex B forward and back, then calls that are refused, then the digests
+/// and end states of Annex B's messages. A line has the form
+/// `OP VARIANT INPUT STATUS OUTPUT`.
 pub fn vector_lines() -> String {
     let mut lines = String::new();
     for variant in &VARIANTS {
@@ -30,7 +34,26 @@ pub fn vector_lines() -> String {
         add_line(&mut lines, PERMUTE, number, &image);
         add_line(&mut lines, UNPERMUTE, number, &image);
     }
+    for variant in &VARIANTS {
+        add_results(&mut lines, variant);
+    }
     lines
+}
+
+/// The digest and the end state of the message of Annex B, each on a line.
+fn add_results(lines: &mut String, variant: &Variant) {
+    let message = match variant.family {
+        Family::Photon => PHOTON_MESSAGE,
+        Family::Spongent => SPONGENT_MESSAGE,
+    };
+    let number = variant.number;
+    let input = hexadecimal(message);
+    let digest = digest(number, message).expect("the variant exists and the message is short");
+    let image = end_state(number, message).expect("the variant exists and the message is short");
+    let digest = hexadecimal(&digest);
+    let image = image_hexadecimal(number, &image);
+    writeln!(lines, "digest {number} {input} 0 {digest}").expect("memory");
+    writeln!(lines, "end-state {number} {input} 0 {image}").expect("memory");
 }
 
 /// For each SPONGENT example of Annex B.2, the digest with either padding.

@@ -172,7 +172,77 @@ fn refused_images() {
     refused(3, 25, 0xA1);
 }
 
+// Annex B's messages.
+fn show_message(v: u8) {
+    if v <= 5 {
+        show_forward(b"The PHOTON Lightweight Hash Functions Family");
+    } else {
+        show_forward(b"Sponge + Present = Spongent");
+    }
+}
+
+// The whole message of Annex B for a variant: its digest, or the image of its end state.
+fn whole(v: u8, image: bool, out: &mut [u8]) -> u8 {
+    if v <= 5 {
+        return sponge::number_of(hasher::whole(
+            v,
+            b"The PHOTON Lightweight Hash Functions Family",
+            image,
+            out,
+        ));
+    }
+    sponge::number_of(hasher::whole(v, b"Sponge + Present = Spongent", image, out))
+}
+
+fn show_result(v: u8, image: bool, out: &[u8]) {
+    if image {
+        show(v, out);
+    } else {
+        show_forward(out);
+    }
+}
+
+fn show_result_name(image: bool) {
+    if image {
+        io::write_all(STDOUT_FILENO, b"end-state ");
+    } else {
+        io::write_all(STDOUT_FILENO, b"digest ");
+    }
+}
+
+// A result into an output of just its length.
+fn result_line(v: u8, image: bool, out: &mut [u8]) {
+    show_result_name(image);
+    show_decimal(v);
+    space();
+    show_message(v);
+    space();
+    let status = whole(v, image, out);
+    show_decimal(status);
+    space();
+    show_result(v, image, out);
+    newline();
+}
+
+fn result(v: u8, image: bool)
+    requires { ⌜ (1 ≤ v) × (v ≤ 10) ⌝ }
+{
+    let mut out = [0xA0u8; 36];
+    let n = hasher::result_bytes(v, image);
+    result_line(v, image, &mut out[0..n]);
+}
+
+fn results() {
+    let mut v: u8 = 1;
+    while v <= 10 {
+        result(v, false);
+        result(v, true);
+        v += 1;
+    }
+}
+
 fn main() {
     permutations();
     refused_images();
+    results();
 }
