@@ -49,6 +49,7 @@ use Rattle.hasher.proofs.finish as callee
 use Rattle.hasher.proofs.finish.Symbol as callee-def
 use Rattle.hasher.proofs.finish.Symbol.{name as #hasher·finish}
 use Rattle.hasher.proofs.finish.Met as callee-thm
+use Rattle.lent.proofs.Values.{mach, sval, hasher-of, status-of}
 use Rattle.lent.proofs.finish.Key.{name as #lent·finish}
 use Rattle.lent.proofs.finish as self
 use Rattle.lent.proofs.finish.Statement as stated
@@ -56,20 +57,6 @@ use Rattle.lent.proofs.finish.Code as code
 
 abbrev stayed : Stays (self.ended .signature .params) (self.ended .kept)
 stayed = (stay-ref (0 ∷ []) tt (plain (λ _. T.the-row)), tt)
-
--- the machine value of a running hash
-abbrev mach : Hasher → Val
-mach = LL.val T.the-type T′.the-laws
-
--- what an answer's relation says of its parts
-hasher-of : (r : Advanced) (w : Val) → Is D.the-row r (w ∷ []) → Is T.the-row (r .hasher) (mach (r .hasher) ∷ [])
-hasher-of r w is = LL.owed D.the-type D′.the-laws r (w ∷ []) is .1 .0
-
-status-of : (r : Advanced) (w : Val) → Is D.the-row r (w ∷ []) → Is S.the-row (r .status) (EL.vals S.the-type S′.the-laws (r .status))
-status-of r w is = LL.owed D.the-type D′.the-laws r (w ∷ []) is .0
-
-abbrev sval : Status → Val
-sval t = EL.val S.the-type S′.the-laws t
 
 -- the contract that the proof cites
 abbrev Finish : {M : Type 1} (𝓤 : URA M) (H : Heap 𝓤) (A : Atoms 𝓤) (mem : Memory → SProp 𝓤) (run : Routine → Fun 𝓤) → Contract 𝓤

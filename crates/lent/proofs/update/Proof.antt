@@ -55,6 +55,7 @@ use Rattle.hasher.proofs.update as callee
 use Rattle.hasher.proofs.update.Symbol as callee-def
 use Rattle.hasher.proofs.update.Symbol.{name as #hasher·update}
 use Rattle.hasher.proofs.update.Met as callee-thm
+use Rattle.lent.proofs.Values.{mach, sval, hasher-of, status-of}
 use Rattle.lent.proofs.update.Key.{name as #lent·update}
 use Rattle.lent.proofs.update as self
 use Rattle.lent.proofs.update.Statement as stated
@@ -62,20 +63,6 @@ use Rattle.lent.proofs.update.Code as code
 
 abbrev stayed : Stays (self.ended .signature .params) (self.ended .kept)
 stayed = (stay-ref (0 ∷ []) tt (plain (λ _. T.the-row)), (stay-none-slice (1 ∷ []) tt (plain (λ _. u8)) yes, tt))
-
--- the machine value of a running hash
-abbrev mach : Hasher → Val
-mach = LL.val T.the-type T′.the-laws
-
--- what an answer's relation says of its parts
-hasher-of : (r : Advanced) (w : Val) → Is D.the-row r (w ∷ []) → Is T.the-row (r .hasher) (mach (r .hasher) ∷ [])
-hasher-of r w is = LL.owed D.the-type D′.the-laws r (w ∷ []) is .1 .0
-
-status-of : (r : Advanced) (w : Val) → Is D.the-row r (w ∷ []) → Is S.the-row (r .status) (EL.vals S.the-type S′.the-laws (r .status))
-status-of r w is = LL.owed D.the-type D′.the-laws r (w ∷ []) is .0
-
-abbrev sval : Status → Val
-sval t = only (EL.vals S.the-type S′.the-laws t)
 
 -- the contract that the proof cites
 abbrev Update : {M : Type 1} (𝓤 : URA M) (H : Heap 𝓤) (A : Atoms 𝓤) (mem : Memory → SProp 𝓤) (run : Routine → Fun 𝓤) → Contract 𝓤
