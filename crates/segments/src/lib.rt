@@ -28,14 +28,14 @@ fn word_at(list: &[u8], i: usize) -> u64
     ((wide(list[i]) * 256 + wide(list[i + 1])) * 256 + wide(list[i + 2])) * 256 + wide(list[i + 3])
 }
 
-fn offset_at(list: &[u8], k: usize) -> u64
+pub fn offset_at(list: &[u8], k: usize) -> u64
     requires { ⌜ k < count (now list) ⌝ }
     ensures { λ r. ⌜ (r ≡ offsetOf (now (list .entry)) k) × (r < 4294967296) ⌝ }
 {
     word_at(list, 8 * k)
 }
 
-fn length_at(list: &[u8], k: usize) -> u64
+pub fn length_at(list: &[u8], k: usize) -> u64
     requires { ⌜ k < count (now list) ⌝ }
     ensures { λ r. ⌜ (r ≡ lengthOf (now (list .entry)) k) × (r < 4294967296) ⌝ }
 {
@@ -62,7 +62,7 @@ fn former_end(list: &[u8], k: usize) -> u64
 }
 
 // Whole entries, and no more than 512 of them.
-fn is_list(list: &[u8]) -> bool
+pub fn is_list(list: &[u8]) -> bool
     ensures { λ r. ⌜ r ≡ isList (now (list .entry)) ⌝ }
 {
     if list.len() % 8 != 0 {
