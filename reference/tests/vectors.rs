@@ -74,7 +74,7 @@ fn lines_begin_with_annex_b() {
 }
 
 /// After Annex B's permutations come the refused calls, each made forward
-/// and then back, and then the results of Annex B's messages.
+/// and then back.
 #[test]
 fn refused_calls_follow_and_leave_their_bytes() {
     let fill = |length: usize| vec![0xa0; length];
@@ -118,13 +118,4 @@ fn refused_calls_follow_and_leave_their_bytes() {
             }
         }
     }
-    for number in 1..=10 {
-        for operation in ["digest", "end-state"] {
-            let line = lines.next().expect("two results for each variant");
-            let words: Vec<&str> = line.split(' ').collect();
-            assert_eq!(words[..2], [operation, &number.to_string()], "{line}");
-            assert_eq!(words[3], "0", "{line}");
-        }
-    }
-    assert_eq!(lines.next(), None);
 }

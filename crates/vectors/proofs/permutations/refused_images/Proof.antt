@@ -1,8 +1,8 @@
--- `vectors::refused_images` is safe and ends. Assumes nothing.
+-- `vectors::permutations::refused_images` is safe and ends. Assumes nothing.
 use Prim.Native.Nat.{_≤_, _-_}
 use borrow.Author.Needs.{needs}
-use Rattle.vectors.proofs.refused_images.Statement.{statement}
-use Rattle.vectors.proofs.refused_images.Tie as tie
+use Rattle.vectors.proofs.permutations.refused_images.Statement.{statement}
+use Rattle.vectors.proofs.permutations.refused_images.Tie as tie
 
 abbrev Inv-loop : tie.InvT-loop
 Inv-loop v₀ v = (1 ≤ v) × (v ≤ 11)

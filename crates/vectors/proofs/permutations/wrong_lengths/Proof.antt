@@ -1,10 +1,10 @@
--- `vectors::wrong_lengths` is safe: an image has 2 to 36 bytes. Assumes nothing.
+-- `vectors::permutations::wrong_lengths` is safe: an image has 2 to 36 bytes. Assumes nothing.
 use native.Mathlib.Omega.{arith}
 use Rattle.standard.proofs.Variants.{bounds}
 use borrow.Author.Needs.{needs}
 use borrow.Author.Needs.{needs}
-use Rattle.vectors.proofs.wrong_lengths.Statement.{statement}
-use Rattle.vectors.proofs.wrong_lengths.Tie as tie
+use Rattle.vectors.proofs.permutations.wrong_lengths.Statement.{statement}
+use Rattle.vectors.proofs.permutations.wrong_lengths.Tie as tie
 
 image-bytes-requires : tie.Need-image-bytes-requires
 image-bytes-requires c κs = search needs

@@ -1,8 +1,8 @@
--- `vectors::permutations` is safe and ends. Assumes nothing.
+-- `vectors::permutations::permutations` is safe and ends. Assumes nothing.
 use Prim.Native.Nat.{_≤_, _-_}
 use borrow.Author.Needs.{needs}
-use Rattle.vectors.proofs.permutations.Statement.{statement}
-use Rattle.vectors.proofs.permutations.Tie as tie
+use Rattle.vectors.proofs.permutations.permutations.Statement.{statement}
+use Rattle.vectors.proofs.permutations.permutations.Tie as tie
 
 abbrev Inv-loop : tie.InvT-loop
 Inv-loop v₀ v = (1 ≤ v) × (v ≤ 11)

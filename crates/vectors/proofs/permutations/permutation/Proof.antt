@@ -1,10 +1,10 @@
--- `vectors::permutation` is safe: an image has at most 36 bytes. Assumes nothing.
+-- `vectors::permutations::permutation` is safe: an image has at most 36 bytes. Assumes nothing.
 use native.Mathlib.Omega.{arith}
 use Rattle.standard.proofs.Variants.{bounds}
 use borrow.Author.Needs.{needs}
 use borrow.Author.Needs.{needs}
-use Rattle.vectors.proofs.permutation.Statement.{statement}
-use Rattle.vectors.proofs.permutation.Tie as tie
+use Rattle.vectors.proofs.permutations.permutation.Statement.{statement}
+use Rattle.vectors.proofs.permutations.permutation.Tie as tie
 
 example-requires : tie.Need-example-requires
 example-requires c κs = search needs
