@@ -100,8 +100,8 @@ fn run_back(v: u8, message: &[u8], place: usize, end: [u8; 36]) -> [u8; 36]
     let mut j = block_count(v, message);
     while place + 1 < j {
         j -= 1;
-        let b = block_at(v, message, j);
-        let before = sponge::unstepped(v, s, b);
+        let last = block_at(v, message, j);
+        let before = sponge::unstepped(v, s, last);
         s = before;
     }
     s

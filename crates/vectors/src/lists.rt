@@ -98,8 +98,14 @@ fn large_numbers(buffer: &[u8]) {
     only([0xFF, 0xFF, 0xFF, 0xFF, 0, 0, 0, 2], buffer);
     only([0, 0, 0, 1, 0xFF, 0xFF, 0xFF, 0xFF], buffer);
     only([0xFF, 0xFF, 0xFF, 0xFF, 0xFF, 0xFF, 0xFF, 0xFF], buffer);
-    both([0xFF, 0xFF, 0xFF, 0xFF, 0, 0, 0, 1, 0, 0, 0, 0, 0, 0, 0, 1], buffer);
-    both([0xFF, 0xFF, 0xFF, 0xFF, 0, 0, 0, 2, 0, 0, 0, 1, 0, 0, 0, 1], buffer);
+    both(
+        [0xFF, 0xFF, 0xFF, 0xFF, 0, 0, 0, 1, 0, 0, 0, 0, 0, 0, 0, 1],
+        buffer,
+    );
+    both(
+        [0xFF, 0xFF, 0xFF, 0xFF, 0, 0, 0, 2, 0, 0, 0, 1, 0, 0, 0, 1],
+        buffer,
+    );
     both([0, 0, 0, 0, 1, 0, 0, 0, 0, 0, 0, 0, 0, 0, 0, 0], buffer);
     both([0, 1, 0, 0, 0, 0, 0, 0, 0, 0, 1, 0, 0, 0, 0, 0], buffer);
 }
