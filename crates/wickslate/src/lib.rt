@@ -151,7 +151,14 @@ pub extern "C" fn wickslate_entry(list: &[u8], k: usize, offset: &mut u32, lengt
 }
 
 #[no_mangle]
-pub extern "C" fn wickslate_digest_list(variant: u8, list: &[u8], buffer: &[u8], image: u8, out: &mut [u8], entry: &mut u32) -> u8
+pub extern "C" fn wickslate_digest_list(
+    variant: u8,
+    list: &[u8],
+    buffer: &[u8],
+    image: u8,
+    out: &mut [u8],
+    entry: &mut u32,
+) -> u8
     ensures { λ r. ⌜ (r ≡ number (listStatus variant (now (list .entry)) (now (buffer .entry)) (asksImage image) (length (now (out .entry)))))
         × (now (out .exit) ≡ listInto variant (now (list .entry)) (now (buffer .entry)) (asksImage image) (now (out .entry)))
         × (now (entry .exit) ≡ entryNamed (listStatus variant (now (list .entry)) (now (buffer .entry)) (asksImage image) (length (now (out .entry)))) (now (entry .entry))) ⌝ }

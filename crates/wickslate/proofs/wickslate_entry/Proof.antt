@@ -22,10 +22,11 @@ number-of-step-requires c κs = search needs
 returns : tie.Need-returns
 returns c =
     let a = c .before .before .before .before .before .before .before .args in
-    let e = c .before .before .before .before .before .entry-at .ensures in
-    ( c .number-of-step .ensures ∙ ap (λ (f : Found). stepNumber (f .step)) e
-    , c .before .before .before .offset-given .ensures ∙ ap (λ (f : Found). offsetGiven (f .step) (a .offset .now)) e
-    , c .before .length-given .ensures ∙ ap (λ (f : Found). lengthGiven (f .step) (a .length .now)) e)
+    let e = c .before .before .before .before .before .entry-at .ensures in (
+      c .number-of-step .ensures ∙ ap (λ (f : Found). stepNumber (f .step)) e,
+      c .before .before .before .offset-given .ensures ∙ ap (λ (f : Found). offsetGiven (f .step) (a .offset .now)) e,
+      c .before .length-given .ensures ∙ ap (λ (f : Found). lengthGiven (f .step) (a .length .now)) e,
+    )
 
 pub wickslate-entry-spec : {M : Type 1} → statement M
 wickslate-entry-spec = tie.close (tie.spec entry-at-requires offset-given-requires length-given-requires number-of-step-requires returns)
