@@ -15,6 +15,7 @@ use hasher::Hasher;
 use lent::Step;
 use sponge::Status;
 
+// Refusal 1: the running hash is then variant 0, open, all else zero.
 #[no_mangle]
 pub extern "C" fn wickslate_start(h: &mut Hasher, variant: u8) -> u8
     ensures { λ r. ⌜ (r ≡ number (started variant .status)) × (now (h .exit) ≡ started variant .hasher) ⌝ }
@@ -22,6 +23,7 @@ pub extern "C" fn wickslate_start(h: &mut Hasher, variant: u8) -> u8
     sponge::number_of(lent::start(h, variant))
 }
 
+// Refusals 2, 3, 4.
 #[no_mangle]
 pub extern "C" fn wickslate_update(h: &mut Hasher, piece: &[u8]) -> u8
     ensures { λ r. ⌜ (r ≡ number (updated (now (h .entry)) (now (piece .entry)) .status))
@@ -30,6 +32,7 @@ pub extern "C" fn wickslate_update(h: &mut Hasher, piece: &[u8]) -> u8
     sponge::number_of(lent::update(h, piece))
 }
 
+// Refusals 2, 3.
 #[no_mangle]
 pub extern "C" fn wickslate_finish(h: &mut Hasher) -> u8
     ensures { λ r. ⌜ (r ≡ number (finished (now (h .entry)) .status)) × (now (h .exit) ≡ finished (now (h .entry)) .hasher) ⌝ }
@@ -37,6 +40,7 @@ pub extern "C" fn wickslate_finish(h: &mut Hasher) -> u8
     sponge::number_of(lent::finish(h))
 }
 
+// Refusals 2, 3, 5.
 #[no_mangle]
 pub extern "C" fn wickslate_digest(h: &Hasher, out: &mut [u8]) -> u8
     ensures { λ r. ⌜ (r ≡ number (readStatus (now (h .entry)) false (length (now (out .entry)))))
@@ -45,6 +49,7 @@ pub extern "C" fn wickslate_digest(h: &Hasher, out: &mut [u8]) -> u8
     sponge::number_of(lent::digest(h, out))
 }
 
+// Refusals 2, 3, 5.
 #[no_mangle]
 pub extern "C" fn wickslate_end_state(h: &Hasher, out: &mut [u8]) -> u8
     ensures { λ r. ⌜ (r ≡ number (readStatus (now (h .entry)) true (length (now (out .entry)))))
@@ -63,6 +68,7 @@ fn asks_image(n: u8) -> bool
     true
 }
 
+// The digest of a whole message or, if `image` is not 0, its end state: refusals 1, 4, 5.
 #[no_mangle]
 pub extern "C" fn wickslate_whole(variant: u8, message: &[u8], image: u8, out: &mut [u8]) -> u8
     ensures { λ r. ⌜ (r ≡ number (wholeStatus variant (now (message .entry)) (asksImage image) (length (now (out .entry)))))
@@ -71,6 +77,7 @@ pub extern "C" fn wickslate_whole(variant: u8, message: &[u8], image: u8, out: &
     sponge::number_of(hasher::whole(variant, message, asks_image(image), out))
 }
 
+// The permutation on an image: refusals 1, 6.
 #[no_mangle]
 pub extern "C" fn wickslate_permute(variant: u8, image: &mut [u8]) -> u8
     ensures { λ r. ⌜ (r ≡ number (imageStatus variant (now (image .entry))))
@@ -79,6 +86,7 @@ pub extern "C" fn wickslate_permute(variant: u8, image: &mut [u8]) -> u8
     sponge::number_of(sponge::permute(variant, image))
 }
 
+// Its inverse: refusals 1, 6.
 #[no_mangle]
 pub extern "C" fn wickslate_unpermute(variant: u8, image: &mut [u8]) -> u8
     ensures { λ r. ⌜ (r ≡ number (imageStatus variant (now (image .entry))))
@@ -107,7 +115,7 @@ fn entry_named(s: Status, old: u32) -> u32
     }
 }
 
-// Whether entry k names a segment of the buffer.
+// Whether entry k names a segment of the buffer: refusals 9, 7, 10, 11. The last two write the number of the entry.
 #[no_mangle]
 pub extern "C" fn wickslate_check_entry(list: &[u8], buffer: &[u8], k: usize, entry: &mut u32) -> u8
     ensures { λ r. ⌜ (r ≡ number (segmentStatus (now (list .entry)) (length (now (buffer .entry))) k))
@@ -136,7 +144,7 @@ fn length_given(s: Step, old: u32) -> u32
     }
 }
 
-// The offset and length of entry k.
+// The offset and length of entry k: refusals 9, 7.
 #[no_mangle]
 pub extern "C" fn wickslate_entry(list: &[u8], k: usize, offset: &mut u32, length: &mut u32) -> u8
     ensures { λ r. ⌜ (r ≡ stepNumber (foundAt (now (list .entry)) k .step))
@@ -150,6 +158,7 @@ pub extern "C" fn wickslate_entry(list: &[u8], k: usize, offset: &mut u32, lengt
     lent::number_of_step(s)
 }
 
+// The digest over the segments of a list or, if `image` is not 0, the end state: refusals 1, 9, 10, 11, 4, 5. Of these 10 and 11 write the number of the entry.
 #[no_mangle]
 pub extern "C" fn wickslate_digest_list(
     variant: u8,
