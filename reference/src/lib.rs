@@ -31,7 +31,10 @@ pub mod matrix;
 pub mod padding;
 pub mod photon;
 pub mod printed;
+pub mod recover;
+pub mod running;
 pub mod sbox;
+pub mod segments;
 pub mod sponge;
 pub mod spongent;
 pub mod variants;
@@ -44,10 +47,26 @@ pub use variants::{variant, Family, Variant, VARIANTS};
 pub const DONE: u8 = 0;
 /// Refusal: the variant number is not 1 to 10.
 pub const UNKNOWN_VARIANT: u8 = 1;
+/// Refusal: the running hash is not well formed.
+pub const MALFORMED: u8 = 2;
+/// Refusal: the running hash is closed, or for a read still open.
+pub const WRONG_STAGE: u8 = 3;
 /// Refusal: the message has more than [`MESSAGE_LIMIT`] bytes.
 pub const TOO_LONG: u8 = 4;
+/// Refusal: the output is shorter than the result.
+pub const OUTPUT_TOO_SHORT: u8 = 5;
 /// Refusal: the image has the wrong length, or a bit set past the state.
 pub const BAD_IMAGE: u8 = 6;
+/// Refusal: the place or the entry's number is not below the count.
+pub const OUT_OF_RANGE: u8 = 7;
+/// Refusal: no block leads to the state.
+pub const NO_BLOCK: u8 = 8;
+/// Refusal: not whole entries, or more than 512.
+pub const BAD_LIST: u8 = 9;
+/// Refusal: an entry begins before the one before it ends.
+pub const MISORDERED: u8 = 10;
+/// Refusal: an entry ends past the buffer.
+pub const PAST_END: u8 = 11;
 
 /// The greatest number of message bytes.
 pub const MESSAGE_LIMIT: usize = 16_777_215;

@@ -73,7 +73,8 @@ fn lines_begin_with_annex_b() {
     }
 }
 
-/// After Annex B come the refused calls, each made forward and then back.
+/// After Annex B's permutations come the refused calls, each made forward
+/// and then back.
 #[test]
 fn refused_calls_follow_and_leave_their_bytes() {
     let fill = |length: usize| vec![0xa0; length];
@@ -84,9 +85,16 @@ fn refused_calls_follow_and_leave_their_bytes() {
         (0, fill(0), "1"),
     ];
     for (number, length) in (1..).zip([13, 18, 25, 32, 36, 11, 17, 22, 30, 34]) {
-        for wrong in [0, length - 1, length + 1] {
+        for wrong in [0, length - 1] {
             expected.push((number, fill(wrong), "6"));
         }
+        let mut long = fill(length);
+        long.push(0);
+        if number >= 6 {
+            // SPONGENT's images are printed from their last byte.
+            long.reverse();
+        }
+        expected.push((number, long, "6"));
     }
     for (number, length) in [(1, 13), (3, 25)] {
         let mut image = fill(length);
@@ -110,5 +118,4 @@ fn refused_calls_follow_and_leave_their_bytes() {
             }
         }
     }
-    assert_eq!(lines.next(), None);
 }

@@ -1,5 +1,7 @@
 -- Laws that the proofs of the crate's functions share.
 pub mod ParametersOf
-pub mod MixLoops
+pub mod Lanes
+pub mod BitSums
+pub mod StepRows
 pub mod StepsOf
 pub mod RoundsOf

@@ -4,16 +4,18 @@ use mathlib.Core.Path.{_≡_, refl, sym, ap}
 use mathlib.Core.Bool.{Bool, true, false, cond}
 use mathlib.Core.List.{List, [], _∷_, map}
 use Prim.Native.Nat.{ℕ, _-_, _^_, _≤_, _<_}
-use lib.Dec.{lit<}
+use native.Mathlib.Omega.{arith}
+use lib.Dec.{T, eqb, ltb, lit<}
 use lib.ListN.{getD}
 use Rattle.standard.specs.Grid.{cells}
 use Rattle.standard.specs.Photon.{PhotonParameters, present, unpresent, aes, unaes}
 use Rattle.standard.specs.Sponge.{photon}
 use Rattle.standard.specs.Variants.{variant, photon100, photon144, photon196, photon256, photon288}
-use Rattle.standard.proofs.Tests.{one-to-five}
+use Rattle.standard.proofs.Tests.{below, bound-below, one-to-five}
 use Rattle.standard.proofs.PhotonLaws.{Sound}
 use Rattle.standard.proofs.PhotonVariants.{sound100, sound144, sound196, sound256, sound288}
 use Rattle.photon.specs.Parameters.{photons, photonOf, BoxNumber}
+use Rattle.photon.specs.Rows.{Narrow}
 
 pub photon-variant : (v : ℕ) → 1 ≤ v → v ≤ 5 → variant v .family ≡ photon (photonOf v)
 unfolding variant photonOf
@@ -43,6 +45,28 @@ z-of = one-to-five (λ v. cells (photonOf v .d) (getD (rowTable (λ p. p .z)) (v
 pub unz-of : (v : ℕ) → 1 ≤ v → v ≤ 5 → cells (photonOf v .d) (getD (rowTable (λ p. p .unz)) (v - 1) []) ≡ photonOf v .unz
 unfolding photonOf
 unz-of = one-to-five (λ v. cells (photonOf v .d) (getD (rowTable (λ p. p .unz)) (v - 1) []) ≡ photonOf v .unz) refl refl refl refl refl
+
+-- ---- coefficients of at most four bits
+
+pub z-narrow : (v : ℕ) → 1 ≤ v → v ≤ 5 → Narrow (photonOf v .d) (photonOf v .z) false
+unfolding photonOf
+z-narrow =
+    one-to-five (λ v. Narrow (photonOf v .d) (photonOf v .z) false)
+    (narrow photon100 tt) (narrow photon144 tt) (narrow photon196 tt) (narrow photon256 tt) (narrow photon288 tt)
+  where
+    narrow : (p : PhotonParameters) → T (below (λ i. ltb (getD (p .z) i 0) 16) (p .d)) → Narrow (p .d) (p .z) false
+    narrow p t = record { nibble = λ e. bound-below (λ i. getD (p .z) i 0) 16 (p .d) t }
+
+-- of the inverses, one has wider ones
+pub unz-narrow : (v : ℕ) → 1 ≤ v → v ≤ 5 → Narrow (photonOf v .d) (photonOf v .unz) (eqb v 5)
+unfolding photonOf
+unz-narrow =
+    one-to-five (λ v. Narrow (photonOf v .d) (photonOf v .unz) (eqb v 5))
+    (narrow photon100 tt) (narrow photon144 tt) (narrow photon196 tt) (narrow photon256 tt)
+    (record { nibble = λ e i h. let no : _≡_ {A = ℕ} 0 1 = ap (λ (b : Bool). cond b 0 1) e in absurd (omega arith) })
+  where
+    narrow : (p : PhotonParameters) → T (below (λ i. ltb (getD (p .unz) i 0) 16) (p .d)) → Narrow (p .d) (p .unz) false
+    narrow p t = record { nibble = λ e. bound-below (λ i. getD (p .unz) i 0) 16 (p .d) t }
 
 -- ---- the numbers of the S-boxes, and of their inverses
 

@@ -1,16 +1,19 @@
 -- The steps of a variant as the code makes them, with its size, tables and coefficients looked up; and what each asks of the state.
 -- Assumes nothing.
 use mathlib.Core.Path.{_≡_, sym, ap, ap₂, _∙_, subst}
-use mathlib.Core.Bool.{Bool, true, false, cond}
+use mathlib.Core.Bool.{Bool, cond}
 use mathlib.Core.List.{List, [], reverse}
+use mathlib.Core.Logic.{⊎-elim}
 use Prim.Native.Nat.{ℕ, _-_, _^_, _≤_, _<_}
 use native.Mathlib.Omega.{arith}
 use Rattle.standard.specs.Grid.{Grid, cells, window, Square, Small}
-use Rattle.standard.specs.Field.{Modulus}
 use Rattle.standard.specs.Photon.{PhotonParameters, addConstants, subCells, shiftRows, mixColumns}
-use Rattle.standard.proofs.Tab.{getD-reverse, window-square, window-small, small-window}
+use lib.Pow.{pow-mono}
+use Rattle.standard.proofs.Tests.{lt-or-le}
+use Rattle.standard.proofs.Tab.{getD-tab, getD-reverse, window-square, window-small, small-window}
 use Rattle.standard.proofs.PhotonLaws.{Sound, modulus}
 use Rattle.photon.specs.Parameters.{boxOf, boundOf, BoxNumber}
+use Rattle.photon.specs.Rows.{Mixing, Narrow}
 use lib.ListN.{getD, length}
 
 module _ (p : PhotonParameters) (n : ℕ) (e : n ≡ p .d) (g r : Grid) where
@@ -25,15 +28,15 @@ module _ (p : PhotonParameters) (n : ℕ) (e : n ≡ p .d) (g r : Grid) where
   sub-at back k b f =
       subst (λ (i : ℕ). window i r ≡ subCells i (boxOf k) (window i g)) e f ∙ ap (λ (y : List ℕ). subCells (p .d) y (window (p .d) g)) (b .table)
 
-  pub shift-at : (m m′ : ℕ) → m ≡ m′ → window n r ≡ shiftRows n m (window n g) → window (p .d) r ≡ shiftRows (p .d) m′ (window (p .d) g)
-  shift-at m m′ em f =
-      subst (λ (i : ℕ). window i r ≡ shiftRows i m (window i g)) e f ∙ ap (λ (k : ℕ). shiftRows (p .d) k (window (p .d) g)) em
+  pub shift-at : (back : Bool) → window n r ≡ shiftRows n (cond back (n - 1) 1) (window n g)
+      → window (p .d) r ≡ shiftRows (p .d) (cond back (p .d - 1) 1) (window (p .d) g)
+  shift-at back f = subst (λ (i : ℕ). window i r ≡ shiftRows i (cond back (i - 1) 1) (window i g)) e f
 
-  pub mix-at : (top poly : ℕ) (z z′ : List ℕ) → top ≡ 2 ^ p .s → poly ≡ p .poly → cells (p .d) z ≡ z′
-      → window n r ≡ mixColumns top poly n (cells n z) (window n g) → window (p .d) r ≡ mixColumns (2 ^ p .s) (p .poly) (p .d) z′ (window (p .d) g)
-  mix-at top poly z z′ et ep ez f =
-      subst (λ (i : ℕ). window i r ≡ mixColumns top poly i (cells i z) (window i g)) e f
-      ∙ ap₂ (λ (t u : ℕ). mixColumns t u (p .d) (cells (p .d) z) (window (p .d) g)) et ep
+  pub mix-at : (s poly : ℕ) (z z′ : List ℕ) → s ≡ p .s → poly ≡ p .poly → cells (p .d) z ≡ z′
+      → window n r ≡ mixColumns (2 ^ s) poly n (cells n z) (window n g) → window (p .d) r ≡ mixColumns (2 ^ p .s) (p .poly) (p .d) z′ (window (p .d) g)
+  mix-at s poly z z′ es ep ez f =
+      subst (λ (i : ℕ). window i r ≡ mixColumns (2 ^ s) poly i (cells i z) (window i g)) e f
+      ∙ ap₂ (λ (t u : ℕ). mixColumns (2 ^ t) u (p .d) (cells (p .d) z) (window (p .d) g)) es ep
       ∙ ap (λ (y : List ℕ). mixColumns (2 ^ p .s) (p .poly) (p .d) y (window (p .d) g)) ez
 
   pub flip-at : window n r ≡ reverse (window n g) → window (p .d) r ≡ reverse (window (p .d) g)
@@ -46,9 +49,31 @@ module _ (p : PhotonParameters) (h : Sound p) (n : ℕ) (e : n ≡ p .d) where
   pub sub-ready : (back : Bool) (k : ℕ) (g : Grid) → BoxNumber p back k → Small (p .d) (2 ^ p .s) g → ((n ≤ 8) × (k < 4)) × Small n (boundOf k) g
   sub-ready back k g b m = ((size-fits, b .below), rw (e, b .bound) m)
 
-  pub mix-ready : (top poly : ℕ) (g : Grid) → top ≡ 2 ^ p .s → poly ≡ p .poly → Small (p .d) (2 ^ p .s) g
-      → Modulus top poly × (((0 < n) × (n ≤ 8)) × Small n top g)
-  mix-ready top poly g et ep m = (rw (et, ep) (modulus p h), ((omega (arith, h .pos), size-fits), rw (e, et) m))
+  some-bits : 1 ≤ p .s
+  some-bits = ⊎-elim (λ l. omega (arith, h .nibble, pow-mono {i = p .s} {j = 0} (omega arith))) (λ l. l) (lt-or-le (p .s) 1)
+
+  most-bits : p .s ≤ 8
+  most-bits = ⊎-elim (λ l. omega arith) (λ l. omega (arith, h .narrow, pow-mono {i = 9} {j = p .s} l)) (lt-or-le (p .s) 9)
+
+  pub mix-ready : (s poly : ℕ) (g : Grid) (z z′ : List ℕ) (wide : Bool) → s ≡ p .s → poly ≡ p .poly → cells (p .d) z ≡ z′ → Narrow (p .d) z′ wide
+      → Small (p .d) (2 ^ p .s) g → Mixing n s poly × (Narrow n z wide × Small n (2 ^ s) g)
+  mix-ready s poly g z z′ wide es ep ez w m = (
+    record {
+      some = omega (arith, h .pos);
+      most = size-fits;
+      bits = omega (arith, some-bits);
+      byte = omega (arith, most-bits);
+      modulus = rw (es, ep) (modulus p h);
+    },
+    (
+      record {
+        nibble = λ o i hi.
+            let hd : i < p .d = omega arith in
+            subst (λ (x : ℕ). x < 16) (ap (λ (l : List ℕ). getD l i 0) (sym ez) ∙ getD-tab (p .d) (λ k. getD z k 0) i 0 hd) (w .nibble o i hd);
+      },
+      rw (e, es) m,
+    ),
+  )
 
 -- the rows in reverse are as small
 pub flip-small : (d top : ℕ) (g f : Grid) → window d f ≡ reverse (window d g) → Small d top g → Small d top f
@@ -63,7 +88,3 @@ flip-small d top g f e m =
           ∙ ap (λ (row : List ℕ). getD row j 0) (getD-reverse (window d g) i [] (omega (arith, q .rows)))))
           (window-small d top g m .cell (length (window d g) - 1 - i) j (omega (arith, q .rows)) hj);
     })
-
-pub turn-fits : (back : Bool) (n : ℕ) → n ≤ 8 → cond back (n - 1) 1 ≤ 8
-turn-fits true n h = omega arith
-turn-fits false n h = omega arith

@@ -2,15 +2,16 @@
 // Each step serves both directions: `back` asks for the inverse.
 ghost use mathlib.Core.Path.{_≡_};
 ghost use mathlib.Core.Bool.{cond};
-ghost use mathlib.Core.List.{map, reverse};
+ghost use mathlib.Core.List.{reverse};
 ghost use Prim.Native.Nat.{ℕ, _+_, _-_, _*_, _%_, _^_, _≤_, _<_};
-ghost use lib.ListN.{getD};
+ghost use lib.ListN.{getD, length};
 ghost use lib.Dec.{eqb};
-ghost use Rattle.standard.specs.Rounds.{direction, inTurn, iterate};
-ghost use Rattle.standard.specs.Grid.{at, cells, window, transpose, Small};
-ghost use Rattle.standard.specs.Field.{double, mul, dot, Modulus};
-ghost use Rattle.standard.specs.Photon.{addConstants, subCells, shiftRows, serial, mixColumns, unmixColumns, roundConstants, photonRound, photonRounds};
+ghost use Rattle.standard.specs.Rounds.{direction, inTurn};
+ghost use Rattle.standard.specs.Grid.{at, cells, window, Small};
+ghost use Rattle.standard.specs.Field.{double, dot, Modulus};
+ghost use Rattle.standard.specs.Photon.{addConstants, subCells, shiftRows, mixColumns, unmixColumns, roundConstants, photonRound, photonRounds};
 ghost use Rattle.photon.specs.Parameters.{photonOf, boxOf, boundOf, BoxNumber};
+ghost use Rattle.photon.specs.Rows.{lane, columnFrom, withoutLow, Mixing, Narrow, SmallRows};
 
 mod boxes; // boxes.rt: the S-boxes and their inverses
 
@@ -21,6 +22,8 @@ use boxes::UNPRESENT;
 
 // The tables below have an entry for each variant, 1 to 5. A row of fewer than eight cells is filled with zeros.
 const SIZE: [usize; 5] = [5, 6, 7, 8, 6];
+
+const BITS: [u8; 5] = [4, 4, 4, 4, 8];
 
 const TOP: [u16; 5] = [16, 16, 16, 16, 256];
 
@@ -64,6 +67,14 @@ pub fn size_of(v: usize) -> usize
     SIZE[v - 1]
 }
 
+// The number of bits of a cell.
+fn bits_of(v: usize) -> u8
+    requires { ⌜ (1 ≤ v) × (v ≤ 5) ⌝ }
+    ensures { λ r. ⌜ r ≡ photonOf v .s ⌝ }
+{
+    BITS[v - 1]
+}
+
 // The bound of a cell: 2 to the number of its bits.
 pub fn top_of(v: usize) -> u16
     requires { ⌜ (1 ≤ v) × (v ≤ 5) ⌝ }
@@ -100,6 +111,14 @@ fn coefficients(v: usize, back: bool) -> [u8; 8]
     if back { UNZ[v - 1] } else { Z[v - 1] }
 }
 
+// Whether a coefficient has more than four bits.
+fn wide_coefficients(v: usize, back: bool) -> bool
+    requires { ⌜ (1 ≤ v) × (v ≤ 5) ⌝ }
+    ensures { λ r. ⌜ Narrow (photonOf v .d) (cond back (photonOf v .unz) (photonOf v .z)) r ⌝ }
+{
+    back && v == 5
+}
+
 // The constant of round n: the inverse begins with the last.
 fn round_constant(n: usize, back: bool) -> u8
     requires { ⌜ n < 12 ⌝ }
@@ -118,50 +137,51 @@ fn wide(x: u8) -> usize
     x as usize
 }
 
-// An entry of an S-box: 0 and 1 are the 4-bit box and its inverse, 2 and 3 the 8-bit box and its inverse.
-fn lookup(kind: u8, x: u8) -> u8
-    requires { ⌜ (kind < 4) × (x < boundOf kind) ⌝ }
-    ensures { λ r. ⌜ r ≡ getD (boxOf kind) x 0 ⌝ }
-{
-    let i = wide(x);
-    if kind == 0 {
-        return PRESENT[i];
-    }
-    if kind == 1 {
-        return UNPRESENT[i];
-    }
-    if kind == 2 {
-        return AES[i];
-    }
-    UNAES[i]
-}
-
-fn sub_row(kind: u8, row: [u8; 8], d: usize) -> [u8; 8]
-    requires { ⌜ (d ≤ 8) × (kind < 4) ⌝ }
-    requires { ⌜ ((j : ℕ) → j < d → getD row j 0 < boundOf kind) ⌝ }
-    ensures { λ r. ⌜ ((j : ℕ) → j < d → getD r j 0 ≡ getD (boxOf kind) (getD row j 0) 0) ⌝ }
+fn sub_row(table: &[u8], row: [u8; 8], d: usize) -> [u8; 8]
+    requires { ⌜ d ≤ 8 ⌝ }
+    requires { ⌜ ((j : ℕ) → j < d → getD row j 0 < length (now table)) ⌝ }
+    ensures { λ r. ⌜ ((j : ℕ) → j < d → getD r j 0 ≡ getD (now (table .entry)) (getD row j 0) 0) ⌝ }
 {
     let mut out = row;
     let mut j = 0;
     while j < d {
-        out[j] = lookup(kind, out[j]);
+        let k = wide(out[j]);
+        out[j] = table[k];
         j += 1;
     }
     out
 }
 
+fn sub_rows(table: &[u8], g: [[u8; 8]; 8], d: usize) -> [[u8; 8]; 8]
+    requires { ⌜ d ≤ 8 ⌝ }
+    requires { ⌜ Small d (length (now table)) g ⌝ }
+    ensures { λ r. ⌜ window d r ≡ subCells d (now (table .entry)) (window d g) ⌝ }
+{
+    let mut out = g;
+    let mut i = 0;
+    while i < d {
+        out[i] = sub_row(table, out[i], d);
+        i += 1;
+    }
+    out
+}
+
+// By an S-box of this number: 0 and 1 are the 4-bit box and its inverse, 2 and 3 the 8-bit box and its inverse.
 fn sub_cells(kind: u8, g: [[u8; 8]; 8], d: usize) -> [[u8; 8]; 8]
     requires { ⌜ (d ≤ 8) × (kind < 4) ⌝ }
     requires { ⌜ Small d (boundOf kind) g ⌝ }
     ensures { λ r. ⌜ window d r ≡ subCells d (boxOf kind) (window d g) ⌝ }
 {
-    let mut out = g;
-    let mut i = 0;
-    while i < d {
-        out[i] = sub_row(kind, out[i], d);
-        i += 1;
+    if kind == 0 {
+        return sub_rows(&PRESENT, g, d);
     }
-    out
+    if kind == 1 {
+        return sub_rows(&UNPRESENT, g, d);
+    }
+    if kind == 2 {
+        return sub_rows(&AES, g, d);
+    }
+    sub_rows(&UNAES, g, d)
 }
 
 fn add_constants(g: [[u8; 8]; 8], d: usize, rc: u8, ic: [u8; 8]) -> [[u8; 8]; 8]
@@ -177,157 +197,189 @@ fn add_constants(g: [[u8; 8]; 8], d: usize, rc: u8, ic: [u8; 8]) -> [[u8; 8]; 8]
     out
 }
 
-// The row turned left by `by` places.
-fn turn_row(row: [u8; 8], d: usize, by: usize) -> [u8; 8]
-    requires { ⌜ (d ≤ 8) × (by ≤ 64) ⌝ }
-    ensures { λ r. ⌜ ((j : ℕ) → j < d → getD r j 0 ≡ getD row ((j + by) % d) 0) ⌝ }
+fn wide64(x: u8) -> u64
+    ensures { λ r. ⌜ r ≡ x ⌝ }
 {
-    let mut out = row;
+    x as u64
+}
+
+// A row as one number, so that a sum or a doubling works on its eight cells at once.
+fn packed(row: [u8; 8]) -> u64
+    ensures { λ r. ⌜ ((j : ℕ) → j < 8 → lane j r ≡ getD row j 0) ⌝ }
+{
+    let mut out: u64 = 0;
     let mut j = 0;
-    while j < d {
-        let k = (j + by) % d;
-        out[j] = row[k];
+    while j < 8 {
+        out = out * 256 + wide64(row[7 - j]);
         j += 1;
     }
     out
 }
 
-fn shift_rows(g: [[u8; 8]; 8], d: usize, m: usize) -> [[u8; 8]; 8]
-    requires { ⌜ (d ≤ 8) × (m ≤ 8) ⌝ }
-    ensures { λ r. ⌜ window d r ≡ shiftRows d m (window d g) ⌝ }
+fn low_cell(x: u64) -> u8
+    ensures { λ r. ⌜ r ≡ x % 256 ⌝ }
+{
+    (x % 256) as u8
+}
+
+fn unpacked(x: u64) -> [u8; 8]
+    ensures { λ r. ⌜ ((j : ℕ) → j < 8 → getD r j 0 ≡ lane j x) ⌝ }
+{
+    let mut out = [0u8; 8];
+    let mut rest = x;
+    let mut j = 0;
+    while j < 8 {
+        out[j] = low_cell(rest);
+        rest = rest / 256;
+        j += 1;
+    }
+    out
+}
+
+// The first d cells of a row turned left by `by` places.
+fn turned(x: u64, d: usize, by: usize) -> u64
+    requires { ⌜ (0 < by) × (by < d) ⌝ }
+    requires { ⌜ d ≤ 8 ⌝ }
+    ensures { λ r. ⌜ ((j : ℕ) → j < d → lane j r ≡ lane ((j + by) % d) x) ⌝ }
+{
+    let top = x << (8 * (8 - d));
+    (top >> (8 * (8 - d + by))) ^ (x << (8 * (d - by)))
+}
+
+fn turn_row(row: [u8; 8], d: usize, by: usize) -> [u8; 8]
+    requires { ⌜ (0 < by) × (by < d) ⌝ }
+    requires { ⌜ d ≤ 8 ⌝ }
+    ensures { λ r. ⌜ ((j : ℕ) → j < d → getD r j 0 ≡ getD row ((j + by) % d) 0) ⌝ }
+{
+    let x = packed(row);
+    let y = turned(x, d, by);
+    unpacked(y)
+}
+
+// By how many places row i turns: the inverse turns on to where the row began.
+fn turn_of(d: usize, i: usize, back: bool) -> usize
+    requires { ⌜ i ≤ d ⌝ }
+    ensures { λ r. ⌜ r ≡ cond back (d - i) i ⌝ }
+{
+    if back { d - i } else { i }
+}
+
+// Row 0 stays as it is.
+fn shift_rows(g: [[u8; 8]; 8], d: usize, back: bool) -> [[u8; 8]; 8]
+    requires { ⌜ (0 < d) × (d ≤ 8) ⌝ }
+    ensures { λ r. ⌜ window d r ≡ shiftRows d (cond back (d - 1) 1) (window d g) ⌝ }
 {
     let mut out = g;
-    let mut i = 0;
+    let mut i = 1;
     while i < d {
-        out[i] = turn_row(out[i], d, m * i);
+        let by = turn_of(d, i, back);
+        out[i] = turn_row(out[i], d, by);
         i += 1;
     }
     out
 }
 
-fn wide16(x: u8) -> u16
-    ensures { λ r. ⌜ r ≡ x ⌝ }
+fn reduction(poly: u16) -> u64
+    ensures { λ r. ⌜ r ≡ poly % 256 ⌝ }
 {
-    x as u16
+    (poly % 256) as u64
 }
 
-// x times the variable. It does not branch on the cell, since such a branch is guessed wrong half of the time:
-// `over` is 1 where the double runs over, and else 0.
-fn twice(top: u16, poly: u16, x: u16) -> u16
-    requires { ⌜ (x < top) × (top ≤ 256) ⌝ }
-    ensures { λ r. ⌜ r ≡ double top poly x ⌝ }
+// Each cell of a row times the variable: shifted by one bit and, where its highest bit was set, reduced by the polynomial.
+// It does not branch on a cell, since such a branch is guessed wrong half of the time.
+fn doubled(x: u64, s: u8, poly: u16) -> u64
+    requires { ⌜ (1 ≤ s) × (s ≤ 8) ⌝ }
+    requires { ⌜ Modulus (2 ^ s) poly ⌝ }
+    ensures { λ r. ⌜ ((j : ℕ) → j < 8 → lane j x < 2 ^ s → lane j r ≡ double (2 ^ s) poly (lane j x)) ⌝ }
 {
-    let y = x * 2;
-    let over = (y + 32768 - top) / 32768;
-    y ^ (over * poly)
+    let over = (x >> (s - 1)) & 0x0101010101010101;
+    ((x & 0x7f7f7f7f7f7f7f7f) * 2) ^ (over * reduction(poly))
 }
 
 // x where the lowest bit of a is set, and else 0.
-fn low_bit(a: u16, x: u16) -> u16
+fn low_bit(a: u8, x: u64) -> u64
     ensures { λ r. ⌜ r ≡ cond (eqb (a % 2) 1) x 0 ⌝ }
 {
     if a % 2 == 1 { x } else { 0 }
 }
 
-// The product in the field. It ends at the highest bit of a, so that a small coefficient is cheap.
-fn product(top: u16, poly: u16, a: u8, x: u8) -> u8
-    requires { ⌜ Modulus top poly ⌝ }
-    requires { ⌜ x < top ⌝ }
-    ensures { λ r. ⌜ r ≡ mul top poly a x ⌝ }
+// The sum of coefficient times row, over the d rows from row n on, with the b lowest bits of each coefficient left out.
+// `high` is that sum with four bits more left out. For each of the four the rows whose coefficient has that bit are summed;
+// from the highest bit down, what there is is doubled and the bit's sum added.
+fn nibble_sum(
+    rows: &[u64; 16],
+    n: usize,
+    d: usize,
+    s: u8,
+    poly: u16,
+    z: [u8; 8],
+    b: u8,
+    high: u64,
+) -> u64
+    requires { ⌜ Mixing d s poly ⌝ }
+    requires { ⌜ (n ≤ 8) × (b < 8) ⌝ }
+    requires { ⌜ SmallRows d (2 ^ s) (now rows) n ⌝ }
+    requires { ⌜ ((j : ℕ) → j < d → lane j high ≡ dot (2 ^ s) poly (withoutLow d (b + 4) z) (columnFrom d (now rows) n j)) ⌝ }
+    ensures { λ r. ⌜ ((j : ℕ) → j < d → lane j r ≡ dot (2 ^ s) poly (withoutLow d b z) (columnFrom d (now (rows .entry)) n j)) ⌝ }
 {
-    let mut sum: u16 = 0;
-    let mut rest = wide16(a);
-    let mut term = wide16(x);
-    while 0 < rest {
-        sum = sum ^ low_bit(rest, term);
-        term = twice(top, poly, term);
-        rest = rest / 2;
-    }
-    sum as u8
-}
-
-fn dot_product(top: u16, poly: u16, d: usize, z: [u8; 8], c: [u8; 8]) -> u8
-    requires { ⌜ Modulus top poly ⌝ }
-    requires { ⌜ d ≤ 8 ⌝ }
-    requires { ⌜ ((j : ℕ) → j < d → getD c j 0 < top) ⌝ }
-    ensures { λ r. ⌜ r ≡ dot top poly (cells d z) (cells d c) ⌝ }
-{
-    let mut sum: u8 = 0;
-    let mut j = 0;
-    while j < d {
-        sum = sum ^ product(top, poly, z[j], c[j]);
-        j += 1;
-    }
-    sum
-}
-
-// Every cell of the first d moves up one; the last stays.
-fn tail_row(c: [u8; 8], d: usize) -> [u8; 8]
-    requires { ⌜ (0 < d) × (d ≤ 8) ⌝ }
-    ensures { λ r. ⌜ ((j : ℕ) → j < d - 1 → getD r j 0 ≡ getD c (j + 1) 0) ⌝ }
-{
-    let mut out = c;
-    let end = d - 1;
-    let mut j = 0;
-    while j < end {
-        out[j] = c[j + 1];
-        j += 1;
-    }
-    out
-}
-
-fn serial_step(top: u16, poly: u16, d: usize, z: [u8; 8], c: [u8; 8]) -> [u8; 8]
-    requires { ⌜ Modulus top poly ⌝ }
-    requires { ⌜ (0 < d) × (d ≤ 8) ⌝ }
-    requires { ⌜ ((j : ℕ) → j < d → getD c j 0 < top) ⌝ }
-    ensures { λ r. ⌜ cells d r ≡ serial top poly (cells d z) (cells d c) ⌝ }
-{
-    let last = dot_product(top, poly, d, z, c);
-    let mut out = tail_row(c, d);
-    let end = d - 1;
-    out[end] = last;
-    out
-}
-
-fn mix_column(top: u16, poly: u16, d: usize, z: [u8; 8], c: [u8; 8]) -> [u8; 8]
-    requires { ⌜ Modulus top poly ⌝ }
-    requires { ⌜ (0 < d) × (d ≤ 8) ⌝ }
-    requires { ⌜ ((j : ℕ) → j < d → getD c j 0 < top) ⌝ }
-    ensures { λ r. ⌜ cells d r ≡ iterate d (serial top poly (cells d z)) (cells d c) ⌝ }
-{
-    let mut out = c;
-    let mut n = 0;
-    while n < d {
-        let next = serial_step(top, poly, d, z, out);
-        out = next;
-        n += 1;
-    }
-    out
-}
-
-// Column j as a row.
-fn column(g: [[u8; 8]; 8], d: usize, j: usize) -> [u8; 8]
-    requires { ⌜ (d ≤ 8) × (j < 8) ⌝ }
-    ensures { λ r. ⌜ ((i : ℕ) → i < d → getD r i 0 ≡ at g i j) ⌝ }
-{
-    let mut out = [0u8; 8];
+    let mut s0: u64 = 0;
+    let mut s1: u64 = 0;
+    let mut s2: u64 = 0;
+    let mut s3: u64 = 0;
     let mut i = 0;
     while i < d {
-        out[i] = g[i][j];
+        let c0 = z[i] >> b;
+        let c1 = c0 / 2;
+        let c2 = c1 / 2;
+        let c3 = c2 / 2;
+        let row = rows[n + i];
+        s0 = s0 ^ low_bit(c0, row);
+        s1 = s1 ^ low_bit(c1, row);
+        s2 = s2 ^ low_bit(c2, row);
+        s3 = s3 ^ low_bit(c3, row);
+        i += 1;
+    }
+    let t3 = s3 ^ doubled(high, s, poly);
+    let t2 = s2 ^ doubled(t3, s, poly);
+    let t1 = s1 ^ doubled(t2, s, poly);
+    s0 ^ doubled(t1, s, poly)
+}
+
+// The sum of coefficient times row, over the d rows from row n on. `wide` says that some coefficient has more than four bits.
+fn row_sum(rows: &[u64; 16], n: usize, d: usize, s: u8, poly: u16, z: [u8; 8], wide: bool) -> u64
+    requires { ⌜ Mixing d s poly ⌝ }
+    requires { ⌜ (n ≤ 8) × Narrow d z wide ⌝ }
+    requires { ⌜ SmallRows d (2 ^ s) (now rows) n ⌝ }
+    ensures { λ r. ⌜ ((j : ℕ) → j < d → lane j r ≡ dot (2 ^ s) poly (cells d z) (columnFrom d (now (rows .entry)) n j)) ⌝ }
+{
+    if wide {
+        let high = nibble_sum(rows, n, d, s, poly, z, 4, 0);
+        return nibble_sum(rows, n, d, s, poly, z, 0, high);
+    }
+    nibble_sum(rows, n, d, s, poly, z, 0, 0)
+}
+
+fn packed_rows(g: [[u8; 8]; 8]) -> [u64; 16]
+    ensures { λ r. ⌜ ((i j : ℕ) → i < 8 → j < 8 → lane j (getD r i 0) ≡ at g i j) ⌝ }
+{
+    let mut out = [0u64; 16];
+    let mut i = 0;
+    while i < 8 {
+        out[i] = packed(g[i]);
         i += 1;
     }
     out
 }
 
-// Rows become columns.
-fn turned(g: [[u8; 8]; 8], d: usize) -> [[u8; 8]; 8]
+// The rows from row d on.
+fn unpacked_rows(rows: [u64; 16], d: usize) -> [[u8; 8]; 8]
     requires { ⌜ d ≤ 8 ⌝ }
-    ensures { λ r. ⌜ window d r ≡ transpose d (window d g) ⌝ }
+    ensures { λ r. ⌜ ((i j : ℕ) → i < 8 → j < 8 → at r i j ≡ lane j (getD rows (d + i) 0)) ⌝ }
 {
-    let mut out = g;
+    let mut out = [[0u8; 8]; 8];
     let mut i = 0;
-    while i < d {
-        out[i] = column(g, d, i);
+    while i < 8 {
+        out[i] = unpacked(rows[d + i]);
         i += 1;
     }
     out
@@ -348,30 +400,20 @@ fn flipped(g: [[u8; 8]; 8], d: usize) -> [[u8; 8]; 8]
     out
 }
 
-fn mix_rows(g: [[u8; 8]; 8], top: u16, poly: u16, d: usize, z: [u8; 8]) -> [[u8; 8]; 8]
-    requires { ⌜ Modulus top poly ⌝ }
-    requires { ⌜ (0 < d) × (d ≤ 8) ⌝ }
-    requires { ⌜ Small d top g ⌝ }
-    ensures { λ r. ⌜ window d r ≡ map (iterate d (serial top poly (cells d z))) (window d g) ⌝ }
+// Behind the d rows of the matrix stand those of the steps: each step moves the rows up by one, so its last row is the only new one.
+fn mix_columns(g: [[u8; 8]; 8], d: usize, s: u8, poly: u16, z: [u8; 8], wide: bool) -> [[u8; 8]; 8]
+    requires { ⌜ Mixing d s poly ⌝ }
+    requires { ⌜ Narrow d z wide ⌝ }
+    requires { ⌜ Small d (2 ^ s) g ⌝ }
+    ensures { λ r. ⌜ window d r ≡ mixColumns (2 ^ s) poly d (cells d z) (window d g) ⌝ }
 {
-    let mut out = g;
-    let mut i = 0;
-    while i < d {
-        out[i] = mix_column(top, poly, d, z, out[i]);
-        i += 1;
+    let mut rows = packed_rows(g);
+    let mut n = 0;
+    while n < d {
+        rows[n + d] = row_sum(&rows, n, d, s, poly, z, wide);
+        n += 1;
     }
-    out
-}
-
-fn mix_columns(g: [[u8; 8]; 8], top: u16, poly: u16, d: usize, z: [u8; 8]) -> [[u8; 8]; 8]
-    requires { ⌜ Modulus top poly ⌝ }
-    requires { ⌜ (0 < d) × (d ≤ 8) ⌝ }
-    requires { ⌜ Small d top g ⌝ }
-    ensures { λ r. ⌜ window d r ≡ mixColumns top poly d (cells d z) (window d g) ⌝ }
-{
-    let t = turned(g, d);
-    let m = mix_rows(t, top, poly, d, z);
-    turned(m, d)
+    unpacked_rows(rows, d)
 }
 
 // AddConstants of a variant.
@@ -395,22 +437,13 @@ pub fn cells_substituted(v: usize, g: [[u8; 8]; 8], back: bool) -> [[u8; 8]; 8]
     sub_cells(kind, g, d)
 }
 
-// The factor of ShiftRows: row i turns by that many times i places, and the inverse turns on to where the row began.
-fn turn_factor(d: usize, back: bool) -> usize
-    requires { ⌜ 0 < d ⌝ }
-    ensures { λ r. ⌜ r ≡ cond back (d - 1) 1 ⌝ }
-{
-    if back { d - 1 } else { 1 }
-}
-
 // ShiftRows of a variant, or its inverse.
 pub fn rows_shifted(v: usize, g: [[u8; 8]; 8], back: bool) -> [[u8; 8]; 8]
     requires { ⌜ (1 ≤ v) × (v ≤ 5) ⌝ }
     ensures { λ r. ⌜ window (photonOf v .d) r ≡ shiftRows (photonOf v .d) (cond back (photonOf v .d - 1) 1) (window (photonOf v .d) g) ⌝ }
 {
     let d = size_of(v);
-    let m = turn_factor(d, back);
-    shift_rows(g, d, m)
+    shift_rows(g, d, back)
 }
 
 // MixColumnsSerial of a variant.
@@ -420,10 +453,10 @@ pub fn columns_mixed(v: usize, g: [[u8; 8]; 8], back: bool) -> [[u8; 8]; 8]
     ensures { λ r. ⌜ window (photonOf v .d) r ≡ mixColumns (2 ^ photonOf v .s) (photonOf v .poly) (photonOf v .d) (cond back (photonOf v .unz) (photonOf v .z)) (window (photonOf v .d) g) ⌝ }
 {
     let d = size_of(v);
-    let top = top_of(v);
+    let s = bits_of(v);
     let poly = poly_of(v);
     let z = coefficients(v, back);
-    mix_columns(g, top, poly, d, z)
+    mix_columns(g, d, s, poly, z, wide_coefficients(v, back))
 }
 
 // The inverse of MixColumnsSerial: the same on the rows from the bottom up, with its own coefficients.

@@ -38,9 +38,9 @@ module _ (m : List ℕ) (n : ℕ) where
       let four : 4 ≤ length (drop (4 * n) B) = omega (arith, length-drop (4 * n) B) in
       ap (valueOf high-first)
       (ap (filled 4) d
-        ∙ filled-take 4 (drop (4 * n) B ++ true ∷ []) (omega (arith, length-append (drop (4 * n) B) (true ∷ [])))
-        ∙ take-append-le 4 (drop (4 * n) B) (true ∷ []) four
-        ∙ ap (λ (k : ℕ). take 4 (drop k B)) e)
+      ∙ filled-take 4 (drop (4 * n) B ++ true ∷ []) (omega (arith, length-append (drop (4 * n) B) (true ∷ [])))
+      ∙ take-append-le 4 (drop (4 * n) B) (true ∷ []) four
+      ∙ ap (λ (k : ℕ). take 4 (drop k B)) e)
 
   pub half-even : ((i : ℕ) → getD m i 0 < 256) → n / 2 < length m → n % 2 ≡ 0 → getD m (n / 2) 0 / 16 ≡ halfAt m n
   half-even hb h z = sym (inside h ∙ cell-even m hb n h z)
@@ -57,7 +57,7 @@ module _ (m : List ℕ) (n : ℕ) where
   pub half-past : 2 * length m < n → 0 ≡ halfAt m n
   half-past h =
       sym (ap (λ (l : List Bool). valueOf high-first (filled 4 l))
-        (drop-of-length-le (marked m) {i = 4 * n} (omega (arith, length-append (bitsIn high-first m) (true ∷ []), length-bitsIn high-first m)))
+      (drop-of-length-le (marked m) {i = 4 * n} (omega (arith, length-append (bitsIn high-first m) (true ∷ []), length-bitsIn high-first m)))
       ∙ filled-nothing 4)
 
 pub half-lt : (m : List ℕ) (n : ℕ) → halfAt m n < 16
@@ -106,7 +106,7 @@ padded-filled r pos m =
     let lL : L ≡ (length B / r + 1) * r = length-padded r pos B in
     let lm : length (marked m) ≡ length B + 1 = length-append B (true ∷ []) in
     let zeros : r - 1 - length B % r ≡ L - length (marked m) =
-        omega (arith, div-add-mod' (length B) r, mod-lt (length B) {m = r} pos, add-mul (length B / r) 1 r) in
+    omega (arith, div-add-mod' (length B) r, mod-lt (length B) {m = r} pos, add-mul (length B / r) 1 r) in
     spread r B
     ∙ ap (λ (k : ℕ). marked m ++ replicate k false) zeros
     ∙ sym (filled-short L (marked m) (omega (arith, div-add-mod' (length B) r, mod-lt (length B) {m = r} pos, add-mul (length B / r) 1 r)))
@@ -137,12 +137,12 @@ module _ (H : Variant) (q : ℕ) (eq : 4 * q ≡ H .r) (pos : 0 < H .r) (m : Lis
   block-half i h =
       let Pd : List Bool = padded (H .r) (bitsIn high-first m) in
       let place : 4 * (j * q + i) ≡ j * H .r + 4 * i =
-          omega (arith, times-four j q, ap (λ (n : ℕ). j * n) eq) in
+      omega (arith, times-four j q, ap (λ (n : ℕ). j * n) eq) in
       bitsOf-valueOf high-first 4 (filled 4 (drop (4 * (j * q + i)) (marked m))) (length-filled 4 _)
       ∙ sym (ap (λ (b : List Bool). take 4 (drop (4 * i) b)) block-is
-        ∙ take-drop-take (4 * i) 4 (H .r) (drop (j * H .r) Pd) (omega arith)
-        ∙ ap (take 4) (drop-drop (4 * i) (j * H .r) Pd ∙ ap₂ drop (sym place) (padded-filled (H .r) pos m))
-        ∙ middle (4 * (j * q + i)) 4 (length Pd) (marked m) (omega (arith, room)))
+      ∙ take-drop-take (4 * i) 4 (H .r) (drop (j * H .r) Pd) (omega arith)
+      ∙ ap (take 4) (drop-drop (4 * i) (j * H .r) Pd ∙ ap₂ drop (sym place) (padded-filled (H .r) pos m))
+      ∙ middle (4 * (j * q + i)) 4 (length Pd) (marked m) (omega (arith, room)))
 
   -- one half byte more
   pub block-more : (i : ℕ) → i < q

@@ -15,7 +15,7 @@ use Rattle.standard.proofs.BitLaws.{length-xorInto}
 use Rattle.standard.proofs.Reordered.{length-reordered, reordered-undo}
 use Rattle.standard.proofs.OneBlock.{Lawful}
 use Rattle.standard.proofs.TakenBack.{difference-of, difference-back, before-length, wanted-length, leads-to, leads-from}
-use Rattle.recover.specs.Leading.{endStateWith, sameBits, leading}
+use Rattle.recover.specs.Leading.{endStateWith, sameBits, leading, OnlyLeads}
 use Rattle.recover.proofs.Passing.{same-refl, same-eq, passing-none, passing-one}
 
 module _ (H : Variant) (h : Lawful H) (m : List ℕ) (place : ℕ) (within : place < length (messageBlocks H m)) (s : List Bool) (ls : length s ≡ H .t) where
@@ -39,11 +39,11 @@ module _ (H : Variant) (h : Lawful H) (m : List ℕ) (place : ℕ) (within : pla
   lZ : length Z ≡ H .t
   lZ = wanted-length H h (startState H) (h .start-length) (messageBlocks H m) place within s ls
 
-  lD : length D ≡ H .t
-  lD = length-xorInto S Z ∙ lS
+  pub difference-length : length D ≡ H .t
+  difference-length = length-xorInto S Z ∙ lS
 
   front : length (take (H .r) D) ≡ H .r
-  front = length-take-le (H .r) D (omega (arith, lD, h .fits))
+  front = length-take-le (H .r) D (omega (arith, difference-length, h .fits))
 
   block-length : length B ≡ H .r
   block-length = length-reordered (order H) high-first (take (H .r) D) ∙ front
@@ -71,8 +71,8 @@ module _ (H : Variant) (h : Lawful H) (m : List ℕ) (place : ℕ) (within : pla
   leading-none n =
       passing-none (H .r) (λ b. sameBits (endStateWith H m place b) s)
       (λ b l q. n
-        (let c : List Bool = reordered high-first (order H) b in
-        ap (drop (H .r)) (tells b l (same-eq _ s q)) ∙ drop-at c _ (H .r) (length-reordered high-first (order H) b ∙ l)))
+      (let c : List Bool = reordered high-first (order H) b in
+      ap (drop (H .r)) (tells b l (same-eq _ s q)) ∙ drop-at c _ (H .r) (length-reordered high-first (order H) b ∙ l)))
 
   -- it does not: the block that it is leads there, and no other
   pub block-leads : drop (H .r) D ≡ replicate (H .t - H .r) false → endStateWith H m place B ≡ s
@@ -80,8 +80,8 @@ module _ (H : Variant) (h : Lawful H) (m : List ℕ) (place : ℕ) (within : pla
   block-leads z =
       leads-from H h (startState H) (h .start-length) (messageBlocks H m) place within s ls B
       (ap (xorInto S) (back (take (H .r) D) front)
-        ∙ difference-back S (take (H .r) D) Z (H .t - H .r) (lS ∙ sym lZ)
-          (sym (take-append-drop (H .r) D) ∙ ap (λ (l : List Bool). take (H .r) D ++ l) z))
+      ∙ difference-back S (take (H .r) D) Z (H .t - H .r) (lS ∙ sym lZ)
+      (sym (take-append-drop (H .r) D) ∙ ap (λ (l : List Bool). take (H .r) D ++ l) z))
 
   pub leading-one : drop (H .r) D ≡ replicate (H .t - H .r) false → leading H m place s ≡ B ∷ []
   unfolding leading
@@ -89,7 +89,23 @@ module _ (H : Variant) (h : Lawful H) (m : List ℕ) (place : ℕ) (within : pla
       passing-one (H .r) (λ b. sameBits (endStateWith H m place b) s) B block-length
       (ap (λ (x : List Bool). sameBits x s) (block-leads z) ∙ same-refl s)
       (λ c l q.
-        let k : List Bool = reordered high-first (order H) c in
-        sym (there c l)
-        ∙ ap (reordered (order H) high-first)
-          (sym (ap (take (H .r)) (tells c l (same-eq _ s q)) ∙ take-at k _ (H .r) (length-reordered high-first (order H) c ∙ l))))
+      let k : List Bool = reordered high-first (order H) c in
+      sym (there c l)
+      ∙ ap (reordered (order H) high-first)
+      (sym (ap (take (H .r)) (tells c l (same-eq _ s q)) ∙ take-at k _ (H .r) (length-reordered high-first (order H) c ∙ l))))
+
+  -- a block that leads there is the difference
+  pub leads-same : (c : List Bool) → length c ≡ H .r → endStateWith H m place c ≡ s → c ≡ B
+  leads-same c l e =
+      let k : List Bool = reordered high-first (order H) c in
+      sym (there c l)
+      ∙ ap (reordered (order H) high-first)
+      (sym (ap (take (H .r)) (tells c l e) ∙ take-at k _ (H .r) (length-reordered high-first (order H) c ∙ l)))
+
+  -- and the difference does not reach past it
+  pub leads-short : (c : List Bool) → length c ≡ H .r → endStateWith H m place c ≡ s → drop (H .r) D ≡ replicate (H .t - H .r) false
+  leads-short c l e =
+      ap (drop (H .r)) (tells c l e) ∙ drop-at (reordered high-first (order H) c) _ (H .r) (length-reordered high-first (order H) c ∙ l)
+
+  pub only : drop (H .r) D ≡ replicate (H .t - H .r) false → OnlyLeads H m place s B
+  only z = record { size = block-length; leads = block-leads z; others = λ c l n e. n (leads-same c l e) }

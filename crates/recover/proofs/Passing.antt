@@ -58,8 +58,8 @@ passing-none zero p h = go (p []) refl
 passing-none (suc n) p h =
     halves p n
     ∙ ap₂ (λ (x y : List (List Bool)). map (λ b. false ∷ b) x ++ map (λ b. true ∷ b) y)
-      (passing-none n (λ b. p (false ∷ b)) (λ b l. h (false ∷ b) (ap suc l)))
-      (passing-none n (λ b. p (true ∷ b)) (λ b l. h (true ∷ b) (ap suc l)))
+    (passing-none n (λ b. p (false ∷ b)) (λ b l. h (false ∷ b) (ap suc l)))
+    (passing-none n (λ b. p (true ∷ b)) (λ b l. h (true ∷ b) (ap suc l)))
 
 different : (x y : List Bool) → true ∷ x ≡ false ∷ y → ⊥
 different x y e = let z : _≡_ {A = Bool} true false = cc in let n : _≡_ {A = ℕ} 0 1 = cc in omega arith
@@ -72,10 +72,10 @@ passing-one (suc n) p [] l e h = absurd (suc-ne-zero n (sym l))
 passing-one (suc n) p (false ∷ b) l e h =
     halves p n
     ∙ ap₂ (λ (x y : List (List Bool)). map (λ b. false ∷ b) x ++ map (λ b. true ∷ b) y)
-      (passing-one n (λ c. p (false ∷ c)) b (suc-inj l) e (λ c k q. let z : false ∷ c ≡ false ∷ b = h (false ∷ c) (ap suc k) q in cc))
-      (passing-none n (λ c. p (true ∷ c)) (λ c k q. different c b (h (true ∷ c) (ap suc k) q)))
+    (passing-one n (λ c. p (false ∷ c)) b (suc-inj l) e (λ c k q. let z : false ∷ c ≡ false ∷ b = h (false ∷ c) (ap suc k) q in cc))
+    (passing-none n (λ c. p (true ∷ c)) (λ c k q. different c b (h (true ∷ c) (ap suc k) q)))
 passing-one (suc n) p (true ∷ b) l e h =
     halves p n
     ∙ ap₂ (λ (x y : List (List Bool)). map (λ b. false ∷ b) x ++ map (λ b. true ∷ b) y)
-      (passing-none n (λ c. p (false ∷ c)) (λ c k q. different b c (sym (h (false ∷ c) (ap suc k) q))))
-      (passing-one n (λ c. p (true ∷ c)) b (suc-inj l) e (λ c k q. let z : true ∷ c ≡ true ∷ b = h (true ∷ c) (ap suc k) q in cc))
+    (passing-none n (λ c. p (false ∷ c)) (λ c k q. different b c (sym (h (false ∷ c) (ap suc k) q))))
+    (passing-one n (λ c. p (true ∷ c)) b (suc-inj l) e (λ c k q. let z : true ∷ c ≡ true ∷ b = h (true ∷ c) (ap suc k) q in cc))

@@ -61,11 +61,11 @@ module _ (v : ℕ) (low : 1 ≤ v) (high : v ≤ 10) (m : List ℕ) where
       en
       ∙ ap₂ (λ (y z : List Bool). stateBytes H (step H y z)) (stored v low high s S (run-size j) es) (block-read j x l ex)
       ∙ ap (stateBytes H)
-        (sym (ap (λ (n : ℕ). run H (startState H) (take n bs)) (add-one j)
-          ∙ ap (run H (startState H)) (take-suc bs j [] l)
-          ∙ run-append H (startState H) (take j bs) (getD bs j [] ∷ [])
-          ∙ run-one H S (getD bs j []) []
-          ∙ run-none H (step H S (getD bs j []))))
+      (sym (ap (λ (n : ℕ). run H (startState H) (take n bs)) (add-one j)
+      ∙ ap (run H (startState H)) (take-suc bs j [] l)
+      ∙ run-append H (startState H) (take j bs) (getD bs j [] ∷ [])
+      ∙ run-one H S (getD bs j []) []
+      ∙ run-none H (step H S (getD bs j []))))
 
   -- ---- and back
 
@@ -86,8 +86,8 @@ module _ (v : ℕ) (low : 1 ≤ v) (high : v ≤ 10) (m : List ℕ) where
         en
         ∙ ap₂ (λ (y z : List Bool). stateBytes H (unstep H y z)) (stored v low high s S (unrun-size (j + 1)) es) (block-read j x l ex)
         ∙ ap (stateBytes H)
-          (sym (ap (unrun H e) (drop-cons bs j [] l ∙ ap (λ (n : ℕ). getD bs j [] ∷ drop n bs) (sym (add-one j)))
-            ∙ unrun-one H h e (getD bs j []) (drop (j + 1) bs)))
+        (sym (ap (unrun H e) (drop-cons bs j [] l ∙ ap (λ (n : ℕ). getD bs j [] ∷ drop n bs) (sym (add-one j)))
+        ∙ unrun-one H h e (getD bs j []) (drop (j + 1) bs)))
 
 -- ---- two states xored
 
@@ -99,9 +99,9 @@ states-xored v low high p q x S Z lS lZ hx lx ep eq ex =
     let t : ℕ = variant v .t in
     let small : t ≤ 288 = bounds v low high .state-most in
     let bits : (y : List ℕ) (Y : List Bool) → length Y ≡ t → y ≡ pack o 36 Y → bitsIn o y ≡ Y ++ replicate (288 - t) false =
-        λ y Y l e. ap (bitsIn o) e ∙ packed-bits o 36 Y (omega arith) ∙ ap (λ (n : ℕ). Y ++ replicate (288 - n) false) l in
+    λ y Y l e. ap (bitsIn o) e ∙ packed-bits o 36 Y (omega arith) ∙ ap (λ (n : ℕ). Y ++ replicate (288 - n) false) l in
     holds o t small x (xorInto S Z) hx lx (length-xorInto S Z ∙ lS)
     (ex o
-      ∙ ap₂ xorInto (bits p S lS ep) (bits q Z lZ eq)
-      ∙ xorInto-append S (replicate (288 - t) false) Z (replicate (288 - t) false) (lS ∙ sym lZ)
-      ∙ ap (λ (l : List Bool). xorInto S Z ++ l) (xorInto-zeros (replicate (288 - t) false) (288 - t)))
+    ∙ ap₂ xorInto (bits p S lS ep) (bits q Z lZ eq)
+    ∙ xorInto-append S (replicate (288 - t) false) Z (replicate (288 - t) false) (lS ∙ sym lZ)
+    ∙ ap (λ (l : List Bool). xorInto S Z ++ l) (xorInto-zeros (replicate (288 - t) false) (288 - t)))

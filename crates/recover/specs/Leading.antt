@@ -1,9 +1,10 @@
 -- The blocks that, put at a place of a message, lead to a given end state (document 01: the lost block).
 -- Assumes nothing.
+use mathlib.Core.Path.{_≡_}
 use mathlib.Core.Bool.{Bool, true, false, cond, not, xor, _&&_}
 use mathlib.Core.List.{List, [], _∷_, _++_, map}
 use Prim.Native.Nat.{ℕ, zero, suc}
-use lib.ListN.{set}
+use lib.ListN.{length, set}
 use Rattle.standard.specs.Sponge.{Variant, startState, messageBlocks, run}
 
 -- the end state of a message with the block b at a place among its padded blocks; its own block there is ignored
@@ -30,3 +31,13 @@ passing p (b ∷ bs) = cond (p b) (b ∷ passing p bs) (passing p bs)
 -- A block leads to the state s if it makes s the end state. These are all blocks of r bits that do.
 unfoldable pub leading : Variant → List ℕ → ℕ → List Bool → List (List Bool)
 leading H m place s = passing (λ b. sameBits (endStateWith H m place b) s) (allBits (H .r))
+
+-- no block leads to the state s
+abbrev pub NoneLeads : Variant → List ℕ → ℕ → List Bool → Type 0
+NoneLeads H m place s = (b : List Bool) → length b ≡ H .r → endStateWith H m place b ≡ s → ⊥
+
+-- b leads to the state s, and every other block leads to another state
+pub record OnlyLeads (H : Variant) (m : List ℕ) (place : ℕ) (s b : List Bool) : Type 0 where
+  pub size : length b ≡ H .r
+  pub leads : endStateWith H m place b ≡ s
+  pub others : (c : List Bool) → length c ≡ H .r → (c ≡ b → ⊥) → endStateWith H m place c ≡ s → ⊥

@@ -1,8 +1,9 @@
 -- The operation that finds the block: its refusals in order, and the caller's output.
 -- Assumes nothing.
+use mathlib.Core.Path.{_≡_}
 use mathlib.Core.Bool.{Bool, true, false, cond, not}
 use mathlib.Core.List.{List, [], _∷_, headD}
-use Prim.Native.Nat.{ℕ}
+use Prim.Native.Nat.{ℕ, _≤_, _<_}
 use lib.Dec.{ltb}
 use lib.ListN.{length}
 use Rattle.standard.specs.Bits.{high-first, pack, bytesFor}
@@ -40,3 +41,11 @@ recoveredBlock v m place image = pack high-first (blockSize (variant v)) (headD 
 
 unfoldable pub recoverInto : ℕ → List ℕ → ℕ → List ℕ → List ℕ → List ℕ
 recoverInto v m place image out = written (recoverStatus v m place image (length out)) (recoveredBlock v m place image) out
+
+-- a call whose checks before the last have passed
+pub record Asked (v : ℕ) (m : List ℕ) (place : ℕ) (image : List ℕ) (n : ℕ) : Type 0 where
+  pub variant-known : known v ≡ true
+  pub message-short : length m ≤ most
+  pub place-within : place < length (messageBlocks (variant v) m)
+  pub image-good : isImage (variant v) image ≡ true
+  pub output-long : blockSize (variant v) ≤ n

@@ -11,7 +11,6 @@ ghost use Rattle.standard.specs.Variants.{variant};
 ghost use Rattle.sponge.specs.Layout.{stateBytes, blockBytes};
 ghost use Rattle.hasher.specs.Running.{most};
 ghost use Rattle.recover.specs.Recovering.{blockSize, recoverStatus, recoverInto};
-
 use sponge::Status;
 
 const MOST: usize = 16777215;

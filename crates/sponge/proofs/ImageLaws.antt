@@ -71,7 +71,7 @@ module _ (v : ℕ) (low : 1 ≤ v) (high : v ≤ 10) (bytes : List ℕ) where
     image-held =
         ex
         ∙ front-holds (order (variant v)) (variant v .t) (b .state-most) bytes (imageBytes (variant v)) refl (image-length e)
-          (λ i. subst (λ (y : List ℕ). getD y i 0 < 256) ex (hx i)) (image-clear e)
+        (λ i. subst (λ (y : List ℕ). getD y i 0 < 256) ex (hx i)) (image-clear e)
 
     pub image-state : length (stateIn (variant v) bytes) ≡ variant v .t
     unfolding stateIn
@@ -129,8 +129,8 @@ module _ (v : ℕ) (w : Direction) (bytes : List ℕ) where
   left-permuted e f x hx ex r out n en er eo =
       left-done e f out
       (eo
-        ∙ ap₂ (λ (y z : List ℕ). y ++ z) (ap₂ take en er) (drop-of-length-le bytes {i = n} (omega (arith, image-length v (known-low v e) (known-high v e) bytes f)))
-        ∙ append-nil _
-        ∙ take-pack (order (variant v)) (imageBytes (variant v)) 36 _ (bounds v (known-low v e) (known-high v e) .image-most)
-        ∙ ap (λ (s : List Bool). pack (order (variant v)) (imageBytes (variant v)) (permutation (variant v) w s))
-          (image-read v (known-low v e) (known-high v e) bytes f x hx ex))
+      ∙ ap₂ (λ (y z : List ℕ). y ++ z) (ap₂ take en er) (drop-of-length-le bytes {i = n} (omega (arith, image-length v (known-low v e) (known-high v e) bytes f)))
+      ∙ append-nil _
+      ∙ take-pack (order (variant v)) (imageBytes (variant v)) 36 _ (bounds v (known-low v e) (known-high v e) .image-most)
+      ∙ ap (λ (s : List Bool). pack (order (variant v)) (imageBytes (variant v)) (permutation (variant v) w s))
+      (image-read v (known-low v e) (known-high v e) bytes f x hx ex))

@@ -12,7 +12,7 @@ use lib.Bits.{bitXor, xor-lt, xor-block, xor-zero-l, xor-zero-r, xor-self, xor-c
 use lib.Pow.{pow-pos}
 use lib.ListN.{length, length-reverse}
 use borrow.Author.Tests.{ltb-true, ltb-false, lt-ltb, le-ltb}
-use Rattle.standard.specs.Field.{double, times, mul, dot, Modulus}
+use Rattle.standard.specs.Field.{double, times, mul, dot}
 use Rattle.standard.proofs.Xor.{xor-assoc, xor-exchange, xor-double}
 use Rattle.standard.proofs.Undo.{All}
 
@@ -127,6 +127,28 @@ module _ (s poly : ℕ) (low : 2 ^ s ≤ poly) (high : poly < 2 ^ s * 2) where
   pub mul-zero : (a : ℕ) → mul (2 ^ s) poly a 0 ≡ 0
   mul-zero a = mul-xor a 0 0 (pow-pos s) (pow-pos s) ∙ xor-self (mul (2 ^ s) poly a 0)
 
+  -- ---- the doubling of a product
+
+  pub double-zero : double (2 ^ s) poly 0 ≡ 0
+  double-zero = double-xor 0 0 (pow-pos s) (pow-pos s) ∙ xor-self (double (2 ^ s) poly 0)
+
+  double-cond : (b : Bool) (x : ℕ) → double (2 ^ s) poly (cond b x 0) ≡ cond b (double (2 ^ s) poly x) 0
+  double-cond true x = refl
+  double-cond false x = double-zero
+
+  times-double : (n a x : ℕ) → x < 2 ^ s → times (2 ^ s) poly n a (double (2 ^ s) poly x) ≡ double (2 ^ s) poly (times (2 ^ s) poly n a x)
+  unfolding times
+  times-double zero a x h = sym double-zero
+  times-double (suc n) a x h =
+      let b : Bool = eqb (a % 2) 1 in
+      let y : ℕ = double (2 ^ s) poly x in
+      ap₂ bitXor (sym (double-cond b x)) (times-double n (a / 2) y (double-lt x h))
+      ∙ sym (double-xor (cond b x 0) (times (2 ^ s) poly n (a / 2) y) (cond-lt b x 0 (2 ^ s) h (pow-pos s)) (times-lt n (a / 2) y (double-lt x h)))
+
+  pub mul-double : (a x : ℕ) → x < 2 ^ s → mul (2 ^ s) poly a (double (2 ^ s) poly x) ≡ double (2 ^ s) poly (mul (2 ^ s) poly a x)
+  unfolding mul
+  mul-double a x h = times-double 8 a x h
+
   -- ---- sums of products
 
   pub dot-lt : (zs xs : List ℕ) → All (λ x. x < 2 ^ s) xs → dot (2 ^ s) poly zs xs < 2 ^ s
@@ -156,7 +178,7 @@ module _ (s poly : ℕ) (low : 2 ^ s ≤ poly) (high : poly < 2 ^ s * 2) where
       ∙ sym (mul-xor s poly low high u (mul (2 ^ s) poly z x) (dot (2 ^ s) poly zs xs) (mul-lt s poly low high z x (a .0)) (dot-lt s poly low high zs xs (a .1)))
 
 module _ (top poly : ℕ) where
-  dot-snoc : (zs xs : List ℕ) (z x : ℕ) → length zs ≡ length xs → dot top poly (zs ++ (z ∷ [])) (xs ++ (x ∷ [])) ≡ bitXor (dot top poly zs xs) (mul top poly z x)
+  pub dot-snoc : (zs xs : List ℕ) (z x : ℕ) → length zs ≡ length xs → dot top poly (zs ++ (z ∷ [])) (xs ++ (x ∷ [])) ≡ bitXor (dot top poly zs xs) (mul top poly z x)
   unfolding dot
   dot-snoc [] [] z x e = xor-zero-r (mul top poly z x)
   dot-snoc [] (y ∷ xs) z x e = absurd (suc-ne-zero (length xs) (sym e))
@@ -205,23 +227,3 @@ module _ (top poly : ℕ) where
   pub mul-step : (a x : ℕ) → a < 256 → mul top poly a x ≡ bitXor (cond (eqb (a % 2) 1) x 0) (mul top poly (a / 2) (double top poly x))
   unfolding mul times
   mul-step a x h = ap (bitXor (cond (eqb (a % 2) 1) x 0)) (sym (times-enough 7 (a / 2) (double top poly x) (half-lt 7 a h)))
-
--- ---- the bounds at a modulus
-
-module _ (top poly : ℕ) (m : Modulus top poly) where
-  pub top-pos : 0 < top
-  top-pos = subst (λ (t : ℕ). 0 < t) (sym (m .is)) (pow-pos (m .s))
-
-  pub xor-below : (a b : ℕ) → a < top → b < top → bitXor a b < top
-  xor-below a b = subst (λ (t : ℕ). a < t → b < t → bitXor a b < t) (sym (m .is)) (xor-lt (m .s) a b)
-
-  pub double-below : (x : ℕ) → x < top → double top poly x < top
-  double-below x =
-      subst (λ (t : ℕ). t ≤ poly → poly < t * 2 → x < t → double t poly x < t) (sym (m .is)) (λ l h. double-lt (m .s) poly l h x) (m .low) (m .high)
-
-  pub mul-below : (a x : ℕ) → x < top → mul top poly a x < top
-  mul-below a x =
-      subst (λ (t : ℕ). t ≤ poly → poly < t * 2 → x < t → mul t poly a x < t) (sym (m .is)) (λ l h. mul-lt (m .s) poly l h a x) (m .low) (m .high)
-
-  pub cond-below : (b : Bool) (x : ℕ) → x < top → cond b x 0 < top
-  cond-below b x h = cond-lt b x 0 top h top-pos

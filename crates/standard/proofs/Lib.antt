@@ -7,6 +7,7 @@ pub mod Xor
 pub mod Tab
 pub mod FieldLaws
 pub mod SerialLaws
+pub mod Recurrence
 pub mod PhotonLaws
 pub mod PhotonVariants
 pub mod MatrixLaws

@@ -1,7 +1,7 @@
 -- Laws of `tab`, `grid` and `window`: two grids are equal where they agree at each row and column.
 -- Assumes nothing.
 use mathlib.Core.Path.{_≡_, refl, sym, ap, ap₂, _∙_, subst}
-use mathlib.Core.List.{List, [], _∷_, _++_, map, reverse, reverse-cons}
+use mathlib.Core.List.{List, [], _∷_, _++_, reverse, reverse-cons}
 use mathlib.Core.Logic.{⊎-elim}
 use Prim.Native.Nat.{ℕ, zero, suc, _-_, _<_, suc-le-suc}
 use native.Mathlib.Nat.{not-suc-le-zero, le-of-suc-le-suc, zero-lt-suc, eq-or-lt-of-le}
@@ -59,10 +59,6 @@ module _ {A : Type 0} where
       ∙ ap (λ (m : ℕ). getD (tab n f) (m - 1 - k) (f 0)) (length-tab n f)
       ∙ getD-tab n f (n - 1 - k) (f 0) (omega arith))
 
-pub map-tab : {A B : Type 0} (g : A → B) (m : ℕ) (f : ℕ → A) → map g (tab m f) ≡ tab m (λ k. g (f k))
-map-tab g zero f = refl
-map-tab {A} {B} g (suc m) f = ap (λ (r : List B). g (f 0) ∷ r) (map-tab g m (λ k. f (suc k)))
-
 -- ---- grids made cell by cell
 
 pub at-grid : (d : ℕ) (f : ℕ → ℕ → ℕ) (i j : ℕ) → i < d → j < d → at (grid d f) i j ≡ f i j
@@ -100,12 +96,6 @@ at-window d g i j hi hj = at-grid d (at g) i j hi hj
 pub window-is : (d : ℕ) (r : Grid) (f : ℕ → ℕ → ℕ) → ((i j : ℕ) → i < d → j < d → at r i j ≡ f i j) → window d r ≡ grid d f
 unfolding window
 window-is d r f h = grid-cong d (at r) f h
-
--- each row is f of g's
-pub window-map : (d : ℕ) (r g : Grid) (f : List ℕ → List ℕ) → ((i : ℕ) → i < d → cells d (getD r i []) ≡ f (cells d (getD g i []))) → window d r ≡ map f (window d g)
-unfolding window
-window-map d r g f h =
-    tab-cong d (λ i. cells d (getD r i [])) (λ i. f (cells d (getD g i []))) h ∙ sym (map-tab f d (λ i. cells d (getD g i [])))
 
 -- the rows in reverse
 pub window-reverse : (d : ℕ) (r g : Grid) → ((i : ℕ) → i < d → getD r i [] ≡ getD g (d - 1 - i) []) → window d r ≡ reverse (window d g)

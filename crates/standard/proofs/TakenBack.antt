@@ -75,6 +75,7 @@ between (x ∷ S) [] h = zeros (x ∷ S) ∙ ap (λ (n : ℕ). replicate n false
   where
     whole : (n : ℕ) → n ≡ n - 0
     whole n = omega arith
+
     zeros : (S : List Bool) → xorInto S S ≡ replicate (length S) false
     zeros [] = refl
     zeros (true ∷ S) = ap (λ (l : List Bool). xor true true ∷ l) (zeros S)
@@ -127,8 +128,8 @@ module _ (H : Variant) (h : Lawful H) (s : List Bool) (ls : length s ≡ H .t) (
       let X : List Bool = xorInto S (reordered high-first (order H) b) in
       sym (h .undoes forward X (length-xorInto S _ ∙ before-length))
       ∙ ap (permutation H backward)
-        (sym (unrun-run H h (drop (suc place) bs) (step H S b) (step-length H h S b before-length))
-          ∙ ap (λ (x : List Bool). unrun H x (drop (suc place) bs)) (sym (put-run b) ∙ f))
+      (sym (unrun-run H h (drop (suc place) bs) (step H S b) (step-length H h S b before-length))
+      ∙ ap (λ (x : List Bool). unrun H x (drop (suc place) bs)) (sym (put-run b) ∙ f))
 
   pub leads-from : (b : List Bool)
       → xorInto (run H s (take place bs)) (reordered high-first (order H) b) ≡ permutation H backward (unrun H e (drop (suc place) bs))

@@ -1,6 +1,6 @@
 -- What holds of each element of a list; and steps that are undone, one or many, in either direction.
 -- Assumes nothing.
-use mathlib.Core.Path.{_≡_, refl, sym, ap, ap₂, _∙_, subst}
+use mathlib.Core.Path.{_≡_, refl, sym, ap, ap₂, _∙_}
 use mathlib.Core.List.{List, [], _∷_, _++_, map, foldl, foldl-append, reverse, reverse-cons, reverse-reverse}
 use Prim.Native.Nat.{ℕ, zero, suc, _<_, suc-le-suc}
 use native.Mathlib.Nat.{not-suc-le-zero, le-of-suc-le-suc, zero-lt-suc}
@@ -96,7 +96,3 @@ module _ {A : Type 0} where
     rounds-undo w cs q x p =
         ap (λ (l : List ℕ). foldl (f (opposite w)) (foldl (f w) x (inTurn w cs)) l) (inTurn-opposite w cs)
         ∙ foldl-undo w (inTurn w cs) (all-inTurn w cs q) x p
-
-pub iterate-suc : {A : Type 0} (f : A → A) (n : ℕ) (x : A) → iterate (suc n) f x ≡ f (iterate n f x)
-iterate-suc f zero x = refl
-iterate-suc f (suc n) x = iterate-suc f n (f x)

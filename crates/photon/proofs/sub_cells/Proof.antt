@@ -1,84 +1,84 @@
--- `photon::sub_cells` meets its contract: after i turns the first i rows are substituted.
+-- `photon::sub_cells` meets its contract: each of its four tables is the table of that number.
 -- Assumes nothing.
 use mathlib.Core.Path.{_≡_, sym, ap, _∙_, subst}
-use mathlib.Core.List.{List, []}
-use Prim.Native.Nat.{ℕ, _-_, _≤_, _<_}
+use Prim.Native.Nat.{ℕ, _-_}
 use native.Mathlib.Omega.{arith}
-use lib.ListN.{getD}
-use Rattle.standard.specs.Grid.{at}
-use Rattle.standard.specs.Photon.{subCells}
-use Rattle.standard.proofs.Tab.{at-window, window-is}
-use Rattle.arrays.proofs.Upto.{Upto, upto-none, upto-more}
+use borrow.Author.Needs.{needs}
+use Rattle.standard.specs.Grid.{window, Small}
+use Rattle.standard.specs.Photon.{subCells, aes, unaes}
 use Rattle.photon.specs.Parameters.{boxOf, boundOf}
 use Rattle.photon.proofs.sub_cells.Statement.{statement}
 use Rattle.photon.proofs.sub_cells.Tie as tie
 
-abbrev Inv-loop : tie.InvT-loop
-Inv-loop kind d out₀ i₀ out i = (i ≤ d) × Upto [] (λ k row. (j : ℕ) → j < d → getD row j 0 ≡ getD (boxOf kind) (at out₀ k j) 0) 8 i out₀ out
+slice-aggregate-sub-rows : tie.Need-slice-aggregate-sub-rows
+slice-aggregate-sub-rows c = search needs
 
-abbrev μ-loop : tie.MeasureT-loop
-μ-loop kind d out₀ i₀ out i = d - i
+sub-rows-requires : tie.Need-sub-rows-requires
+sub-rows-requires c κs =
+    let s = c .before .before in
+    (omega arith, subst (λ (k : ℕ). Small (s .args .d) (boundOf k) (s .args .g)) (c .before .if1 .taken) (s .pre .1))
 
-loop-holds : tie.Need-loop-holds Inv-loop μ-loop
-loop-holds c = (omega arith, upto-none _ (c .good .1 .0 .1 .0 .1))
-
-mul-sub-row : tie.Need-mul-sub-row Inv-loop μ-loop
-mul-sub-row c = omega arith
-
-array-copy-out-sub-row : tie.Need-array-copy-out-sub-row Inv-loop μ-loop
-array-copy-out-sub-row c = omega arith
-
-sub-row-requires : tie.Need-sub-row-requires Inv-loop μ-loop
-sub-row-requires c κs = (
-  (omega arith, omega arith),
-  λ j h. subst (λ (r : List ℕ). getD r j 0 < boundOf (c .before .before .before .args .kind)) (sym (c .before .before .loop .inv .1 .rest (c .before .before .loop .i) (omega arith)))
-      (c .before .before .before .pre .1 .cell (c .before .before .loop .i) j (omega arith) h),
-)
-
-mul-out : tie.Need-mul-out Inv-loop μ-loop
-mul-out c = omega arith
-
-array-set-from-out : tie.Need-array-set-from-out Inv-loop μ-loop
-array-set-from-out c = omega arith
-
-add-i : tie.Need-add-i Inv-loop μ-loop
-add-i c = omega arith
-
-loop-less : tie.Need-loop-less Inv-loop μ-loop
-loop-less c = omega arith
-
-loop-again : tie.Need-loop-again Inv-loop μ-loop
-loop-again c =
-    let l = c .before .before .before .loop in (
-      omega arith,
-      upto-more (l .i) _ (l .out) (c .sub-row .result) (omega arith)
-          (λ j h. c .sub-row .ensures j h
-          ∙ ap (λ (r : List ℕ). getD (boxOf (c .before .before .before .before .args .kind)) (getD r j 0) 0) (l .inv .1 .rest (l .i) (omega arith)))
-          (l .inv .1),
-    )
-
-returns : tie.Need-returns Inv-loop μ-loop
-unfolding subCells
+returns : tie.Need-returns
 returns c =
-    let d = c .before .before .args .d in
-    let g = c .before .before .args .g in
-    window-is d _ _
-    (λ i j hi hj. c .before .loop .inv .1 .done i (omega arith) j hj
-    ∙ ap (λ (x : ℕ). getD (boxOf (c .before .before .args .kind)) x 0) (sym (at-window d g i j hi hj)))
+    let a = c .before .before .before .args in
+    c .sub-rows .ensures ∙ ap (λ (k : ℕ). subCells (a .d) (boxOf k) (window (a .d) (a .g))) (sym (c .before .before .if1 .taken))
+
+slice-aggregate-sub-rows-2 : tie.Need-slice-aggregate-sub-rows-2
+slice-aggregate-sub-rows-2 c = search needs
+
+sub-rows-requires-2 : tie.Need-sub-rows-requires-2
+sub-rows-requires-2 c κs =
+    let s = c .before .before .before in
+    (omega arith, subst (λ (k : ℕ). Small (s .args .d) (boundOf k) (s .args .g)) (c .before .if2 .taken) (s .pre .1))
+
+returns-2 : tie.Need-returns-2
+returns-2 c =
+    let a = c .before .before .before .before .args in
+    c .sub-rows2 .ensures ∙ ap (λ (k : ℕ). subCells (a .d) (boxOf k) (window (a .d) (a .g))) (sym (c .before .before .if2 .taken))
+
+slice-aggregate-sub-rows-3 : tie.Need-slice-aggregate-sub-rows-3
+slice-aggregate-sub-rows-3 c = search needs
+
+sub-rows-requires-3 : tie.Need-sub-rows-requires-3
+sub-rows-requires-3 c κs =
+    let s = c .before .before .before .before in
+    (omega arith, subst (λ (k : ℕ). Small (s .args .d) (boundOf k) (s .args .g)) (c .before .if3 .taken) (s .pre .1))
+
+returns-3 : tie.Need-returns-3
+unfolding aes
+returns-3 c =
+    let a = c .before .before .before .before .before .args in
+    c .sub-rows3 .ensures ∙ ap (λ (k : ℕ). subCells (a .d) (boxOf k) (window (a .d) (a .g))) (sym (c .before .before .if3 .taken))
+
+slice-aggregate-sub-rows-4 : tie.Need-slice-aggregate-sub-rows-4
+slice-aggregate-sub-rows-4 c = search needs
+
+sub-rows-requires-4 : tie.Need-sub-rows-requires-4
+sub-rows-requires-4 c κs =
+    let s = c .before .before .before .before in
+    let three : s .args .kind ≡ 3 = omega arith in
+    (omega arith, subst (λ (k : ℕ). Small (s .args .d) (boundOf k) (s .args .g)) three (s .pre .1))
+
+returns-4 : tie.Need-returns-4
+unfolding unaes
+returns-4 c =
+    let a = c .before .before .before .before .before .args in
+    let three : 3 ≡ a .kind = omega arith in
+    c .sub-rows4 .ensures ∙ ap (λ (k : ℕ). subCells (a .d) (boxOf k) (window (a .d) (a .g))) three
 
 pub sub-cells-spec : {M : Type 1} → statement M
 sub-cells-spec =
     tie.close
     (tie.spec
-    Inv-loop
-    μ-loop
-    loop-holds
-    mul-sub-row
-    array-copy-out-sub-row
-    sub-row-requires
-    mul-out
-    array-set-from-out
-    add-i
-    loop-less
-    loop-again
-    returns)
+    slice-aggregate-sub-rows
+    sub-rows-requires
+    returns
+    slice-aggregate-sub-rows-2
+    sub-rows-requires-2
+    returns-2
+    slice-aggregate-sub-rows-3
+    sub-rows-requires-3
+    returns-3
+    slice-aggregate-sub-rows-4
+    sub-rows-requires-4
+    returns-4)

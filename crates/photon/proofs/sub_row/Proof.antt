@@ -3,30 +3,31 @@
 use mathlib.Core.Path.{_≡_, sym, ap, _∙_, subst}
 use Prim.Native.Nat.{ℕ, _-_, _≤_, _<_}
 use native.Mathlib.Omega.{arith}
-use lib.ListN.{getD}
+use lib.ListN.{getD, length}
 use Rattle.arrays.proofs.Upto.{Upto, upto-none, upto-more}
-use Rattle.photon.specs.Parameters.{boxOf, boundOf}
 use Rattle.photon.proofs.sub_row.Statement.{statement}
 use Rattle.photon.proofs.sub_row.Tie as tie
 
 abbrev Inv-loop : tie.InvT-loop
-Inv-loop kind d out₀ j₀ out j = (j ≤ d) × Upto 0 (λ k x. x ≡ getD (boxOf kind) (getD out₀ k 0) 0) 8 j out₀ out
+Inv-loop table d out₀ j₀ out j = (j ≤ d) × Upto 0 (λ k x. x ≡ getD table (getD out₀ k 0) 0) 8 j out₀ out
 
 abbrev μ-loop : tie.MeasureT-loop
-μ-loop kind d out₀ j₀ out j = d - j
+μ-loop table d out₀ j₀ out j = d - j
 
 loop-holds : tie.Need-loop-holds Inv-loop μ-loop
-loop-holds c = (omega arith, upto-none _ (c .good .1 .0 .1 .0 .1))
+loop-holds c = (omega arith, upto-none _ (c .before .good .1 .0 .1 .0 .1))
 
-array-read-lookup : tie.Need-array-read-lookup Inv-loop μ-loop
-array-read-lookup c = omega arith
+array-read-wide : tie.Need-array-read-wide Inv-loop μ-loop
+array-read-wide c = omega arith
 
-lookup-requires : tie.Need-lookup-requires Inv-loop μ-loop
-lookup-requires c κs = (
-  omega arith,
-  subst (λ (x : ℕ). x < boundOf (c .before .before .args .kind)) (sym (c .before .loop .inv .1 .rest (c .before .loop .j) (omega arith)))
-      (c .before .before .pre .1 (c .before .loop .j) (omega arith)),
-)
+wide-requires : tie.Need-wide-requires Inv-loop μ-loop
+wide-requires c κs = tt
+
+shared-slice-read-out : tie.Need-shared-slice-read-out Inv-loop μ-loop
+shared-slice-read-out c =
+    let l = c .before .before .before .loop in
+    let s = c .before .before .before .before .before in
+    subst (λ (x : ℕ). x < length (s .args .table .now)) (sym (c .before .wide .ensures ∙ l .inv .1 .rest (l .j) (omega arith))) (s .pre .1 (l .j) (omega arith))
 
 array-write-out : tie.Need-array-write-out Inv-loop μ-loop
 array-write-out c = omega arith
@@ -39,10 +40,11 @@ loop-less c = omega arith
 
 loop-again : tie.Need-loop-again Inv-loop μ-loop
 loop-again c =
-    let l = c .before .before .loop in (
+    let l = c .before .before .before .loop in
+    let s = c .before .before .before .before .before in (
       omega arith,
-      upto-more (l .j) _ (l .out) (c .lookup .result) (omega arith)
-          (c .lookup .ensures ∙ ap (λ (x : ℕ). getD (boxOf (c .before .before .before .args .kind)) x 0) (l .inv .1 .rest (l .j) (omega arith)))
+      upto-more (l .j) _ (l .out) _ (omega arith)
+          (ap (λ (x : ℕ). getD (s .args .table .now) x 0) (c .before .wide .ensures ∙ l .inv .1 .rest (l .j) (omega arith)))
           (l .inv .1),
     )
 
@@ -56,8 +58,9 @@ sub-row-spec =
     Inv-loop
     μ-loop
     loop-holds
-    array-read-lookup
-    lookup-requires
+    array-read-wide
+    wide-requires
+    shared-slice-read-out
     array-write-out
     add-j
     loop-less

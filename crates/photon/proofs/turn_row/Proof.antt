@@ -1,61 +1,27 @@
--- `photon::turn_row` meets its contract: after j turns the first j cells are in place.
+-- `photon::turn_row` meets its contract.
 -- Assumes nothing.
-use mathlib.Core.Path.{_≡_, refl}
-use Prim.Native.Nat.{_+_, _-_, _%_, _≤_}
+use mathlib.Core.Path.{_∙_}
+use Prim.Native.Nat.{_+_, _-_, _%_}
 use native.Mathlib.Nat.{mod-lt}
 use native.Mathlib.Omega.{arith}
-use lib.ListN.{getD}
-use Rattle.arrays.proofs.Upto.{Upto, upto-none, upto-more}
+use borrow.Author.Needs.{needs}
 use Rattle.photon.proofs.turn_row.Statement.{statement}
 use Rattle.photon.proofs.turn_row.Tie as tie
 
-abbrev Inv-loop : tie.InvT-loop
-Inv-loop d by row out₀ j₀ out j = (j ≤ d) × Upto 0 (λ k x. x ≡ getD row ((k + by) % d) 0) 8 j out₀ out
+packed-requires : tie.Need-packed-requires
+packed-requires c κs = search needs
 
-abbrev μ-loop : tie.MeasureT-loop
-μ-loop d by row out₀ j₀ out j = d - j
+turned-requires : tie.Need-turned-requires
+turned-requires c κs = search needs
 
-loop-holds : tie.Need-loop-holds Inv-loop μ-loop
-loop-holds c = (omega arith, upto-none _ (c .good .0 .1 .0 .1))
+unpacked-requires : tie.Need-unpacked-requires
+unpacked-requires c κs = search needs
 
-add-k : tie.Need-add-k Inv-loop μ-loop
-add-k c = omega arith
-
-rem-k : tie.Need-rem-k Inv-loop μ-loop
-rem-k c = omega arith
-
-array-read-out : tie.Need-array-read-out Inv-loop μ-loop
-array-read-out c = omega (arith, mod-lt (c .before .loop .j + c .before .before .args .by) {m = c .before .before .args .d} (omega arith))
-
-array-write-out : tie.Need-array-write-out Inv-loop μ-loop
-array-write-out c = omega arith
-
-add-j : tie.Need-add-j Inv-loop μ-loop
-add-j c = omega arith
-
-loop-less : tie.Need-loop-less Inv-loop μ-loop
-loop-less c = omega arith
-
-loop-again : tie.Need-loop-again Inv-loop μ-loop
-loop-again c =
-    let l = c .before .loop in
-    (omega arith, upto-more (l .j) _ (l .out) _ (omega arith) refl (l .inv .1))
-
-returns : tie.Need-returns Inv-loop μ-loop
-returns c = λ j h. c .before .loop .inv .1 .done j (omega arith)
+returns : tie.Need-returns
+returns c = λ j h.
+    let a = c .before .before .before .args in
+    c .unpacked .ensures j (omega arith) ∙ c .before .turned .ensures j h
+    ∙ c .before .before .packed .ensures ((j + a .by) % a .d) (omega (arith, mod-lt (j + a .by) {m = a .d} (omega arith)))
 
 pub turn-row-spec : {M : Type 1} → statement M
-turn-row-spec =
-    tie.close
-    (tie.spec
-    Inv-loop
-    μ-loop
-    loop-holds
-    add-k
-    rem-k
-    array-read-out
-    array-write-out
-    add-j
-    loop-less
-    loop-again
-    returns)
+turn-row-spec = tie.close (tie.spec packed-requires turned-requires unpacked-requires returns)

@@ -1,63 +1,57 @@
--- `photon::turned` meets its contract: after i turns the first i rows are columns.
+-- `photon::turned` meets its contract.
 -- Assumes nothing.
-use mathlib.Core.Path.{_≡_, sym, _∙_}
-use mathlib.Core.List.{[]}
-use Prim.Native.Nat.{ℕ, _-_, _≤_, _<_}
+use Prim.Native.Nat.{_-_}
 use native.Mathlib.Omega.{arith}
-use lib.ListN.{getD}
-use Rattle.standard.specs.Grid.{at, transpose}
-use Rattle.standard.proofs.Tab.{at-window, window-is}
-use Rattle.arrays.proofs.Upto.{Upto, upto-none, upto-more}
+use borrow.Author.Needs.{needs}
+use Rattle.photon.proofs.Lanes.{lane-turned}
 use Rattle.photon.proofs.turned.Statement.{statement}
 use Rattle.photon.proofs.turned.Tie as tie
 
-abbrev Inv-loop : tie.InvT-loop
-Inv-loop g d out₀ i₀ out i = (i ≤ d) × Upto [] (λ k row. (j : ℕ) → j < d → getD row j 0 ≡ at g j k) 8 i out₀ out
+sub-top : tie.Need-sub-top
+sub-top c = search needs
 
-abbrev μ-loop : tie.MeasureT-loop
-μ-loop g d out₀ i₀ out i = d - i
+mul-top : tie.Need-mul-top
+mul-top c = search needs
 
-loop-holds : tie.Need-loop-holds Inv-loop μ-loop
-loop-holds c = (omega arith, upto-none _ (c .good .0 .1 .0 .1))
+shl-top : tie.Need-shl-top
+shl-top c = search needs
 
-column-requires : tie.Need-column-requires Inv-loop μ-loop
-column-requires c κs = omega arith
+sub-result : tie.Need-sub-result
+sub-result c = search needs
 
-mul-out : tie.Need-mul-out Inv-loop μ-loop
-mul-out c = omega arith
+add-result : tie.Need-add-result
+add-result c = search needs
 
-array-set-from-out : tie.Need-array-set-from-out Inv-loop μ-loop
-array-set-from-out c = omega arith
+mul-result : tie.Need-mul-result
+mul-result c = search needs
 
-add-i : tie.Need-add-i Inv-loop μ-loop
-add-i c = omega arith
+shr-result : tie.Need-shr-result
+shr-result c = search needs
 
-loop-less : tie.Need-loop-less Inv-loop μ-loop
-loop-less c = omega arith
+sub-result-2 : tie.Need-sub-result-2
+sub-result-2 c = search needs
 
-loop-again : tie.Need-loop-again Inv-loop μ-loop
-loop-again c =
-    let l = c .before .before .loop in
-    (omega arith, upto-more (l .i) _ (l .out) (c .column .result) (omega arith) (c .column .ensures) (l .inv .1))
+mul-result-2 : tie.Need-mul-result-2
+mul-result-2 c = search needs
 
-returns : tie.Need-returns Inv-loop μ-loop
-unfolding transpose
-returns c =
-    let d = c .before .before .args .d in
-    let g = c .before .before .args .g in
-    window-is d _ _ (λ i j hi hj. c .before .loop .inv .1 .done i (omega arith) j hj ∙ sym (at-window d g j i hj hi))
+shl-result : tie.Need-shl-result
+shl-result c = search needs
+
+returns : tie.Need-returns
+returns c = λ j h. lane-turned (c .args .d) (c .args .by) j (c .args .x) (omega arith) (omega arith) (omega arith) h
 
 pub turned-spec : {M : Type 1} → statement M
 turned-spec =
     tie.close
     (tie.spec
-    Inv-loop
-    μ-loop
-    loop-holds
-    column-requires
-    mul-out
-    array-set-from-out
-    add-i
-    loop-less
-    loop-again
+    sub-top
+    mul-top
+    shl-top
+    sub-result
+    add-result
+    mul-result
+    shr-result
+    sub-result-2
+    mul-result-2
+    shl-result
     returns)

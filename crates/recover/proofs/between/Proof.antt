@@ -1,32 +1,65 @@
+-- `recover::between` meets its contract: the state before the place, and the one wanted there, xored. Assumes nothing.
+use mathlib.Core.Path.{_≡_, sym, ap, _∙_}
+use mathlib.Core.Bool.{Bool}
+use mathlib.Core.List.{List}
+use Prim.Native.Nat.{ℕ, suc}
+use native.Mathlib.Omega.{arith}
+use lib.ListN.{length, take, drop}
+use Rattle.standard.specs.Rounds.{backward}
+use Rattle.standard.specs.Sponge.{startState, permutation, messageBlocks, run, unrun, stateIn}
+use Rattle.standard.specs.Variants.{variant}
+use Rattle.standard.proofs.TakenBack.{before-length, wanted-length, unrun-length}
+use Rattle.standard.proofs.Variants.{lawful}
+use Rattle.arrays.proofs.Elements.{bytes-lt}
+use Rattle.sponge.specs.Layout.{stateBytes}
+use Rattle.sponge.proofs.States.{state-length, stored}
+use Rattle.recover.proofs.Runs.{unrun-ready, states-xored}
+use borrow.Author.Needs.{needs}
 use borrow.Author.Needs.{needs}
 use Rattle.recover.proofs.between.Statement.{statement}
 use Rattle.recover.proofs.between.Tie as tie
-use Rattle.recover.proofs.between.Reads as reads
-use Rattle.recover.proofs.between.Lts as lts
-use Rattle.recover.proofs.difference.Reads as difference-reads
-use Rattle.recover.proofs.run_back.Reads as run-back-reads
-use Rattle.recover.proofs.run_to.Reads as run-to-reads
-use Rattle.sponge.proofs.permuted.Reads as permuted-reads
 
--- src/lib.rt:134:9
 run-to-requires : tie.Need-run-to-requires
 run-to-requires c κs = search needs
 
--- src/lib.rt:135:9
 run-back-requires : tie.Need-run-back-requires
 run-back-requires c κs = search needs
 
--- src/lib.rt:136:9
 permuted-requires : tie.Need-permuted-requires
-permuted-requires c κs = ?
+permuted-requires c κs =
+    let start = c .before .before .before in
+    let a = start .args in
+    let m = a .message .now in
+    let H = variant (a .v) in
+    let h = lawful (a .v) (omega arith) (omega arith) in
+    let E = stateIn H (a .end) in
+    let le = state-length (a .v) (omega arith) (omega arith) (a .end) (omega arith) in
+    (start .pre .0, unrun-ready (a .v) (omega arith) (omega arith) m E le (suc (a .place)) (c .run-back .result) (c .run-back .ensures))
 
--- src/lib.rt:137:5
 difference-requires : tie.Need-difference-requires
 difference-requires c κs = search needs
 
--- src/lib.rt:125:1
 returns : tie.Need-returns
-returns c = ?
+returns c =
+    let start = c .before .before .before .before .before in
+    let a = start .args in
+    let m = a .message .now in
+    let H = variant (a .v) in
+    let h = lawful (a .v) (omega arith) (omega arith) in
+    let E = stateIn H (a .end) in
+    let le = state-length (a .v) (omega arith) (omega arith) (a .end) (omega arith) in
+    let bs = messageBlocks H m in
+    let S = run H (startState H) (take (a .place) bs) in
+    let Y = unrun H E (drop (suc (a .place)) bs) in
+    let r = c .difference in
+    let lY = unrun-length H h (drop (suc (a .place)) bs) E le in
+    states-xored (a .v) (omega arith) (omega arith) (c .before .before .before .run-to .result) (c .before .permuted .result) (r .result) S (permutation H backward Y)
+    (before-length H h (startState H) (h .start-length) bs (a .place) (start .pre .1 .1 .0) E le)
+    (wanted-length H h (startState H) (h .start-length) bs (a .place) (start .pre .1 .1 .0) E le)
+    (bytes-lt 36 (r .result) _ (r .ok)) (omega arith) (c .before .before .before .run-to .ensures)
+    (c .before .permuted .ensures
+    ∙ ap (λ (s : List Bool). stateBytes H (permutation H backward s)) (stored (a .v) (omega arith) (omega arith) (c .before .before .run-back .result) Y lY (c .before .before .run-back .ensures)))
+    (r .ensures)
 
 pub between-spec : {M : Type 1} → statement M
 between-spec =

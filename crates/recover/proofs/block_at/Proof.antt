@@ -73,9 +73,10 @@ with-half-requires c κs =
     let pos = lawful (a .v) (omega arith) (omega arith) .rate-pos in
     let block = getD (messageBlocks H m) (a .j) [] in
     let size = block-size H q eq pos m (a .j) (start .pre .1 .1) in
-    let again = held-again 32 (4 * l .i) (l .out) (take (4 * l .i) block) (l .inv .1) (length-take-le (4 * l .i) block (omega (arith, size, b .rate-most))) (omega (arith, e, b .rate-most)) in
-    ((omega (arith, e, b .rate-most), omega (arith, c .padded-half .ensures, half-lt m (a .j * q + l .i))),
-    l .inv .1 ∙ ap (pack high-first 32) (sym again))
+    let again = held-again 32 (4 * l .i) (l .out) (take (4 * l .i) block) (l .inv .1) (length-take-le (4 * l .i) block (omega (arith, size, b .rate-most))) (omega (arith, e, b .rate-most)) in (
+      (omega (arith, e, b .rate-most), omega (arith, c .padded-half .ensures, half-lt m (a .j * q + l .i))),
+      l .inv .1 ∙ ap (pack high-first 32) (sym again),
+    )
 
 add-i : tie.Need-add-i Inv-loop μ-loop
 add-i c = omega arith
@@ -97,11 +98,12 @@ loop-again c =
     let pos = lawful (a .v) (omega arith) (omega arith) .rate-pos in
     let block = getD (messageBlocks H m) (a .j) [] in
     let size = block-size H q eq pos m (a .j) (start .pre .1 .1) in
-    let again = held-again 32 (4 * l .i) (l .out) (take (4 * l .i) block) (l .inv .1) (length-take-le (4 * l .i) block (omega (arith, size, b .rate-most))) (omega (arith, e, b .rate-most)) in
-    (omega arith,
-    c .with-half .ensures
-    ∙ ap₂ (λ (x : List Bool) (y : ℕ). pack high-first 32 (x ++ bitsOf high-first 4 y)) again (c .before .padded-half .ensures)
-    ∙ ap (pack high-first 32) (block-more H q eq pos m (a .j) (start .pre .1 .1) (l .i) (omega arith)))
+    let again = held-again 32 (4 * l .i) (l .out) (take (4 * l .i) block) (l .inv .1) (length-take-le (4 * l .i) block (omega (arith, size, b .rate-most))) (omega (arith, e, b .rate-most)) in (
+      omega arith,
+      c .with-half .ensures
+          ∙ ap₂ (λ (x : List Bool) (y : ℕ). pack high-first 32 (x ++ bitsOf high-first 4 y)) again (c .before .padded-half .ensures)
+          ∙ ap (pack high-first 32) (block-more H q eq pos m (a .j) (start .pre .1 .1) (l .i) (omega arith)),
+    )
 
 first-five-requires : tie.Need-first-five-requires Inv-loop μ-loop
 first-five-requires c κs = tt

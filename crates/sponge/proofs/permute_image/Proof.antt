@@ -15,12 +15,12 @@ is-known-requires : tie.Need-is-known-requires
 is-known-requires c κs = search needs
 
 returns : tie.Need-returns
-returns c = 
+returns c =
     let a = c .before .before .before .args in
     left-unknown (a .variant) (direction (a .back)) (a .image .now) (sym (c .before .is-known .ensures) ∙ not-true _ (c .if1 .taken))
 
 is-image-requires : tie.Need-is-image-requires
-is-image-requires c κs = 
+is-image-requires c κs =
     let v = c .before .before .before .before .args .variant in
     let e = (sym (c .before .before .is-known .ensures) ∙ not-false _ (c .before .if1 .left)) in
     (known-low v e, known-high v e)
@@ -29,12 +29,12 @@ same-length : tie.Need-same-length
 same-length c = search needs
 
 returns-2 : tie.Need-returns-2
-returns-2 c = 
+returns-2 c =
     let a = c .before .before .before .before .before .before .args in
     left-bad (a .variant) (direction (a .back)) (a .image .now) (sym (c .before .before .before .before .is-known .ensures) ∙ not-false _ (c .before .before .before .if1 .left)) (sym (c .before .is-image .ensures) ∙ not-true _ (c .if2 .taken))
 
 at-front-requires : tie.Need-at-front-requires
-at-front-requires c κs = 
+at-front-requires c κs =
     let a = c .before .before .before .before .before .before .before .args in
     let v = a .variant in
     let e = (sym (c .before .before .before .before .before .is-known .ensures) ∙ not-false _ (c .before .before .before .before .if1 .left)) in
@@ -42,14 +42,15 @@ at-front-requires c κs =
     omega (arith, image-length v (known-low v e) (known-high v e) (a .image .now) f, bounds v (known-low v e) (known-high v e) .image-most)
 
 permuted-requires : tie.Need-permuted-requires
-permuted-requires c κs = 
+permuted-requires c κs =
     let a = c .before .before .before .before .before .before .before .before .args in
     let v = a .variant in
     let e = (sym (c .before .before .before .before .before .before .is-known .ensures) ∙ not-false _ (c .before .before .before .before .before .if1 .left)) in
     let f = sym (c .before .before .before .is-image .ensures) ∙ not-false _ (c .before .before .if2 .left) in
-    let x = c .at-front in
-    ((known-low v e, known-high v e),
-    image-ready v (known-low v e) (known-high v e) (a .image .now) f (x .result) (bytes-lt 36 (x .result) _ (x .ok)) (x .ensures))
+    let x = c .at-front in (
+      (known-low v e, known-high v e),
+      image-ready v (known-low v e) (known-high v e) (a .image .now) f (x .result) (bytes-lt 36 (x .result) _ (x .ok)) (x .ensures),
+    )
 
 slice-aggregate-copy-front : tie.Need-slice-aggregate-copy-front
 slice-aggregate-copy-front c = search needs
@@ -58,7 +59,7 @@ image-bytes-requires : tie.Need-image-bytes-requires
 image-bytes-requires c κs = search needs
 
 copy-front-requires : tie.Need-copy-front-requires
-copy-front-requires c κs = 
+copy-front-requires c κs =
     let a = c .before .before .before .before .before .before .before .before .before .before .before .before .args in
     let v = a .variant in
     let e = (sym (c .before .before .before .before .before .before .before .before .before .before .is-known .ensures) ∙ not-false _ (c .before .before .before .before .before .before .before .before .before .if1 .left)) in
@@ -70,7 +71,7 @@ same-length-2 : tie.Need-same-length-2
 same-length-2 c = search needs
 
 returns-3 : tie.Need-returns-3
-returns-3 c = 
+returns-3 c =
     let a = c .before .before .before .before .before .before .before .before .before .before .before .before .before .before .before .args in
     let v = a .variant in
     let e = (sym (c .before .before .before .before .before .before .before .before .before .before .before .before .before .is-known .ensures) ∙ not-false _ (c .before .before .before .before .before .before .before .before .before .before .before .before .if1 .left)) in

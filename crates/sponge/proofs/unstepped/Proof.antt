@@ -31,11 +31,11 @@ returns c =
     let x = c .with-block in
     let back = permutation (variant (a .v)) backward (stateIn (variant (a .v)) (a .s)) in
     let lb = permutation-length (a .v) (omega arith) (omega arith) backward (stateIn (variant (a .v)) (a .s))
-        (state-length (a .v) (omega arith) (omega arith) (a .s) (omega arith)) in
+    (state-length (a .v) (omega arith) (omega arith) (a .s) (omega arith)) in
     taken (a .v) (omega arith) (omega arith) (p .result) (x .result) (a .b) (omega arith) (omega arith)
     (bytes-lt 36 (x .result) _ (x .ok)) (omega arith) (stored-ready (a .v) (omega arith) (omega arith) (p .result) back lb (p .ensures)) (start .pre .1 .1) (x .ensures)
     ∙ ap (λ (s : List Bool). stateBytes (variant (a .v)) (xorInto s (reordered high-first (order (variant (a .v))) (blockIn (variant (a .v)) (a .b)))))
-      (stored (a .v) (omega arith) (omega arith) (p .result) back lb (p .ensures))
+    (stored (a .v) (omega arith) (omega arith) (p .result) back lb (p .ensures))
 
 pub unstepped-spec : {M : Type 1} → statement M
 unstepped-spec = tie.close (tie.spec permuted-requires with-block-requires returns)

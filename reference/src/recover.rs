@@ -1,0 +1,48 @@
+//! The block that leads to an end state, at a place among a message's
+//! padded blocks.
+
+use crate::bits::{pack, Order};
+use crate::padding::{block, block_count, Padding};
+use crate::running::write_front;
+use crate::{image, message_check, sponge};
+use crate::{BAD_IMAGE, DONE, NO_BLOCK, OUTPUT_TOO_SHORT, OUT_OF_RANGE};
+
+/// Writes the block at `place` that leads to the end state over the front of
+/// `out`. Refusals 1, 4, 7, 6, 5 and 8.
+pub fn recover(number: u8, message: &[u8], place: usize, end: &[u8], out: &mut [u8]) -> u8 {
+    let variant = match message_check(number, message.len()) {
+        Ok(variant) => variant,
+        Err(refusal) => return refusal,
+    };
+    let count = block_count(variant, message.len());
+    if place >= count {
+        return OUT_OF_RANGE;
+    }
+    let Some(mut back) = image::to_state(variant, end) else {
+        return BAD_IMAGE;
+    };
+    if out.len() < variant.block_bits.div_ceil(8) {
+        return OUTPUT_TOO_SHORT;
+    }
+    let of = |index| block(variant, Padding::NextBit, message, index);
+    let mut forth = sponge::start_state(variant);
+    for index in 0..place {
+        sponge::block_step(variant, &mut forth, &of(index));
+    }
+    for index in (place + 1..count).rev() {
+        sponge::unpermute_state(variant, &mut back);
+        sponge::xor_block(variant, &mut back, &of(index));
+    }
+    sponge::unpermute_state(variant, &mut back);
+    // The block is what the front of both states differs in; behind it they
+    // have to be the same.
+    let differing: Vec<bool> = forth.iter().zip(&back).map(|(a, b)| a != b).collect();
+    let found = sponge::read_block(variant, &differing, variant.block_bits);
+    sponge::xor_block(variant, &mut forth, &found);
+    if forth != back {
+        return NO_BLOCK;
+    }
+    let status = write_front(&pack(Order::HighestFirst, &found), out);
+    debug_assert_eq!(status, DONE);
+    status
+}

@@ -1,0 +1,70 @@
+//! Segment lists: entries of offset and length, eight bytes each, that name
+//! segments of a buffer.
+
+use crate::running::write_front;
+use crate::{digest, end_state, message_check};
+use crate::{BAD_LIST, DONE, MISORDERED, OUT_OF_RANGE, PAST_END};
+
+/// The greatest number of bytes of a list.
+const LIST_LIMIT: usize = 4096;
+
+/// A refusal's number, and the entry that 10 and 11 name.
+pub type Refusal = (u8, Option<usize>);
+
+/// Offsets and lengths, or refusal 9.
+fn entries(list: &[u8]) -> Result<Vec<(u64, u64)>, Refusal> {
+    if list.len() > LIST_LIMIT || !list.len().is_multiple_of(8) {
+        return Err((BAD_LIST, None));
+    }
+    let number = |bytes: &[u8]| bytes.iter().fold(0, |n, &b| 256 * n + u64::from(b));
+    let pair = |entry: &[u8]| (number(&entry[..4]), number(&entry[4..]));
+    Ok(list.chunks(8).map(pair).collect())
+}
+
+/// The segment that entry `k` names, or refusal 10 or 11.
+fn named<'a>(entries: &[(u64, u64)], buffer: &'a [u8], k: usize) -> Result<&'a [u8], Refusal> {
+    let (offset, length) = entries[k];
+    let former = k.checked_sub(1).map_or(0, |j| entries[j].0 + entries[j].1);
+    if offset < former {
+        return Err((MISORDERED, Some(k)));
+    }
+    if offset + length > buffer.len() as u64 {
+        return Err((PAST_END, Some(k)));
+    }
+    Ok(&buffer[offset as usize..(offset + length) as usize])
+}
+
+/// The segment of entry `k`, or refusal 9, 7, 10 or 11.
+pub fn segment<'a>(list: &[u8], buffer: &'a [u8], k: usize) -> Result<&'a [u8], Refusal> {
+    let entries = entries(list)?;
+    if k >= entries.len() {
+        return Err((OUT_OF_RANGE, None));
+    }
+    named(&entries, buffer, k)
+}
+
+/// The digest, or the end state's image, of the segments joined in order.
+/// Refusals 1, 9, 10, 11, 4 and 5.
+pub fn digest_list(
+    number: u8,
+    list: &[u8],
+    buffer: &[u8],
+    image: bool,
+    out: &mut [u8],
+) -> Result<(), Refusal> {
+    let plain = |refusal| (refusal, None);
+    message_check(number, 0).map_err(plain)?;
+    let entries = entries(list)?;
+    let mut message = Vec::new();
+    for k in 0..entries.len() {
+        message.extend_from_slice(named(&entries, buffer, k)?);
+    }
+    let result = match image {
+        true => end_state(number, &message),
+        false => digest(number, &message),
+    };
+    match write_front(&result.map_err(plain)?, out) {
+        DONE => Ok(()),
+        refusal => Err(plain(refusal)),
+    }
+}
