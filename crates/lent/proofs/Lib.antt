@@ -1,3 +1,4 @@
--- What the walks of this crate share.
+-- What the walks of this crate share, and the laws of the cursor.
 pub mod Values
 pub mod ReadThrough
+pub mod CursorLaws

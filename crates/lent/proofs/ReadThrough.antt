@@ -51,7 +51,7 @@ use Rattle.lent.proofs.digest as self
 use Rattle.lent.proofs.Values.{mach}
 
 -- the MIR, with the name of the function that it calls
-abbrev pub function : Name → Fn
+abbrev function : Name → Fn
 function name = record {
   lifetimes = 2;
   outlives = [];
@@ -71,7 +71,7 @@ function name = record {
 }
 
 -- what a read ensures of its answer and of the last list
-abbrev Read : Bool → Hasher → List ℕ → Status → List ℕ → Type 0
+abbrev pub Read : Bool → Hasher → List ℕ → Status → List ℕ → Type 0
 Read image h ys r zs = (r ≡ readStatus h image (length ys)) × (zs ≡ readInto h image ys)
 
 -- the two contracts: of the callee, by value, and of the call that lends

@@ -4,7 +4,7 @@ ghost use mathlib.Core.Bool.{true, false};
 ghost use lib.ListN.{length};
 ghost use Rattle.hasher.specs.Running.{started, updated, finished};
 ghost use Rattle.hasher.specs.Reading.{readStatus, readInto};
-ghost use Rattle.lent.specs.Cursors.{foundAt, movedOn};
+ghost use Rattle.lent.specs.Cursors.{stepNumber, foundAt, movedOn};
 use hasher::Hasher;
 use sponge::Status;
 
@@ -56,6 +56,16 @@ pub fn end_state(h: &Hasher, out: &mut [u8]) -> Status
 pub enum Step {
     Entry(u32, u32),
     Refused(Status),
+}
+
+// The number of a step's refusal, 0 where it gives an entry.
+pub fn number_of_step(s: Step) -> u8
+    ensures { λ r. ⌜ r ≡ stepNumber s ⌝ }
+{
+    match s {
+        Step::Entry(_, _) => 0,
+        Step::Refused(refusal) => sponge::number_of(refusal),
+    }
 }
 
 // The answer of a step, and the number of the entry that is next after it.
