@@ -7,6 +7,7 @@ ghost use Rattle.sponge.specs.Refusals.{number};
 ghost use Rattle.sponge.specs.Images.{imageStatus, permutedImage};
 ghost use Rattle.hasher.specs.Running.{started, updated, finished};
 ghost use Rattle.hasher.specs.Reading.{readStatus, readInto, wholeStatus, wholeInto};
+ghost use Rattle.recover.specs.Recovering.{recoverStatus, recoverInto};
 ghost use Rattle.segments.specs.Entries.{segmentStatus};
 ghost use Rattle.segments.specs.Digests.{listStatus, listInto};
 ghost use Rattle.lent.specs.Cursors.{stepNumber, foundAt};
@@ -93,6 +94,21 @@ pub extern "C" fn wickslate_unpermute(variant: u8, image: &mut [u8]) -> u8
         × (now (image .exit) ≡ permutedImage variant backward (now (image .entry))) ⌝ }
 {
     sponge::number_of(sponge::unpermute(variant, image))
+}
+
+// The block that, at that place among the message's padded blocks, leads to the end state of the image: refusals 1, 4, 7, 6, 5, 8.
+#[no_mangle]
+pub extern "C" fn wickslate_recover(
+    variant: u8,
+    message: &[u8],
+    place: usize,
+    image: &[u8],
+    out: &mut [u8],
+) -> u8
+    ensures { λ r. ⌜ (r ≡ number (recoverStatus variant (now (message .entry)) place (now (image .entry)) (length (now (out .entry)))))
+        × (now (out .exit) ≡ recoverInto variant (now (message .entry)) place (now (image .entry)) (now (out .entry))) ⌝ }
+{
+    sponge::number_of(recover::recover(variant, message, place, image, out))
 }
 
 // The entry that refusals 10 and 11 name.
