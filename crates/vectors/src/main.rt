@@ -1,6 +1,7 @@
 // Runs the proved code on the examples of Annex B, on the known values and on calls that are refused, and prints a line for each
 // call: the operation, the variant, what was given, the answer's number and what came of it.
 mod lists;
+mod lost;
 mod permutations;
 mod running;
 mod show;
@@ -11,4 +12,5 @@ fn main() {
     whole::all();
     running::all();
     lists::all();
+    lost::all();
 }

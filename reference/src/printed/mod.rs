@@ -2,6 +2,7 @@
 //! the form `OP VARIANT INPUT STATUS OUTPUT`.
 
 mod lists;
+mod lost;
 mod permutations;
 mod running;
 mod whole;
@@ -29,6 +30,7 @@ pub fn vector_lines() -> String {
     whole::add(&mut lines);
     running::add(&mut lines);
     lists::add(&mut lines);
+    lost::add(&mut lines);
     lines
 }
 
