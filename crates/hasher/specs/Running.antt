@@ -60,11 +60,13 @@ done h = record { status = Done; hasher = h }
 abbrev pub nothing : Hasher
 nothing = record { variant = 0; stage = 0; total = 0; state = replicate 36 0; held = replicate 5 0 }
 
+-- the running hash of no bytes yet
+abbrev pub fresh : ℕ → Hasher
+fresh v = holding v 0 0 (startState (variant v)) []
+
 -- Start: 1
 unfoldable pub started : ℕ → Advanced
-started v =
-    cond (not (known v)) (refused UnknownVariant nothing)
-    (done (holding v 0 0 (startState (variant v)) []))
+started v = cond (not (known v)) (refused UnknownVariant nothing) (done (fresh v))
 
 -- the message goes on with these bits: the held bits and they together, their whole blocks run through the state, the rest held
 unfoldable pub grown : Hasher → ℕ → List Bool → Hasher

@@ -5,21 +5,22 @@ ghost use lib.ListN.{length};
 ghost use Rattle.standard.specs.Rounds.{forward, backward};
 ghost use Rattle.sponge.specs.Refusals.{number};
 ghost use Rattle.sponge.specs.Images.{imageStatus, permutedImage};
-ghost use Rattle.hasher.specs.Running.{started, updated, finished};
+ghost use Rattle.hasher.specs.Running.{updated, finished};
 ghost use Rattle.hasher.specs.Reading.{readStatus, readInto, wholeStatus, wholeInto};
 ghost use Rattle.recover.specs.Recovering.{recoverStatus, recoverInto};
 ghost use Rattle.segments.specs.Entries.{segmentStatus};
 ghost use Rattle.segments.specs.Digests.{listStatus, listInto};
+ghost use Rattle.lent.specs.Starts.{startedOver};
 ghost use Rattle.lent.specs.Cursors.{stepNumber, foundAt};
 ghost use Rattle.wickslate.specs.Exports.{asksImage, entryNamed, offsetGiven, lengthGiven};
 use hasher::Hasher;
 use lent::Step;
 use sponge::Status;
 
-// Refusal 1: the running hash is then variant 0, open, all else zero.
+// Refusal 1.
 #[no_mangle]
 pub extern "C" fn wickslate_start(h: &mut Hasher, variant: u8) -> u8
-    ensures { λ r. ⌜ (r ≡ number (started variant .status)) × (now (h .exit) ≡ started variant .hasher) ⌝ }
+    ensures { λ r. ⌜ (r ≡ number (startedOver (now (h .entry)) variant .status)) × (now (h .exit) ≡ startedOver (now (h .entry)) variant .hasher) ⌝ }
 {
     sponge::number_of(lent::start(h, variant))
 }

@@ -41,7 +41,7 @@ use Rattle.sponge.proofs.number_of.Symbol as number-def
 use Rattle.sponge.proofs.number_of.Symbol.{name as #sponge·number-of}
 use Rattle.sponge.proofs.number_of.Met as number-thm
 use Rattle.hasher.specs.declared.Hasher.{Hasher}
-use Rattle.hasher.specs.Running.{started}
+use Rattle.lent.specs.Starts.{startedOver}
 use Rattle.hasher.proofs.Hasher as T
 use Rattle.lent.proofs.start as callee
 use Rattle.lent.proofs.start.Symbol as callee-def
@@ -61,8 +61,8 @@ abbrev Start : {M : Type 1} (𝓤 : URA M) (H : Heap 𝓤) (A : Atoms 𝓤) (mem
 Start 𝓤 H A mem run = tripleOf 𝓤 H A callee.signature (callee.spec 𝓤 H A mem run)
 
 -- what it ensures of its answer and of the last running hash
-abbrev Said : ℕ → Status → Hasher → Type 0
-Said n r z = (r ≡ started n .status) × (z ≡ started n .hasher)
+abbrev Said : Hasher → ℕ → Status → Hasher → Type 0
+Said h n r z = (r ≡ startedOver h n .status) × (z ≡ startedOver h n .hasher)
 
 module _ {M : Type 1} (𝓤 : URA M) (H : Heap 𝓤) (A : Atoms 𝓤) (W : Given 𝓤 H A) (mem : Memory → SProp 𝓤) (run : Routine → Fun 𝓤) (κ : Lft) (q : Share) (b o : ℕ) (γ : GName) (h : Hasher) (i : ℕ) (p : Is u8 i (vint w8 i ∷ [])) where
   abbrev a : RefT Hasher × (ℕ × Unit {0})
@@ -80,7 +80,7 @@ module _ {M : Type 1} (𝓤 : URA M) (H : Heap 𝓤) (A : Atoms 𝓤) (W : Given
   asked : ent 𝓤 (⋆ 𝓤 H A ((‵ (flft κ q) ⊛ ‵ ftrue) ∷ ‵ (owns (MutRef (named 0) κ T.the-row ∷ u8 ∷ []) a vals) ∷ [])) (Start 𝓤 H A mem run .pre to)
   asked = qed W ((‵ (flft κ q) ⊛ ‵ ftrue) ∷ ‵ (owns (MutRef (named 0) κ T.the-row ∷ u8 ∷ []) a vals) ∷ []) ∵ join ! $ frame ! $ done !
 
-  exits : (r : Status) (z : Hasher) (n : ℕ) (w : Val) → Said i r z → n ≡ number r
+  exits : (r : Status) (z : Hasher) (n : ℕ) (w : Val) → Said h i r z → n ≡ number r
       → ent 𝓤 (⋆ 𝓤 H A (‵ (u8 .own n (w ∷ [])) ∷ (‵ (flft κ q) ⊛ ‵ ftrue) ∷ ‵ (fres γ (T.the-row .coded .code z)) ∷ [])) (Post w)
   exits r z n w e e′ =
       qed W (‵ (u8 .own n (w ∷ [])) ∷ (‵ (flft κ q) ⊛ ‵ ftrue) ∷ ‵ (fres γ (T.the-row .coded .code z)) ∷ []) ∵
@@ -99,8 +99,8 @@ module _ {M : Type 1} (𝓤 : URA M) (H : Heap 𝓤) (A : Atoms 𝓤) (W : Given
         use2 W (raw (Start 𝓤 H A mem run .pre to)) asked $
         calls-at ! fm (Start 𝓤 H A mem run) known to (and-then ! (load ! (from ! (stop !)) (look ! 1 refl)) (and-then ! (load ! (from ! (stop !)) (look ! 5 refl)) (no-more !))) (λ w.
         use1 W (later (some (λ (r : Status). ((‵ (flft κ q) ⊛ ‵ ftrue) ⊛ ‵ (S.the-row .own r (w ∷ []))) ⊛ raw (ensured 𝓤 H A callee.ended (callee.clauses 𝓤 H A mem run) (κ, tt) a tt r)))) (id⊢ 𝓤 _) $ await ! tt $ pick ! (λ r.
-        split ! $ move ! (1 ∷ []) $ use1 W (some (λ (zs : Hasher × (Unit {0} × Unit {0})). ‵ (lasts callee.ended (κ, tt) a zs) ⊛ raw (fact 𝓤 (Said i r (zs .0))))) (id⊢ 𝓤 _) $ pick ! (λ zs.
-        split ! $ move ! (1 ∷ []) $ heard ! (Said i r (zs .0)) (λ e. fsplit ! $ move ! (2 ∷ []) $ split ! $ move ! (1 ∷ []) $
+        split ! $ move ! (1 ∷ []) $ use1 W (some (λ (zs : Hasher × (Unit {0} × Unit {0})). ‵ (lasts callee.ended (κ, tt) a zs) ⊛ raw (fact 𝓤 (Said h i r (zs .0))))) (id⊢ 𝓤 _) $ pick ! (λ zs.
+        split ! $ move ! (1 ∷ []) $ heard ! (Said h i r (zs .0)) (λ e. fsplit ! $ move ! (2 ∷ []) $ split ! $ move ! (1 ∷ []) $
         -- [the answer; the token; the last running hash; …; _4; …; room for _3; …; _2; …; _1; …; room for _0; …]
         peeks ! S.the-row (Is S.the-row) (shows 𝓤 H A S.the-row) r (w ∷ []) (λ is.
         land ! (from ! (stop !)) (init ! 6 refl (EL.lawful S.the-type S′.the-laws 𝓤 H A W tt .typed r _ is .0)) $
