@@ -5,8 +5,7 @@ use mathlib.Core.List.{List, _++_}
 use Prim.Native.Nat.{ℕ, _/_}
 use lib.Dec.{ltb}
 use lib.ListN.{length, drop}
-use Rattle.standard.specs.Bits.{high-first, pack}
-use Rattle.standard.specs.Sponge.{Variant, endState, squeezed, imageBytes, imageOf}
+use Rattle.standard.specs.Sponge.{Variant, endState, digestFrom, imageBytes, imageOf}
 use Rattle.standard.specs.Variants.{variant, known}
 use Rattle.sponge.specs.declared.Status.{Status}
 use Rattle.sponge.specs.declared.Status.the-variants.{Done, UnknownVariant, Malformed, WrongStage, TooLong, OutputTooShort}
@@ -16,8 +15,9 @@ use Rattle.hasher.specs.Running.{most, variantOf, closed, stateOf, wellF
 
 -- what is asked for of an end state: its image, or the digest squeezed out of it
 unfoldable pub resultOf : Variant → Bool → List Bool → List ℕ
-resultOf H image s = cond image (imageOf H s) (pack high-first (H .n / 8) (squeezed H s))
+resultOf H image s = cond image (imageOf H s) (digestFrom H s)
 
+-- how many bytes that is
 unfoldable pub resultBytes : Variant → Bool → ℕ
 resultBytes H image = cond image (imageBytes H) (H .n / 8)
 

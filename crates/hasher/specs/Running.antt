@@ -36,7 +36,7 @@ heldIn h = unpack high-first (heldCount h) (h .held)
 unfoldable pub stateOf : Hasher → List Bool
 stateOf h = stateIn (variantOf h) (h .state)
 
--- document 01: the variant is one of the ten, the stage open or closed, the total within the limit, and no bit past the state's and past the held ones is set; a closed one holds none
+-- document 01, the running hash: the variant is one of the ten, the stage open or closed, the total within the limit, and no bit past the state's and past the held ones is set; a closed one holds none
 unfoldable pub wellFormed : Hasher → Bool
 wellFormed h =
     known (h .variant)

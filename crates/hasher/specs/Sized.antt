@@ -1,4 +1,4 @@
--- What every running hash of the code is: 36 bytes of state and 5 bytes of held bits. A definition over lists says it here.
+-- Every running hash of the code has 36 bytes of state and 5 of held bits. In a definition its fields are lists, so theorems take that as a hypothesis.
 -- Assumes nothing.
 use mathlib.Core.Path.{_≡_}
 use lib.ListN.{length}

@@ -28,7 +28,7 @@ use Rattle.sponge.proofs.Clear.{clear-zeros, zeros-clear}
 use Rattle.sponge.proofs.ImageLaws.{known-low, known-high, image-length}
 use Rattle.hasher.specs.Running.{most}
 use Rattle.recover.specs.Leading.{endStateWith, leading, NoneLeads, OnlyLeads}
-use Rattle.recover.specs.Recovering.{none, blockSize, recoverStatus, recoveredBlock, Asked}
+use Rattle.recover.specs.Recovering.{isEmpty, blockSize, recoverStatus, recoveredBlock, Asked}
 use Rattle.recover.proofs.LeadingLaws.{difference-length, leading-none, leading-one, leads-same, leads-short, only}
 use Rattle.recover.proofs.RecoverLaws.{far}
 
@@ -51,22 +51,22 @@ module _ (H : Variant) (h : Lawful H) (m : List ℕ) (place : ℕ) (within : pla
       go false e = inr (λ z. apart (sym (zeros-clear (H .t - H .r)) ∙ ap clear (sym z) ∙ e))
 
   -- no block is listed just where none leads there
-  pub none-leading : (none (leading H m place s) ≡ true) ↔ NoneLeads H m place s
+  pub none-leading : (isEmpty (leading H m place s) ≡ true) ↔ NoneLeads H m place s
   none-leading = (
-    λ e b l q. apart (sym e ∙ ap none (leading-one H h m place within s ls (leads-short H h m place within s ls b l q))),
+    λ e b l q. apart (sym e ∙ ap isEmpty (leading-one H h m place within s ls (leads-short H h m place within s ls b l q))),
     λ f. ⊎-elim
         (λ z. absurd (f _ (only H h m place within s ls z .size) (only H h m place within s ls z .leads)))
-        (λ z. ap none (leading-none H h m place within s ls z))
+        (λ z. ap isEmpty (leading-none H h m place within s ls z))
         short?,
   )
 
   -- where one is listed, the first is the only one that leads there
-  pub first-leads : none (leading H m place s) ≡ false → OnlyLeads H m place s (headD (leading H m place s) [])
+  pub first-leads : isEmpty (leading H m place s) ≡ false → OnlyLeads H m place s (headD (leading H m place s) [])
   unfolding headD
   first-leads e =
       ⊎-elim
       (λ z. subst (λ (l : List (List Bool)). OnlyLeads H m place s (headD l [])) (sym (leading-one H h m place within s ls z)) (only H h m place within s ls z))
-      (λ z. absurd (apart (ap none (sym (leading-none H h m place within s ls z)) ∙ e)))
+      (λ z. absurd (apart (ap isEmpty (sym (leading-none H h m place within s ls z)) ∙ e)))
       short?
 
 -- the message's own block leads to its own end state, and no other
@@ -107,37 +107,37 @@ module _ (v : ℕ) (m : List ℕ) (place : ℕ) (image : List ℕ) (n : ℕ) (a 
   lS = length-unpack (order K) (K .t) image (omega (arith, image-length v low high image (a .image-good)))
 
   -- what is left to decide is whether a block leads to the state
-  decided : recoverStatus v m place image n ≡ cond (none (leading K m place S)) NoBlock Done
+  decided : recoverStatus v m place image n ≡ cond (isEmpty (leading K m place S)) NoBlock Done
   decided =
       ap (recoverStatus v m place image) (sym (length-replicate {A = ℕ} n 0))
       ∙ far v m place image (replicate n 0) (a .variant-known) (a .message-short) (a .place-within) (a .image-good)
       (subst (λ (k : ℕ). blockSize K ≤ k) (sym (length-replicate {A = ℕ} n 0)) (a .output-long))
 
-  listed : none (leading K m place S) ≡ true → recoverStatus v m place image n ≡ NoBlock
+  listed : isEmpty (leading K m place S) ≡ true → recoverStatus v m place image n ≡ NoBlock
   listed e = decided ∙ ap (λ (t : Bool). cond t NoBlock Done) e
 
-  found : none (leading K m place S) ≡ false → recoverStatus v m place image n ≡ Done
+  found : isEmpty (leading K m place S) ≡ false → recoverStatus v m place image n ≡ Done
   found e = decided ∙ ap (λ (t : Bool). cond t NoBlock Done) e
 
-  refused-true : recoverStatus v m place image n ≡ NoBlock → none (leading K m place S) ≡ true
-  refused-true e = go (none (leading K m place S)) refl
+  refused-true : recoverStatus v m place image n ≡ NoBlock → isEmpty (leading K m place S) ≡ true
+  refused-true e = go (isEmpty (leading K m place S)) refl
     where
-      go : (t : Bool) → none (leading K m place S) ≡ t → none (leading K m place S) ≡ true
+      go : (t : Bool) → isEmpty (leading K m place S) ≡ t → isEmpty (leading K m place S) ≡ true
       go true q = q
       go false q = absurd (let w : _≡_ {A = Status} NoBlock Done = sym e ∙ found q in let z : _≡_ {A = ℕ} 8 0 = ap number w in omega arith)
 
-  done-false : recoverStatus v m place image n ≡ Done → none (leading K m place S) ≡ false
-  done-false e = go (none (leading K m place S)) refl
+  done-false : recoverStatus v m place image n ≡ Done → isEmpty (leading K m place S) ≡ false
+  done-false e = go (isEmpty (leading K m place S)) refl
     where
-      go : (t : Bool) → none (leading K m place S) ≡ t → none (leading K m place S) ≡ false
+      go : (t : Bool) → isEmpty (leading K m place S) ≡ t → isEmpty (leading K m place S) ≡ false
       go false q = q
       go true q = absurd (let w : _≡_ {A = Status} Done NoBlock = sym e ∙ listed q in let z : _≡_ {A = ℕ} 0 8 = ap number w in omega arith)
 
   -- the answer is 8 or Done
   pub eight-or-done : (recoverStatus v m place image n ≡ NoBlock) ⊎ (recoverStatus v m place image n ≡ Done)
-  eight-or-done = go (none (leading K m place S)) refl
+  eight-or-done = go (isEmpty (leading K m place S)) refl
     where
-      go : (t : Bool) → none (leading K m place S) ≡ t → (recoverStatus v m place image n ≡ NoBlock) ⊎ (recoverStatus v m place image n ≡ Done)
+      go : (t : Bool) → isEmpty (leading K m place S) ≡ t → (recoverStatus v m place image n ≡ NoBlock) ⊎ (recoverStatus v m place image n ≡ Done)
       go true q = inl (listed q)
       go false q = inr (found q)
 

@@ -27,7 +27,7 @@ use Rattle.sponge.proofs.SqueezeLaws.{output-bits}
 use Rattle.hasher.specs.Running.{most}
 use Rattle.hasher.specs.Reading.{written}
 use Rattle.recover.specs.Leading.{leading}
-use Rattle.recover.specs.Recovering.{none, blockSize, recoverStatus, recoveredBlock, recoverInto}
+use Rattle.recover.specs.Recovering.{isEmpty, blockSize, recoverStatus, recoveredBlock, recoverInto}
 use Rattle.recover.proofs.LeadingLaws.{leading-none, leading-one, difference-length}
 
 -- ---- the ladder
@@ -55,7 +55,7 @@ module _ (v : ℕ) (m : List ℕ) (place : ℕ) (image out : List ℕ) where
   E = ltb (length out) (blockSize (variant v))
 
   abbrev F : Bool
-  F = none (leading (variant v) m place (stateIn (variant v) image))
+  F = isEmpty (leading (variant v) m place (stateIn (variant v) image))
 
   left : (s : Status) (out′ : List ℕ) → recoverStatus v m place image (length out) ≡ s → out′ ≡ written s (recoveredBlock v m place image) out
       → Left v m place image out s out′
@@ -102,13 +102,13 @@ module _ (v : ℕ) (m : List ℕ) (place : ℕ) (image out : List ℕ) where
             far = front ∙ ap₂ (λ (x y : Bool). ladder true false true x y F) d (le-ltb (length out) (blockSize (variant v)) e)
 
             pub left-none : leading (variant v) m place (stateIn (variant v) image) ≡ [] → Left v m place image out NoBlock out
-            left-none f = left NoBlock out (far ∙ ap (λ (l : List (List Bool)). ladder true false true true false (none l)) f) refl
+            left-none f = left NoBlock out (far ∙ ap (λ (l : List (List Bool)). ladder true false true true false (isEmpty l)) f) refl
 
             pub left-found : (block : List Bool) (out′ : List ℕ) → leading (variant v) m place (stateIn (variant v) image) ≡ block ∷ []
                 → out′ ≡ pack high-first (blockSize (variant v)) block ++ drop (blockSize (variant v)) out → Left v m place image out Done out′
             unfolding recoveredBlock headD
             left-found block out′ f g =
-                left Done out′ (far ∙ ap (λ (l : List (List Bool)). ladder true false true true false (none l)) f)
+                left Done out′ (far ∙ ap (λ (l : List (List Bool)). ladder true false true true false (isEmpty l)) f)
                 (g
                 ∙ ap₂ (λ (x : List ℕ) (n : ℕ). x ++ drop n out)
                 (ap (λ (l : List (List Bool)). pack high-first (blockSize (variant v)) (headD l [])) (sym f))

@@ -16,9 +16,10 @@ use Rattle.hasher.specs.Running.{most}
 use Rattle.hasher.specs.Reading.{written}
 use Rattle.recover.specs.Leading.{leading}
 
-abbrev pub none : List (List Bool) → Bool
-none [] = true
-none (b ∷ bs) = false
+-- whether a row has no block
+abbrev pub isEmpty : List (List Bool) → Bool
+isEmpty [] = true
+isEmpty (b ∷ bs) = false
 
 -- the bytes of a block
 abbrev pub blockSize : Variant → ℕ
@@ -32,10 +33,10 @@ recoverStatus v m place image n =
     (cond (not (ltb place (length (messageBlocks (variant v) m)))) OutOfRange
     (cond (not (isImage (variant v) image)) BadImage
     (cond (ltb n (blockSize (variant v))) OutputTooShort
-    (cond (none (leading (variant v) m place (stateIn (variant v) image))) NoBlock
+    (cond (isEmpty (leading (variant v) m place (stateIn (variant v) image))) NoBlock
     Done)))))
 
--- the block that leads to the image's state, packed in bytes
+-- the block that leads to the image's state, packed like an image (SPONGENT's are whole bytes, which both orders pack alike)
 unfoldable pub recoveredBlock : ℕ → List ℕ → ℕ → List ℕ → List ℕ
 recoveredBlock v m place image = pack high-first (blockSize (variant v)) (headD (leading (variant v) m place (stateIn (variant v) image)) [])
 

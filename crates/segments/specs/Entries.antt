@@ -30,7 +30,7 @@ unfoldable pub formerEnd : List ℕ → ℕ → ℕ
 formerEnd list zero = 0
 formerEnd list (suc k) = endOf list k
 
--- whole entries, and no more than 512 of them
+-- 9 refuses what is not: whole entries, and no more than 512 of them
 unfoldable pub isList : List ℕ → Bool
 isList list = eqb (length list % 8) 0 && leb (length list) 4096
 

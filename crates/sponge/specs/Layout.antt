@@ -6,9 +6,11 @@ use Prim.Native.Nat.{ℕ}
 use Rattle.standard.specs.Bits.{high-first, pack, unpack}
 use Rattle.standard.specs.Sponge.{Variant, order}
 
+-- an image at the front of 36 bytes
 abbrev pub stateBytes : Variant → List Bool → List ℕ
 stateBytes H s = pack (order H) 36 s
 
+-- a block, or held bits, packed like an image: SPONGENT's are whole bytes, which both orders pack alike
 abbrev pub blockBytes : List Bool → List ℕ
 blockBytes b = pack high-first 5 b
 

@@ -1,4 +1,4 @@
--- Bit strings, and the numbers and bytes that they are packed in (clause 4). A bit string is a list of Bool, its first bit first.
+-- Bit strings, and the numbers and bytes that they are packed in (clause 4; bytes by the note of 5.2.3 and by 5.3.2). A bit string is a list of Bool, its first bit first.
 -- Assumes nothing.
 use mathlib.Core.Bool.{Bool, true, false, xor}
 use mathlib.Core.List.{List, [], _∷_, _++_, reverse}
@@ -63,7 +63,7 @@ pack o (suc n) bs = valueOf o (filled 8 bs) ∷ pack o n (drop 8 bs)
 abbrev pub bytesFor : ℕ → ℕ
 bytesFor n = (n + 7) / 8
 
--- bits that stand in bytes in the order a, read from the same bytes in the order b
+-- bits that stand in bytes in the order a, read from the same bytes in the order b. For whole bytes, or a = b; a last part of a byte would lose bits.
 unfoldable pub reordered : Order → Order → List Bool → List Bool
 reordered a b bs = unpack b (length bs) (pack a (bytesFor (length bs)) bs)
 

@@ -21,11 +21,11 @@ at g i j = getD (getD g i []) j 0
 abbrev pub grid : ℕ → (ℕ → ℕ → ℕ) → Grid
 grid d f = tab d (λ i. tab d (f i))
 
--- the first d cells of a row
+-- for the code, whose matrix has eight rows and columns: the first d cells of a row
 abbrev pub cells : ℕ → List ℕ → List ℕ
 cells d row = tab d (λ j. getD row j 0)
 
--- the first d rows and columns of g
+-- for the code: the first d rows and columns of g
 unfoldable pub window : ℕ → Grid → Grid
 window d g = tab d (λ i. cells d (getD g i []))
 

@@ -2,14 +2,14 @@
 -- Assumes nothing.
 use mathlib.Core.Bool.{Bool, true, false}
 use mathlib.Core.List.{List, [], _∷_, map, flatMap}
-use Prim.Native.Nat.{ℕ, suc, _-_}
+use Prim.Native.Nat.{ℕ, suc, _-_, _/_}
 use lib.ListN.{length, getD, take, drop}
 use Rattle.standard.specs.Bits.{low-first, high-first, bitsOf, valueOf, bitsIn, pack, bytesFor}
 use Rattle.standard.specs.Field.{mul}
 use Rattle.standard.specs.Photon.{serial, aes}
 use Rattle.standard.specs.Spongent.{lCounters, goesTo}
 use Rattle.standard.specs.Sponge.{Variant, startState, messageBlocks, outputBlocks}
-use Rattle.standard.specs.Variants.{variant, spongent88}
+use Rattle.standard.specs.Variants.{variant, photon100, spongent88}
 use Rattle.standard.specs.LowestFreeBit.{lowestFreeBit}
 
 -- what a definition gives, and what the paper says that it is
@@ -50,12 +50,12 @@ knownValues =
     ∷ record { gives = take 5 (lCounters spongent88); stated = 0x05 ∷ 0x0a ∷ 0x14 ∷ 0x29 ∷ 0x13 ∷ [] }
     ∷ record { gives = places 0 (bitsOf high-first 88 0x05); stated = 85 ∷ 87 ∷ [] }
     -- t = 88: where the bits 1, 4, 86 and 87 go
-    ∷ record { gives = map (goesTo 88 22) (1 ∷ 4 ∷ 86 ∷ 87 ∷ []); stated = 22 ∷ 1 ∷ 65 ∷ 87 ∷ [] }
+    ∷ record { gives = map (goesTo (spongent88 .t) (spongent88 .t / 4)) (1 ∷ 4 ∷ 86 ∷ 87 ∷ []); stated = 22 ∷ 1 ∷ 65 ∷ 87 ∷ [] }
     -- the AES S-box, and products in both fields
     ∷ record { gives = getD aes 0xab 0 ∷ []; stated = 0x62 ∷ [] }
     ∷ record { gives = mul 16 0x13 2 9 ∷ mul 256 0x11b 0x02 0x8d ∷ []; stated = 1 ∷ 0x01 ∷ [] }
     -- d = 5: one multiplication of a column
-    ∷ record { gives = serial 16 0x13 (1 ∷ 2 ∷ 9 ∷ 9 ∷ 2 ∷ []) (0 ∷ 0 ∷ 0 ∷ 0 ∷ 1 ∷ []); stated = 0 ∷ 0 ∷ 0 ∷ 1 ∷ 2 ∷ [] }
+    ∷ record { gives = serial 16 (photon100 .poly) (photon100 .z) (0 ∷ 0 ∷ 0 ∷ 0 ∷ 1 ∷ []); stated = 0 ∷ 0 ∷ 0 ∷ 1 ∷ 2 ∷ [] }
     -- variant 3: five output blocks, the last giving 16 bits
     ∷ record { gives = map length (outputBlocks (variant 3) (startState (variant 3))); stated = 36 ∷ 36 ∷ 36 ∷ 36 ∷ 16 ∷ [] }
     ∷ []

@@ -15,7 +15,7 @@ abbrev pub inFirst : ℕ → ℕ → ℕ → ℕ
 inFirst zero a b = a
 inFirst (suc j) a b = b
 
--- 5.2.4.2 AddConstants: S'[i,0] = S[i,0] + RC(v) + IC(i). It is its own inverse.
+-- 5.2.4.2 AddConstants: S'[i,0] = S[i,0] ⊕ RC(v) ⊕ IC(i). The other columns stay. It is its own inverse.
 unfoldable pub addConstants : ℕ → ℕ → List ℕ → Grid → Grid
 addConstants d rc ic g = grid d (λ i j. inFirst j (bitXor (at g i 0) (bitXor rc (getD ic i 0))) (at g i j))
 
@@ -27,7 +27,7 @@ subCells d box g = grid d (λ i j. getD box (at g i j) 0)
 unfoldable pub shiftRows : ℕ → ℕ → Grid → Grid
 shiftRows d m g = grid d (λ i j. at g i ((j + m * i) % d))
 
--- 5.2.4.5, one multiplication of a column by Serial(z): every cell moves up one, and the last becomes the sum of z_j times cell j of the old column
+-- 5.2.4.5, one multiplication of a column by the printed matrix Serial(z): every cell moves up one, and the last becomes the sum of z_j times cell j of the old column
 unfoldable pub serial : ℕ → ℕ → List ℕ → List ℕ → List ℕ
 serial top poly z c = tail c ++ (dot top poly z c ∷ [])
 
@@ -43,7 +43,7 @@ mixColumns top poly d z g = columns d (iterate d (serial top poly z)) g
 unfoldable pub unmixColumns : ℕ → ℕ → ℕ → List ℕ → Grid → Grid
 unmixColumns top poly d unz g = reverse (mixColumns top poly d unz (reverse g))
 
--- The parameters of a variant, Table 1: d rows and columns, s bits in a cell, the S-box and its inverse table, the row constants IC, the coefficients Z and those of the inverse
+-- The parameters of a variant: those of Table 1 (d rows and columns, s bits in a cell, the polynomial of the field, the row constants IC, the coefficients Z), the S-box of 5.2.4.3, and for the inverse its table and coefficients
 pub record PhotonParameters : Type 0 where
   pub d : ℕ
   pub s : ℕ
@@ -54,7 +54,7 @@ pub record PhotonParameters : Type 0 where
   pub z : List ℕ
   pub unz : List ℕ
 
--- one round with its round constant, or that round taken back
+-- 5.2.4.1: one round with its round constant, or that round taken back
 unfoldable pub photonRound : PhotonParameters → Direction → Grid → ℕ → Grid
 photonRound p forward g rc =
     mixColumns (2 ^ p .s) (p .poly) (p .d) (p .z)
@@ -63,15 +63,15 @@ photonRound p backward g rc =
     addConstants (p .d) rc (p .ic)
     (subCells (p .d) (p .unbox) (shiftRows (p .d) (p .d - 1) (unmixColumns (2 ^ p .s) (p .poly) (p .d) (p .unz) g)))
 
--- RC(1), .., RC(12)
+-- 5.2.4.2: RC(1), .., RC(12)
 abbrev pub roundConstants : List ℕ
 roundConstants = 1 ∷ 3 ∷ 7 ∷ 14 ∷ 13 ∷ 11 ∷ 6 ∷ 12 ∷ 9 ∷ 2 ∷ 5 ∷ 10 ∷ []
 
--- P_t on the matrix: twelve rounds
+-- 5.2.4.1: P_t on the matrix, twelve rounds, one for each constant
 unfoldable pub photonRounds : PhotonParameters → Direction → Grid → Grid
 photonRounds p w g = rounds (photonRound p) w roundConstants g
 
--- the state's bits as a matrix, row by row, each cell of s bits with its most significant bit first; and back
+-- the state's bits as a matrix, row by row, each cell of s bits with its most significant bit first; and back (5.2.4 states no order; B.1 prints it so)
 unfoldable pub matrixOf : ℕ → ℕ → List Bool → Grid
 matrixOf d s bs = map (λ row. map (valueOf high-first) (cut s d row)) (cut (d * s) d bs)
 

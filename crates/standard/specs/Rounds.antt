@@ -12,7 +12,7 @@ abbrev pub opposite : Direction → Direction
 opposite forward = backward
 opposite backward = forward
 
--- the direction that a flag of the code asks for
+-- for the code: the direction that a flag asks for
 abbrev pub direction : Bool → Direction
 direction false = forward
 direction true = backward

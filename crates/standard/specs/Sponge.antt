@@ -38,7 +38,7 @@ permutationOf (spongent p) = spongentPermutation p
 unfoldable pub permutation : Variant → Direction → List Bool → List Bool
 permutation H = permutationOf (H .family)
 
--- IV. PHOTON: t - 24 zeros, then n/4, r and r′, eight bits each; SPONGENT: zeros.
+-- 5.2.3, 5.3.3: IV. PHOTON: t - 24 zeros, then n/4, r and r′, eight bits each; SPONGENT: zeros.
 abbrev pub startOf : Variant → Family → List Bool
 startOf H (photon p) =
     replicate (H .t - 24) false ++ (bitsOf high-first 8 (H .n / 4) ++ (bitsOf high-first 8 (H .r) ++ bitsOf high-first 8 (H .r′)))
@@ -47,7 +47,7 @@ startOf H (spongent p) = replicate (H .t) false
 unfoldable pub startState : Variant → List Bool
 startState H = startOf H (H .family)
 
--- a 1 bit, and then the fewest zeros that fill the last block
+-- 5.2.3, 5.3.3: a 1 bit, and then the fewest zeros that fill the last block
 unfoldable pub padded : ℕ → List Bool → List Bool
 padded r m = m ++ true ∷ replicate (r - 1 - length m % r) false
 
@@ -63,7 +63,7 @@ restOf r bs = drop (length bs / r * r) bs
 unfoldable pub messageBlocks : Variant → List ℕ → List (List Bool)
 messageBlocks H m = wholeBlocks (H .r) (padded (H .r) (bitsIn high-first m))
 
--- the block step: the block, laid out as bytes lie in the state, is xored into the first r bits, and the permutation runs
+-- 5.2.3, 5.3.3, the block step: the block is xored into the first r bits, and the permutation runs. Byte 0 of the block goes into byte 0 of the state (5.3.2): for SPONGENT the bits of each byte turn round, and the bytes keep their order.
 unfoldable pub step : Variant → List Bool → List Bool → List Bool
 step H s b = permutation H forward (xorInto s (reordered high-first (order H) b))
 
@@ -71,7 +71,7 @@ step H s b = permutation H forward (xorInto s (reordered high-first (order H) b)
 unfoldable pub unstep : Variant → List Bool → List Bool → List Bool
 unstep H s b = xorInto (permutation H backward s) (reordered high-first (order H) b)
 
--- the state after a row of blocks
+-- 5.2.3, 5.3.3: the state after a row of blocks
 unfoldable pub run : Variant → List Bool → List (List Bool) → List Bool
 run H s bs = foldl (step H) s bs
 
@@ -79,30 +79,34 @@ run H s bs = foldl (step H) s bs
 unfoldable pub unrun : Variant → List Bool → List (List Bool) → List Bool
 unrun H s bs = foldl (unstep H) s (reverse bs)
 
--- the state after the last block of a message
+-- 5.2.3, 5.3.3: the state after the last block of a message
 unfoldable pub endState : Variant → List ℕ → List Bool
 endState H m = run H (startState H) (messageBlocks H m)
 
--- z_0, z_1, ..: k output blocks of r bits with the permutation f between them, n bits in all; what the last has past that is cut
+-- 5.2.3, 5.3.3, z_0, z_1, ..: k output blocks of r bits (the r′ of a variant) with the permutation f between them, n bits in all; what the last has past that is cut
 unfoldable pub outputs : (List Bool → List Bool) → ℕ → ℕ → ℕ → List Bool → List (List Bool)
 outputs f r n zero s = []
 outputs f r n (suc zero) s = take n (take r s) ∷ []
 outputs f r n (suc (suc k)) s = take n (take r s) ∷ outputs f r (n - r) (suc k) (f s)
 
--- n / r′ rounded up
+-- n / r′ rounded up (docs/DECISIONS.md, D-2)
 abbrev pub outputCount : Variant → ℕ
 outputCount H = (H .n + (H .r′ - 1)) / H .r′
 
 unfoldable pub outputBlocks : Variant → List Bool → List (List Bool)
 outputBlocks H s = outputs (permutation H forward) (H .r′) (H .n) (outputCount H) s
 
--- the digest that is squeezed out of an end state: n bits, each byte's most significant bit first
+-- the digest that is squeezed out of an end state: n bits, each byte's most significant bit first. For SPONGENT byte 0 of an output block comes first (document 01; B.2 agrees).
 unfoldable pub squeezed : Variant → List Bool → List Bool
 squeezed H s = flatMap (reordered (order H) high-first) (outputBlocks H s)
 
+-- those bits in bytes
+abbrev pub digestFrom : Variant → List Bool → List ℕ
+digestFrom H s = pack high-first (H .n / 8) (squeezed H s)
+
 -- hash(M), in bytes
 unfoldable pub digestOf : Variant → List ℕ → List ℕ
-digestOf H m = pack high-first (H .n / 8) (squeezed H (endState H m))
+digestOf H m = digestFrom H (endState H m)
 
 -- ---- images: a state packed in bytes
 

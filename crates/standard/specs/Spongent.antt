@@ -15,7 +15,7 @@ unfoldable pub tapped : List ℕ → ℕ → Bool
 tapped [] c = false
 tapped (k ∷ ks) c = xor (bit (c / 2 ^ k % 2)) (tapped ks c)
 
--- a counter of w bits shifts left by one, and its new low bit is the xor of the taps
+-- a counter of w bits shifts left by one, and its new low bit is the xor of the taps. Table 9 has only the polynomial; document 01 states the direction, and B.2 agrees.
 unfoldable pub nextCounter : ℕ → List ℕ → ℕ → ℕ
 nextCounter w taps c = (c * 2 + digit (tapped taps c)) % 2 ^ w
 
@@ -37,7 +37,7 @@ nibbles = 0xe ∷ 0xd ∷ 0xb ∷ 0 ∷ 2 ∷ 1 ∷ 4 ∷ 0xf ∷ 7 ∷ 0xa ∷ 
 abbrev pub unnibbles : List ℕ
 unnibbles = 3 ∷ 5 ∷ 4 ∷ 0xe ∷ 6 ∷ 0xb ∷ 0xf ∷ 8 ∷ 0xa ∷ 0xc ∷ 9 ∷ 2 ∷ 0xd ∷ 1 ∷ 0 ∷ 7 ∷ []
 
--- 5.3.4.3 sBoxLayer: each nibble, its lowest bit first, through the table
+-- 5.3.4.3 sBoxLayer: each nibble, its lowest bit first, through the table. Fewer than four bits at the end, which no variant has, stay.
 unfoldable pub sBoxLayer : List ℕ → List Bool → List Bool
 sBoxLayer box [] = []
 sBoxLayer box (a ∷ []) = a ∷ []
@@ -49,7 +49,7 @@ sBoxLayer box (a ∷ b ∷ c ∷ d ∷ s) = lowBits 4 (getD box (lowValue (a ∷
 unfoldable pub goesTo : ℕ → ℕ → ℕ → ℕ
 goesTo t m j = cond (eqb j (t - 1)) j (j * m % (t - 1))
 
--- t zeros, with the first n bits of s put where f says
+-- t zeros, with the first j bits of s put where f says
 unfoldable pub placed : (ℕ → ℕ) → ℕ → List Bool → ℕ → List Bool
 placed f t s zero = replicate t false
 placed f t s (suc j) = set (placed f t s j) (f j) (getD s j false)
@@ -60,12 +60,12 @@ pLayer t m s = placed (goesTo t m) t s t
 
 -- ---- rounds
 
--- one round with its counter, or that round taken back
+-- 5.3.4.1: one round with its counter, or that round taken back
 unfoldable pub spongentRound : ℕ → Direction → List Bool → ℕ → List Bool
 spongentRound t forward s c = pLayer t (t / 4) (sBoxLayer nibbles (cAddition t c s))
 spongentRound t backward s c = cAddition t c (sBoxLayer unnibbles (pLayer t 4 s))
 
--- The parameters of a variant, Table 9: t bits of state, R rounds, the counter's width, first value and taps (its polynomial without the last term)
+-- The parameters of a variant, Table 9: t bits of state, R rounds, the counter's width (log2 R, rounded up), its first value and its taps: bit k - 1 for each term x^k of the polynomial but the last
 pub record SpongentParameters : Type 0 where
   pub t : ℕ
   pub R : ℕ
@@ -77,6 +77,6 @@ pub record SpongentParameters : Type 0 where
 unfoldable pub lCounters : SpongentParameters → List ℕ
 lCounters p = counters (p .width) (p .taps) (p .first) (p .R)
 
--- π_t on the state of t bits
+-- 5.3.4.1: π_t on the state of t bits
 unfoldable pub spongentPermutation : SpongentParameters → Direction → List Bool → List Bool
 spongentPermutation p w s = rounds (spongentRound (p .t)) w (lCounters p) s

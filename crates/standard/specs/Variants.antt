@@ -1,4 +1,5 @@
--- The ten variants, by number: Table 1 (1 to 5) and Table 9 (6 to 10), with the rates and digest sizes of 5.2.1, 5.2.4.1 and 5.3.1.
+-- The ten variants, by number: Table 1 (1 to 5) and Table 9 (6 to 10), and the digest sizes of 5.2.1 and 5.3.1.
+-- Clause 5.3 states no rate: SPONGENT's r is that of Table C.1 and document 01, and r′ = r.
 -- Assumes nothing.
 use mathlib.Core.Bool.{Bool, _&&_}
 use mathlib.Core.List.{List, [], _∷_}
@@ -8,6 +9,8 @@ use lib.ListN.{getD}
 use Rattle.standard.specs.Photon.{PhotonParameters, present, unpresent, aes, unaes}
 use Rattle.standard.specs.Spongent.{SpongentParameters}
 use Rattle.standard.specs.Sponge.{Family, photon, spongent, Variant}
+
+-- Table 1; `unz` is no part of it (docs/DECISIONS.md, D-5)
 
 abbrev pub photon100 : PhotonParameters
 photon100 = record { d = 5; s = 4; poly = 0x13; box = present; unbox = unpresent; ic = 0 ∷ 1 ∷ 3 ∷ 6 ∷ 4 ∷ []; z = 1 ∷ 2 ∷ 9 ∷ 9 ∷ 2 ∷ []; unz = 1 ∷ 2 ∷ 9 ∷ 9 ∷ 2 ∷ [] }
@@ -23,6 +26,8 @@ photon256 = record { d = 8; s = 4; poly = 0x13; box = present; unbox = unpresent
 
 abbrev pub photon288 : PhotonParameters
 photon288 = record { d = 6; s = 8; poly = 0x11b; box = aes; unbox = unaes; ic = 0 ∷ 1 ∷ 3 ∷ 7 ∷ 6 ∷ 4 ∷ []; z = 2 ∷ 3 ∷ 1 ∷ 2 ∷ 1 ∷ 4 ∷ []; unz = 141 ∷ 2 ∷ 141 ∷ 1 ∷ 141 ∷ 140 ∷ [] }
+
+-- Table 9
 
 abbrev pub spongent88 : SpongentParameters
 spongent88 = record { t = 88; R = 45; width = 6; first = 0x05; taps = 5 ∷ 4 ∷ [] }
