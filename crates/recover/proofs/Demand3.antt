@@ -28,9 +28,9 @@ use Rattle.sponge.proofs.Clear.{clear-zeros, zeros-clear}
 use Rattle.sponge.proofs.ImageLaws.{known-low, known-high, image-length}
 use Rattle.hasher.specs.Running.{most}
 use Rattle.recover.specs.Leading.{endStateWith, leading, NoneLeads, OnlyLeads}
-use Rattle.recover.specs.Recovering.{isEmpty, blockSize, recoverStatus, recoveredBlock, Asked}
+use Rattle.recover.specs.Recovering.{isEmpty, blockSize, askedStatus, recoverStatus, recoveredBlock}
 use Rattle.recover.proofs.LeadingLaws.{difference-length, leading-none, leading-one, leads-same, leads-short, only}
-use Rattle.recover.proofs.RecoverLaws.{far}
+use Rattle.recover.proofs.RecoverLaws.{Asked, passing, decided}
 
 apart : true ≡ false → ⊥
 apart w = let n : _≡_ {A = ℕ} 0 1 = cc in omega arith
@@ -89,35 +89,25 @@ own-block v low high m place within =
 
 -- ---- the operation, by number
 
-module _ (v : ℕ) (m : List ℕ) (place : ℕ) (image : List ℕ) (n : ℕ) (a : Asked v m place image n) where
+module _ (v : ℕ) (m : List ℕ) (place : ℕ) (image : List ℕ) (n : ℕ) (asked : askedStatus v m place image n ≡ Done) where
   abbrev K : Variant
   K = variant v
 
   abbrev S : List Bool
   S = stateIn (variant v) image
 
-  low : 1 ≤ v
-  low = known-low v (a .variant-known)
-
-  high : v ≤ 10
-  high = known-high v (a .variant-known)
+  a : Asked v m place image n
+  a = passing v m place image n asked
 
   lS : length S ≡ K .t
   unfolding stateIn
-  lS = length-unpack (order K) (K .t) image (omega (arith, image-length v low high image (a .image-good)))
-
-  -- what is left to decide is whether a block leads to the state
-  decided : recoverStatus v m place image n ≡ cond (isEmpty (leading K m place S)) NoBlock Done
-  decided =
-      ap (recoverStatus v m place image) (sym (length-replicate {A = ℕ} n 0))
-      ∙ far v m place image (replicate n 0) (a .variant-known) (a .message-short) (a .place-within) (a .image-good)
-      (subst (λ (k : ℕ). blockSize K ≤ k) (sym (length-replicate {A = ℕ} n 0)) (a .output-long))
+  lS = length-unpack (order K) (K .t) image (omega (arith, image-length v (a .low) (a .high) image (a .good)))
 
   listed : isEmpty (leading K m place S) ≡ true → recoverStatus v m place image n ≡ NoBlock
-  listed e = decided ∙ ap (λ (t : Bool). cond t NoBlock Done) e
+  listed e = decided v m place image n asked ∙ ap (λ (t : Bool). cond t NoBlock Done) e
 
   found : isEmpty (leading K m place S) ≡ false → recoverStatus v m place image n ≡ Done
-  found e = decided ∙ ap (λ (t : Bool). cond t NoBlock Done) e
+  found e = decided v m place image n asked ∙ ap (λ (t : Bool). cond t NoBlock Done) e
 
   refused-true : recoverStatus v m place image n ≡ NoBlock → isEmpty (leading K m place S) ≡ true
   refused-true e = go (isEmpty (leading K m place S)) refl
@@ -144,11 +134,11 @@ module _ (v : ℕ) (m : List ℕ) (place : ℕ) (image : List ℕ) (n : ℕ) (a 
   -- 8 exactly when no block leads to the state
   pub eight-exactly : (recoverStatus v m place image n ≡ NoBlock) ↔ NoneLeads K m place S
   eight-exactly =
-      let law = none-leading K (lawful v low high) m place (a .place-within) S lS in
+      let law = none-leading K (lawful v (a .low) (a .high)) m place (a .within) S lS in
       (λ e. law .0 (refused-true e), λ f. listed (law .1 f))
 
   -- otherwise the block that is given leads there, and every other leads to another state
   pub block-given : recoverStatus v m place image n ≡ Done
       → (b : List Bool) × OnlyLeads K m place S b × (recoveredBlock v m place image ≡ pack high-first (blockSize K) b)
   unfolding recoveredBlock
-  block-given e = (headD (leading K m place S) [], first-leads K (lawful v low high) m place (a .place-within) S lS (done-false e), refl)
+  block-given e = (headD (leading K m place S) [], first-leads K (lawful v (a .low) (a .high)) m place (a .within) S lS (done-false e), refl)

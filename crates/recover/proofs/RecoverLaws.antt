@@ -10,109 +10,57 @@ use native.Mathlib.Omega.{arith}
 use lib.Dec.{ltb}
 use lib.ListN.{length, take, drop, getD, replicate, length-drop}
 use lib.Seq.{length-take-le, take-add, drop-append-le}
-use borrow.Author.Tests.{lt-ltb, le-ltb}
+use borrow.Author.Tests.{ltb-true, ltb-false, not-false}
 use Rattle.standard.specs.Bits.{Order, high-first, bitsIn, pack, unpack, bytesFor, reordered, xorInto}
 use Rattle.standard.specs.Rounds.{backward}
 use Rattle.standard.specs.Sponge.{Variant, order, permutation, startState, messageBlocks, run, unrun, stateIn}
 use Rattle.standard.specs.Variants.{variant, known}
 use Rattle.standard.proofs.BitLaws.{length-bitsIn, length-pack, bitsIn-take, image-eq, length-unpack, pack-bytes}
+use Rattle.standard.proofs.OneBlock.{Lawful}
 use Rattle.standard.proofs.Variants.{Bounds, bounds, lawful}
 use Rattle.sponge.specs.declared.Status.{Status}
 use Rattle.sponge.specs.declared.Status.the-variants.{Done, UnknownVariant, TooLong, OutputTooShort, BadImage, OutOfRange, NoBlock}
+use Rattle.sponge.specs.Refusals.{whenDone}
 use Rattle.sponge.specs.Layout.{stateBytes, clear}
 use Rattle.sponge.specs.Images.{isImage}
+use Rattle.sponge.proofs.Answers.{not-done, kept, passed}
+use Rattle.sponge.proofs.ImageLaws.{known-low, known-high, image-ready, image-state, image-read}
 use Rattle.sponge.proofs.Clear.{clear-append, clear-zeros, zeros-clear, clear-order}
 use Rattle.sponge.proofs.LayoutLaws.{packed-bits}
 use Rattle.sponge.proofs.SqueezeLaws.{output-bits}
 use Rattle.hasher.specs.Running.{most}
 use Rattle.hasher.specs.Reading.{written}
 use Rattle.recover.specs.Leading.{leading}
-use Rattle.recover.specs.Recovering.{isEmpty, blockSize, recoverStatus, recoveredBlock, recoverInto}
+use Rattle.recover.specs.Recovering.{isEmpty, blockSize, askedStatus, recoverStatus, recoveredBlock, recoverInto}
 use Rattle.recover.proofs.LeadingLaws.{leading-none, leading-one, difference-length}
 
--- ---- the ladder
+-- ---- the checks
 
-abbrev ladder : Bool → Bool → Bool → Bool → Bool → Bool → Status
-ladder a b c d e f =
-    cond (not a) UnknownVariant
-    (cond b TooLong (cond (not c) OutOfRange (cond (not d) BadImage (cond e OutputTooShort (cond f NoBlock Done)))))
+-- what holds of a call whose checks before the search have passed
+pub record Asked (v : ℕ) (m : List ℕ) (place : ℕ) (image : List ℕ) (n : ℕ) : Type 0 where
+  pub low : 1 ≤ v
+  pub high : v ≤ 10
+  pub short : length m ≤ most
+  pub within : place < length (messageBlocks (variant v) m)
+  pub good : isImage (variant v) image ≡ true
+  pub long : blockSize (variant v) ≤ n
 
--- status and output after a call
-abbrev pub Left : ℕ → List ℕ → ℕ → List ℕ → List ℕ → Status → List ℕ → Type 0
-Left v m place image out s out′ = (s ≡ recoverStatus v m place image (length out)) × (out′ ≡ recoverInto v m place image out)
-
-module _ (v : ℕ) (m : List ℕ) (place : ℕ) (image out : List ℕ) where
-  abbrev B : Bool
-  B = ltb most (length m)
-
-  abbrev C : Bool
-  C = ltb place (length (messageBlocks (variant v) m))
-
-  abbrev D : Bool
-  D = isImage (variant v) image
-
-  abbrev E : Bool
-  E = ltb (length out) (blockSize (variant v))
-
-  abbrev F : Bool
-  F = isEmpty (leading (variant v) m place (stateIn (variant v) image))
-
-  left : (s : Status) (out′ : List ℕ) → recoverStatus v m place image (length out) ≡ s → out′ ≡ written s (recoveredBlock v m place image) out
-      → Left v m place image out s out′
-  unfolding recoverInto
-  left s out′ e f = (sym e, f ∙ ap (λ (t : Status). written t (recoveredBlock v m place image) out) (sym e))
-
-  pub left-unknown : known v ≡ false → Left v m place image out UnknownVariant out
-  unfolding recoverStatus
-  left-unknown a = left UnknownVariant out (ap (λ (x : Bool). ladder x B C D E F) a) refl
-
-  module _ (a : known v ≡ true) where
-    pub left-long : most < length m → Left v m place image out TooLong out
-    unfolding recoverStatus
-    left-long h = left TooLong out (ap₂ (λ (x y : Bool). ladder x y C D E F) a (lt-ltb most (length m) h)) refl
-
-    module _ (b : length m ≤ most) where
-      b′ : ltb most (length m) ≡ false
-      b′ = le-ltb most (length m) b
-
-      pub left-range : length (messageBlocks (variant v) m) ≤ place → Left v m place image out OutOfRange out
-      unfolding recoverStatus
-      left-range h =
-          left OutOfRange out
-          (ap₂ (λ (x y : Bool). ladder x y C D E F) a b′ ∙ ap (λ (x : Bool). ladder true false x D E F) (le-ltb place _ h)) refl
-
-      module _ (c : place < length (messageBlocks (variant v) m)) where
-        c′ : ltb place (length (messageBlocks (variant v) m)) ≡ true
-        c′ = lt-ltb place _ c
-
-        front : recoverStatus v m place image (length out) ≡ ladder true false true D E F
-        unfolding recoverStatus
-        front = ap₂ (λ (x y : Bool). ladder x y C D E F) a b′ ∙ ap (λ (x : Bool). ladder true false x D E F) c′
-
-        pub left-image : isImage (variant v) image ≡ false → Left v m place image out BadImage out
-        left-image d = left BadImage out (front ∙ ap (λ (x : Bool). ladder true false true x E F) d) refl
-
-        module _ (d : isImage (variant v) image ≡ true) where
-          pub left-short : length out < blockSize (variant v) → Left v m place image out OutputTooShort out
-          left-short h =
-              left OutputTooShort out (front ∙ ap₂ (λ (x y : Bool). ladder true false true x y F) d (lt-ltb (length out) (blockSize (variant v)) h)) refl
-
-          module _ (e : blockSize (variant v) ≤ length out) where
-            pub far : recoverStatus v m place image (length out) ≡ ladder true false true true false F
-            far = front ∙ ap₂ (λ (x y : Bool). ladder true false true x y F) d (le-ltb (length out) (blockSize (variant v)) e)
-
-            pub left-none : leading (variant v) m place (stateIn (variant v) image) ≡ [] → Left v m place image out NoBlock out
-            left-none f = left NoBlock out (far ∙ ap (λ (l : List (List Bool)). ladder true false true true false (isEmpty l)) f) refl
-
-            pub left-found : (block : List Bool) (out′ : List ℕ) → leading (variant v) m place (stateIn (variant v) image) ≡ block ∷ []
-                → out′ ≡ pack high-first (blockSize (variant v)) block ++ drop (blockSize (variant v)) out → Left v m place image out Done out′
-            unfolding recoveredBlock headD
-            left-found block out′ f g =
-                left Done out′ (far ∙ ap (λ (l : List (List Bool)). ladder true false true true false (isEmpty l)) f)
-                (g
-                ∙ ap₂ (λ (x : List ℕ) (n : ℕ). x ++ drop n out)
-                (ap (λ (l : List (List Bool)). pack high-first (blockSize (variant v)) (headD l [])) (sym f))
-                (sym (length-pack high-first (blockSize (variant v)) _)))
+pub passing : (v : ℕ) (m : List ℕ) (place : ℕ) (image : List ℕ) (n : ℕ) → askedStatus v m place image n ≡ Done → Asked v m place image n
+unfolding askedStatus
+passing v m place image n e =
+    let a = passed (not (known v)) UnknownVariant _ (not-done _ (λ z. omega arith)) e in
+    let b = passed (ltb most (length m)) TooLong _ (not-done _ (λ z. omega arith)) (a .1) in
+    let c = passed (not (ltb place (length (messageBlocks (variant v) m)))) OutOfRange _ (not-done _ (λ z. omega arith)) (b .1) in
+    let d = passed (not (isImage (variant v) image)) BadImage _ (not-done _ (λ z. omega arith)) (c .1) in
+    let f = passed (ltb n (blockSize (variant v))) OutputTooShort _ (not-done _ (λ z. omega arith)) (d .1) in
+    record {
+      low = known-low v (not-false _ (a .0));
+      high = known-high v (not-false _ (a .0));
+      short = ltb-false _ _ (b .0);
+      within = ltb-true _ _ (not-false _ (c .0));
+      good = not-false _ (d .0);
+      long = ltb-false _ _ (f .0);
+    }
 
 -- ---- the difference in its bytes
 
@@ -192,3 +140,76 @@ module _ (v : ℕ) (low : 1 ≤ v) (high : v ≤ 10) (X : List Bool) (lX : lengt
     where
       taken-bytes : (n i : ℕ) → getD (take n (pack (order (variant v)) 36 X)) i 0 < 256
       taken-bytes n i = getD-take-lt n (pack (order (variant v)) 36 X) i (pack-bytes (order (variant v)) 36 X)
+
+-- ---- the operation
+
+-- status and output after a call
+abbrev pub Left : ℕ → List ℕ → ℕ → List ℕ → List ℕ → Status → List ℕ → Type 0
+Left v m place image out s out′ = (s ≡ recoverStatus v m place image (length out)) × (out′ ≡ recoverInto v m place image out)
+
+-- once the checks have passed, what is left to decide is whether a block leads to the state
+pub decided : (v : ℕ) (m : List ℕ) (place : ℕ) (image : List ℕ) (n : ℕ) → askedStatus v m place image n ≡ Done
+    → recoverStatus v m place image n ≡ cond (isEmpty (leading (variant v) m place (stateIn (variant v) image))) NoBlock Done
+unfolding recoverStatus
+decided v m place image n e = ap (λ (s : Status). whenDone s (cond (isEmpty (leading (variant v) m place (stateIn (variant v) image))) NoBlock Done) s) e
+
+module _ (v : ℕ) (m : List ℕ) (place : ℕ) (image out : List ℕ) where
+  left : (s : Status) (out′ : List ℕ) → recoverStatus v m place image (length out) ≡ s → out′ ≡ written s (recoveredBlock v m place image) out
+      → Left v m place image out s out′
+  unfolding recoverInto
+  left s out′ e f = (sym e, f ∙ ap (λ (t : Status). written t (recoveredBlock v m place image) out) (sym e))
+
+  pub left-refused : (s : Status) → s ≡ askedStatus v m place image (length out) → (s ≡ Done → ⊥) → Left v m place image out s out
+  unfolding recoverStatus
+  left-refused s e r =
+      left s out (kept (askedStatus v m place image (length out)) _ _ (λ d. r (e ∙ d)) ∙ sym e) (sym (kept s (recoveredBlock v m place image ++ drop (length (recoveredBlock v m place image)) out) out r))
+
+  -- from what the code has read and found: x is the image at the front of 36 bytes, y the difference of the two states
+  module _ (e : askedStatus v m place image (length out) ≡ Done) (x : List ℕ) (hx : (i : ℕ) → getD x i 0 < 256) (ex : x ≡ image ++ replicate (36 - length image) 0) where
+    facts : Asked v m place image (length out)
+    facts = passing v m place image (length out) e
+
+    abbrev K : Variant
+    K = variant v
+
+    abbrev S : List Bool
+    S = stateIn (variant v) image
+
+    abbrev between : List Bool → List Bool
+    between s = xorInto (run K (startState K) (take place (messageBlocks K m))) (permutation K backward (unrun K s (drop (suc place) (messageBlocks K m))))
+
+    -- the image is a state, as the way back asks
+    pub ready : x ≡ stateBytes K (stateIn K x)
+    ready = image-ready v (facts .low) (facts .high) image (facts .good) x hx ex
+
+    size : length S ≡ K .t
+    size = image-state v (facts .low) (facts .high) image (facts .good) x hx ex
+
+    module _ (y : List ℕ) (ey : y ≡ stateBytes K (between (stateIn K x))) where
+      given : y ≡ stateBytes K (between S)
+      given = ey ∙ ap (λ (s : List Bool). stateBytes K (between s)) (image-read v (facts .low) (facts .high) image (facts .good) x hx ex)
+
+      law : Lawful K
+      law = lawful v (facts .low) (facts .high)
+
+      difference : length (between S) ≡ K .t
+      difference = difference-length K law m place (facts .within) S size
+
+      pub left-none : clear (drop (K .r) (bitsIn high-first y)) ≡ false → Left v m place image out NoBlock out
+      left-none z =
+          left NoBlock out
+          (decided v m place image (length out) e
+          ∙ ap (λ (l : List (List Bool)). cond (isEmpty l) NoBlock Done)
+          (leading-none K law m place (facts .within) S size (asked-no v (facts .low) (facts .high) (between S) difference y given z)))
+          refl
+
+      pub left-found : clear (drop (K .r) (bitsIn high-first y)) ≡ true → (out′ : List ℕ) → out′ ≡ take (blockSize K) y ++ drop (blockSize K) out
+          → Left v m place image out Done out′
+      unfolding recoveredBlock headD
+      left-found z out′ f =
+          let one = leading-one K law m place (facts .within) S size (asked-yes v (facts .low) (facts .high) (between S) difference y given z) in
+          let bytes : take (blockSize K) y ≡ recoveredBlock v m place image =
+          front-bytes v (facts .low) (facts .high) (between S) difference y given z
+          ∙ ap (λ (l : List (List Bool)). pack high-first (blockSize K) (headD l [])) (sym one) in
+          left Done out′ (decided v m place image (length out) e ∙ ap (λ (l : List (List Bool)). cond (isEmpty l) NoBlock Done) one)
+          (f ∙ ap₂ (λ (b : List ℕ) (n : ℕ). b ++ drop n out) bytes (sym (length-pack high-first (blockSize K) _)))

@@ -11,6 +11,7 @@ use Rattle.standard.specs.Sponge.{Variant, messageBlocks, stateIn}
 use Rattle.standard.specs.Variants.{variant, known}
 use Rattle.sponge.specs.declared.Status.{Status}
 use Rattle.sponge.specs.declared.Status.the-variants.{Done, UnknownVariant, TooLong, OutputTooShort, BadImage, OutOfRange, NoBlock}
+use Rattle.sponge.specs.Refusals.{whenDone}
 use Rattle.sponge.specs.Images.{isImage}
 use Rattle.hasher.specs.Running.{most}
 use Rattle.hasher.specs.Reading.{written}
@@ -25,16 +26,22 @@ isEmpty (b ∷ bs) = false
 abbrev pub blockSize : Variant → ℕ
 blockSize H = bytesFor (H .r)
 
--- Lost block: 1; 4; 7; 6; 5; 8
-unfoldable pub recoverStatus : ℕ → List ℕ → ℕ → List ℕ → ℕ → Status
-recoverStatus v m place image n =
+-- Lost block, before the search: 1; 4; 7; 6; 5
+unfoldable pub askedStatus : ℕ → List ℕ → ℕ → List ℕ → ℕ → Status
+askedStatus v m place image n =
     cond (not (known v)) UnknownVariant
     (cond (ltb most (length m)) TooLong
     (cond (not (ltb place (length (messageBlocks (variant v) m)))) OutOfRange
     (cond (not (isImage (variant v) image)) BadImage
     (cond (ltb n (blockSize (variant v))) OutputTooShort
-    (cond (isEmpty (leading (variant v) m place (stateIn (variant v) image))) NoBlock
-    Done)))))
+    Done))))
+
+-- Lost block: 1; 4; 7; 6; 5; 8
+unfoldable pub recoverStatus : ℕ → List ℕ → ℕ → List ℕ → ℕ → Status
+recoverStatus v m place image n =
+    whenDone (askedStatus v m place image n)
+    (cond (isEmpty (leading (variant v) m place (stateIn (variant v) image))) NoBlock Done)
+    (askedStatus v m place image n)
 
 -- the block that leads to the image's state, packed like an image (SPONGENT's are whole bytes, which both orders pack alike)
 unfoldable pub recoveredBlock : ℕ → List ℕ → ℕ → List ℕ → List ℕ
@@ -42,11 +49,3 @@ recoveredBlock v m place image = pack high-first (blockSize (variant v)) (headD 
 
 unfoldable pub recoverInto : ℕ → List ℕ → ℕ → List ℕ → List ℕ → List ℕ
 recoverInto v m place image out = written (recoverStatus v m place image (length out)) (recoveredBlock v m place image) out
-
--- a call whose checks before the last have passed
-pub record Asked (v : ℕ) (m : List ℕ) (place : ℕ) (image : List ℕ) (n : ℕ) : Type 0 where
-  pub variant-known : known v ≡ true
-  pub message-short : length m ≤ most
-  pub place-within : place < length (messageBlocks (variant v) m)
-  pub image-good : isImage (variant v) image ≡ true
-  pub output-long : blockSize (variant v) ≤ n

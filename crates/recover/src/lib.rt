@@ -10,7 +10,7 @@ ghost use Rattle.standard.specs.Sponge.{startState, permutation, messageBlocks,
 ghost use Rattle.standard.specs.Variants.{variant};
 ghost use Rattle.sponge.specs.Layout.{stateBytes, blockBytes};
 ghost use Rattle.hasher.specs.Running.{most};
-ghost use Rattle.recover.specs.Recovering.{blockSize, recoverStatus, recoverInto};
+ghost use Rattle.recover.specs.Recovering.{blockSize, askedStatus, recoverStatus, recoverInto};
 use sponge::Status;
 
 const MOST: usize = 16777215;
@@ -148,10 +148,9 @@ pub fn block_bytes(v: u8) -> usize
     BLOCK_BYTES[v as usize]
 }
 
-// Refusals 1, 4, 7, 6, 5, 8. The message's own block at the place is ignored.
-pub fn recover(variant: u8, message: &[u8], place: usize, image: &[u8], out: &mut [u8]) -> Status
-    ensures { λ r. ⌜ (r ≡ recoverStatus variant (now (message .entry)) place (now (image .entry)) (length (now (out .entry))))
-        × (now (out .exit) ≡ recoverInto variant (now (message .entry)) place (now (image .entry)) (now (out .entry))) ⌝ }
+// Refusals 1, 4, 7, 6, 5, for an output of n bytes.
+fn check(variant: u8, message: &[u8], place: usize, image: &[u8], n: usize) -> Status
+    ensures { λ r. ⌜ r ≡ askedStatus variant (now (message .entry)) place (now (image .entry)) n ⌝ }
 {
     if !sponge::is_known(variant) {
         return Status::UnknownVariant;
@@ -165,15 +164,26 @@ pub fn recover(variant: u8, message: &[u8], place: usize, image: &[u8], out: &mu
     if !sponge::is_image(variant, image) {
         return Status::BadImage;
     }
-    let n = block_bytes(variant);
-    if out.len() < n {
+    if n < block_bytes(variant) {
         return Status::OutputTooShort;
     }
+    Status::Done
+}
+
+// Refusals 1, 4, 7, 6, 5, 8. The message's own block at the place is ignored.
+pub fn recover(variant: u8, message: &[u8], place: usize, image: &[u8], out: &mut [u8]) -> Status
+    ensures { λ r. ⌜ (r ≡ recoverStatus variant (now (message .entry)) place (now (image .entry)) (length (now (out .entry))))
+        × (now (out .exit) ≡ recoverInto variant (now (message .entry)) place (now (image .entry)) (now (out .entry))) ⌝ }
+{
+    let s = check(variant, message, place, image, out.len());
+    let Status::Done = s else {
+        return s;
+    };
     let end = sponge::at_front(image);
     let block = between(variant, message, place, end);
     if !sponge::clear_from(&block, sponge::block_bits(variant) as usize) {
         return Status::NoBlock;
     }
-    sponge::copy_front(&block, n, out);
+    sponge::copy_front(&block, block_bytes(variant), out);
     Status::Done
 }

@@ -23,7 +23,7 @@ use Rattle.hasher.proofs.Ladders.{start-done}
 use Rattle.hasher.proofs.Message.{begun-facts, all-calls, ended-status, ended-into}
 use Rattle.segments.specs.Entries.{isList, entriesStatus, messageOf, totalOf}
 use Rattle.segments.specs.Digests.{listStatus, listInto}
-use Rattle.segments.proofs.Answers.{not-done, kept, passed, row-done}
+use Rattle.sponge.proofs.Answers.{not-done, kept, passed, row-done}
 use Rattle.segments.proofs.ListLaws.{message-length}
 
 -- ---- the checks in order

@@ -13,7 +13,7 @@ use borrow.Author.Tests.{ltb-true, ltb-false, leb-true, not-false, lt-ltb}
 use Rattle.sponge.specs.declared.Status.the-variants.{Done, OutOfRange, BadList, Misordered, PastEnd}
 use Rattle.hasher.proofs.WellFormed.{and-right}
 use Rattle.segments.specs.Entries.{bigEndian, offsetOf, endOf, formerEnd, isList, count, entryStatus, segmentStatus}
-use Rattle.segments.proofs.Answers.{not-done, passed}
+use Rattle.sponge.proofs.Answers.{not-done, passed}
 
 -- ---- the numbers of an entry
 

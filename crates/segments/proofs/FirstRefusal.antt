@@ -8,7 +8,7 @@ use Rattle.standard.specs.Grid.{tab}
 use Rattle.sponge.specs.declared.Status.{Status}
 use Rattle.sponge.specs.declared.Status.the-variants.{Done}
 use Rattle.segments.specs.Entries.{firstOf}
-use Rattle.segments.proofs.Answers.{done-or, kept, row-done}
+use Rattle.sponge.proofs.Answers.{done-or, kept, row-done}
 
 -- where every answer is Done, so is the row's
 pub first-done : (n : ℕ) (f : ℕ → Status) → ((k : ℕ) → k < n → f k ≡ Done) → firstOf (tab n f) ≡ Done

@@ -1,4 +1,3 @@
-pub mod Answers
 pub mod FirstRefusal
 pub mod EntryLaws
 pub mod ListLaws

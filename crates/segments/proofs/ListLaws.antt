@@ -14,7 +14,7 @@ use Rattle.sponge.specs.declared.Status.{Status}
 use Rattle.sponge.specs.declared.Status.the-variants.{Done, Misordered, PastEnd}
 use Rattle.sponge.specs.Refusals.{entry}
 use Rattle.segments.specs.Entries.{offsetOf, lengthOf, endOf, formerEnd, isList, count, segmentIn, entryStatus, segmentStatus, entriesStatus, StopsAt, messageOf, totalOf}
-use Rattle.segments.proofs.Answers.{not-done}
+use Rattle.sponge.proofs.Answers.{not-done}
 use Rattle.segments.proofs.FirstRefusal.{every-done, first-done, first-at, First, first-of}
 use Rattle.segments.proofs.EntryLaws.{Fits, entry-fits, segment-checked, segment-entry}
 

@@ -6,3 +6,4 @@ pub mod MatrixImage
 pub mod States
 pub mod ImageLaws
 pub mod SqueezeLaws
+pub mod Answers

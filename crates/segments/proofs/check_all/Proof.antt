@@ -8,7 +8,7 @@ use borrow.Author.Needs.{needs}
 use Rattle.sponge.specs.declared.Status.the-variants.{Done}
 use Rattle.segments.specs.Entries.{count, entryStatus, entriesStatus}
 use Rattle.segments.proofs.FirstRefusal.{first-at, first-done}
-use Rattle.segments.proofs.Answers.{tag-refused}
+use Rattle.sponge.proofs.Answers.{tag-refused}
 use Rattle.segments.proofs.check_all.Statement.{statement}
 use Rattle.segments.proofs.check_all.Tie as tie
 

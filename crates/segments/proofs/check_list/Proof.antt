@@ -3,7 +3,7 @@ use mathlib.Core.Path.{sym, _∙_}
 use native.Mathlib.Omega.{arith}
 use borrow.Author.Tests.{not-true, not-false}
 use borrow.Author.Needs.{needs}
-use Rattle.segments.proofs.Answers.{tag-refused}
+use Rattle.sponge.proofs.Answers.{tag-refused}
 use Rattle.segments.proofs.DigestLaws.{list-unknown, list-bad, list-entry, list-long, list-short-output, list-done}
 use Rattle.segments.proofs.check_list.Statement.{statement}
 use Rattle.segments.proofs.check_list.Tie as tie

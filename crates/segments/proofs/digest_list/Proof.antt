@@ -3,7 +3,7 @@ use mathlib.Core.Path.{sym, _∙_}
 use native.Mathlib.Omega.{arith}
 use lib.ListN.{length}
 use borrow.Author.Needs.{needs}
-use Rattle.segments.proofs.Answers.{tag-refused}
+use Rattle.sponge.proofs.Answers.{tag-refused}
 use Rattle.segments.proofs.DigestLaws.{accepted, start-ready, left-refused, left-hashed}
 use Rattle.segments.proofs.digest_list.Statement.{statement}
 use Rattle.segments.proofs.digest_list.Tie as tie

@@ -5,7 +5,7 @@ use native.Mathlib.Omega.{arith}
 use lib.ListN.{length}
 use borrow.Author.Needs.{needs}
 use Rattle.segments.specs.Entries.{segmentOf, segmentIn, endOf, lengthOf}
-use Rattle.segments.proofs.Answers.{tag-refused, kept}
+use Rattle.sponge.proofs.Answers.{tag-refused, kept}
 use Rattle.segments.proofs.EntryLaws.{segment-checked, entry-fits}
 use Rattle.segments.proofs.segment.Statement.{statement}
 use Rattle.segments.proofs.segment.Tie as tie
