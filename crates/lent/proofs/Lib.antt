@@ -1,4 +1,7 @@
 -- What the walks of this crate share, and the laws of the cursor.
 pub mod Values
+pub mod Locals
+pub mod Beside
+pub mod Advances
 pub mod ReadThrough
 pub mod CursorLaws
