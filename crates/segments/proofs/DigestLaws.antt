@@ -44,42 +44,10 @@ module _ (v : ℕ) (list buffer : List ℕ) (image : Bool) (n : ℕ) where
   abbrev entries : Status
   entries = entriesStatus list (length buffer)
 
-  pub list-unknown : known v ≡ false → UnknownVariant ≡ listStatus v list buffer image n
+  -- the first refusal of an entry is the list's
+  pub list-entry : known v ≡ true → isList list ≡ true → (s : Status) → s ≡ entries → (s ≡ Done → ⊥) → s ≡ listStatus v list buffer image n
   unfolding listStatus
-  list-unknown e = sym (ap (λ (a : Bool). ladder a (isList list) entries long short) e)
-
-  module _ (k : known v ≡ true) where
-    pub list-bad : isList list ≡ false → BadList ≡ listStatus v list buffer image n
-    unfolding listStatus
-    list-bad e = sym (ap₂ (λ (a b : Bool). ladder a b entries long short) k e)
-
-    module _ (l : isList list ≡ true) where
-      pub list-entry : (s : Status) → s ≡ entries → (s ≡ Done → ⊥) → s ≡ listStatus v list buffer image n
-      unfolding listStatus
-      list-entry s e r =
-          e ∙ sym (ap₂ (λ (a b : Bool). ladder a b entries long short) k l ∙ kept entries _ entries (λ d. r (e ∙ d)))
-
-      module _ (s : Status) (e : s ≡ entries) (d : s ≡ Done) where
-        -- what is left to check
-        rest : listStatus v list buffer image n ≡ cond long TooLong (cond short OutputTooShort Done)
-        unfolding listStatus
-        rest = ap₂ (λ (a b : Bool). ladder a b entries long short) k l ∙ ap (λ (t : Status). ladder true true t long short) (sym e ∙ d)
-
-        total : length m ≡ totalOf list
-        total = message-length list buffer (sym e ∙ d)
-
-        pub list-long : most < totalOf list → TooLong ≡ listStatus v list buffer image n
-        list-long h = sym (rest ∙ ap (λ (c : Bool). cond c TooLong (cond short OutputTooShort Done)) (lt-ltb most (length m) (omega (arith, total))))
-
-        module _ (few : totalOf list ≤ most) where
-          few-bytes : long ≡ false
-          few-bytes = le-ltb most (length m) (omega (arith, total))
-
-          pub list-short-output : n < resultBytes (variant v) image → OutputTooShort ≡ listStatus v list buffer image n
-          list-short-output h = sym (rest ∙ ap₂ (λ (a b : Bool). cond a TooLong (cond b OutputTooShort Done)) few-bytes (lt-ltb n _ h))
-
-          pub list-done : resultBytes (variant v) image ≤ n → Done ≡ listStatus v list buffer image n
-          list-done h = sym (rest ∙ ap₂ (λ (a b : Bool). cond a TooLong (cond b OutputTooShort Done)) few-bytes (le-ltb n _ h))
+  list-entry k l s e r = e ∙ sym (ap₂ (λ (a b : Bool). ladder a b entries long short) k l ∙ kept entries _ entries (λ d. r (e ∙ d)))
 
   -- what Done says
   pub record Accepted : Type 0 where

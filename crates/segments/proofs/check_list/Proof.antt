@@ -1,10 +1,15 @@
 -- `segments::check_list` meets its contract: the checks in order. Assumes nothing.
 use mathlib.Core.Path.{sym, _∙_}
 use native.Mathlib.Omega.{arith}
-use borrow.Author.Tests.{not-true, not-false}
+use lib.ListN.{length}
+use borrow.Author.Tests.{lt-ltb, le-ltb, not-false}
 use borrow.Author.Needs.{needs}
 use Rattle.sponge.proofs.Answers.{tag-refused}
-use Rattle.segments.proofs.DigestLaws.{list-unknown, list-bad, list-entry, list-long, list-short-output, list-done}
+use Rattle.hasher.specs.Running.{most}
+use Rattle.segments.specs.Entries.{messageOf}
+use Rattle.segments.specs.Digests.{listStatus}
+use Rattle.segments.proofs.ListLaws.{message-length}
+use Rattle.segments.proofs.DigestLaws.{list-entry}
 use Rattle.segments.proofs.check_list.Statement.{statement}
 use Rattle.segments.proofs.check_list.Tie as tie
 
@@ -12,17 +17,15 @@ is-known-requires : tie.Need-is-known-requires
 is-known-requires c κs = search needs
 
 returns : tie.Need-returns
-returns c =
-    let a = c .before .before .before .before .args in
-    list-unknown (a .variant) (a .list .now) (a .buffer .now) (a .image) (a .n) (sym (c .before .is-known .ensures) ∙ not-true _ (c .if1 .taken))
+unfolding listStatus
+returns c = sym (simp (← c .before .is-known .ensures, c .if1 .taken))
 
 is-list-requires : tie.Need-is-list-requires
 is-list-requires c κs = search needs
 
 returns-2 : tie.Need-returns-2
-returns-2 c =
-    let a = c .before .before .before .before .before .before .args in
-    list-bad (a .variant) (a .list .now) (a .buffer .now) (a .image) (a .n) (sym (c .before .before .before .is-known .ensures) ∙ not-false _ (c .before .before .if1 .left)) (sym (c .before .is-list .ensures) ∙ not-true _ (c .if2 .taken))
+unfolding listStatus
+returns-2 c = sym (simp (← c .before .before .before .is-known .ensures, c .before .before .if1 .left, ← c .before .is-list .ensures, c .if2 .taken))
 
 check-all-requires : tie.Need-check-all-requires
 check-all-requires c κs = (sym (c .before .is-list .ensures) ∙ not-false _ (c .if2 .left))
@@ -40,27 +43,31 @@ total-length-requires : tie.Need-total-length-requires
 total-length-requires c κs = (sym (c .before .before .before .before .is-list .ensures) ∙ not-false _ (c .before .before .before .if2 .left))
 
 returns-4 : tie.Need-returns-4
+unfolding listStatus
 returns-4 c =
     let a = c .before .before .before .before .before .before .before .before .before .before .before .args in
-    let s = c .before .before .before .before .check-all in
-    list-long (a .variant) (a .list .now) (a .buffer .now) (a .image) (a .n) (sym (c .before .before .before .before .before .before .before .before .is-known .ensures) ∙ not-false _ (c .before .before .before .before .before .before .before .if1 .left)) (sym (c .before .before .before .before .before .before .is-list .ensures) ∙ not-false _ (c .before .before .before .before .before .if2 .left)) (s .result) (s .ensures) (c .before .before .enum-told .given .1) (omega (arith, c .if3 .taken, c .before .total-length .ensures))
+    let passes = sym (c .before .before .before .before .check-all .ensures) ∙ c .before .before .enum-told .given .1 in
+    let total = message-length (a .list .now) (a .buffer .now) passes in
+    sym (simp (← c .before .before .before .before .before .before .before .before .is-known .ensures, c .before .before .before .before .before .before .before .if1 .left, ← c .before .before .before .before .before .before .is-list .ensures, c .before .before .before .before .before .if2 .left, passes, lt-ltb most (length (messageOf (a .list .now) (a .buffer .now))) (omega (arith, c .if3 .taken, c .before .total-length .ensures, total))))
 
 result-bytes-requires : tie.Need-result-bytes-requires
 result-bytes-requires c κs = search needs
 
 returns-5 : tie.Need-returns-5
+unfolding listStatus
 returns-5 c =
     let a = c .before .before .before .before .before .before .before .before .before .before .before .before .before .args in
-    let s = c .before .before .before .before .before .before .check-all in
-    list-short-output (a .variant) (a .list .now) (a .buffer .now) (a .image) (a .n) (sym (c .before .before .before .before .before .before .before .before .before .before .is-known .ensures) ∙ not-false _ (c .before .before .before .before .before .before .before .before .before .if1 .left)) (sym (c .before .before .before .before .before .before .before .before .is-list .ensures) ∙ not-false _ (c .before .before .before .before .before .before .before .if2 .left)) (s .result) (s .ensures) (c .before .before .before .before .enum-told .given .1)
-    (omega (arith, c .before .before .if3 .left, c .before .before .before .total-length .ensures)) (omega (arith, c .if4 .taken, c .before .result-bytes .ensures))
+    let passes = sym (c .before .before .before .before .before .before .check-all .ensures) ∙ c .before .before .before .before .enum-told .given .1 in
+    let total = message-length (a .list .now) (a .buffer .now) passes in
+    sym (simp (← c .before .before .before .before .before .before .before .before .before .before .is-known .ensures, c .before .before .before .before .before .before .before .before .before .if1 .left, ← c .before .before .before .before .before .before .before .before .is-list .ensures, c .before .before .before .before .before .before .before .if2 .left, passes, le-ltb most (length (messageOf (a .list .now) (a .buffer .now))) (omega (arith, c .before .before .if3 .left, c .before .before .before .total-length .ensures, total)), ← c .before .result-bytes .ensures, lt-ltb _ _ (c .if4 .taken)))
 
 returns-6 : tie.Need-returns-6
+unfolding listStatus
 returns-6 c =
     let a = c .before .before .before .before .before .before .before .before .before .before .before .before .before .args in
-    let s = c .before .before .before .before .before .before .check-all in
-    list-done (a .variant) (a .list .now) (a .buffer .now) (a .image) (a .n) (sym (c .before .before .before .before .before .before .before .before .before .before .is-known .ensures) ∙ not-false _ (c .before .before .before .before .before .before .before .before .before .if1 .left)) (sym (c .before .before .before .before .before .before .before .before .is-list .ensures) ∙ not-false _ (c .before .before .before .before .before .before .before .if2 .left)) (s .result) (s .ensures) (c .before .before .before .before .enum-told .given .1)
-    (omega (arith, c .before .before .if3 .left, c .before .before .before .total-length .ensures)) (omega (arith, c .if4 .left, c .before .result-bytes .ensures))
+    let passes = sym (c .before .before .before .before .before .before .check-all .ensures) ∙ c .before .before .before .before .enum-told .given .1 in
+    let total = message-length (a .list .now) (a .buffer .now) passes in
+    sym (simp (← c .before .before .before .before .before .before .before .before .before .before .is-known .ensures, c .before .before .before .before .before .before .before .before .before .if1 .left, ← c .before .before .before .before .before .before .before .before .is-list .ensures, c .before .before .before .before .before .before .before .if2 .left, passes, le-ltb most (length (messageOf (a .list .now) (a .buffer .now))) (omega (arith, c .before .before .if3 .left, c .before .before .before .total-length .ensures, total)), ← c .before .result-bytes .ensures, le-ltb _ _ (c .if4 .left)))
 
 pub check-list-spec : {M : Type 1} → statement M
 check-list-spec =
