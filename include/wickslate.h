@@ -1,0 +1,357 @@
+/*
+ * Wickslate: the ten PHOTON and SPONGENT hash functions of ISO/IEC 29192-5.
+ *
+ * C99, C11 and C++. Link with libwickslate.a, which `rt staticlib wickslate`
+ * writes to target/staticlib. The archive keeps nothing between calls, takes
+ * no memory and needs only memcpy from outside; calls on different memory can
+ * run at the same time.
+ *
+ * THE ANSWER. Every function answers with WICKSLATE_DONE or with the number
+ * of one refusal. The refusals listed for a function are checked in the order
+ * of the list, and the first that holds is the answer. A refused call leaves
+ * every byte that was lent to it as it was; the two exceptions are stated
+ * where they apply (wickslate_start, and the entry number of refusals 10 and
+ * 11).
+ *
+ * WHAT IS PROVED. Each function below is proved in its source language, for
+ * every variant number, running hash, length and content: it ends, touches
+ * nothing but what was lent, and its answer and each byte it writes are those
+ * of the definitions in crates/standard and beside it. docs/ASSURANCE.md has
+ * the statements and what they rest on.
+ *
+ * WHERE THE PROOF BEGINS. It begins when a function is entered, so the caller
+ * answers for the following, and nothing is promised if it does not hold:
+ *  - no pointer is null, not even with length 0. With length 0 any other
+ *    pointer will do, and nothing is read or written there;
+ *  - each pointer is the address of as many bytes as the length beside it
+ *    says, or of one wickslate_hasher or uint32_t, aligned for its type. What
+ *    a call reads has been set; an output need not be, nor the `h` of
+ *    wickslate_start;
+ *  - memory that a call may write overlaps nothing else that is lent to the
+ *    same call, and no other thread uses it during the call. Memory that is
+ *    only read may overlap and may be shared.
+ * The compiler's back end, the linker, and this header are outside the proof.
+ *
+ * Nothing is said about time, power or other side channels, and no memory is
+ * cleared. PHOTON-100 and SPONGENT-88 are too small for general use.
+ */
+#ifndef WICKSLATE_H
+#define WICKSLATE_H
+
+#include <stddef.h>
+#include <stdint.h>
+
+/* ---- Variants ---------------------------------------------------------- */
+
+#define WICKSLATE_PHOTON_100 1
+#define WICKSLATE_PHOTON_144 2
+#define WICKSLATE_PHOTON_196 3
+#define WICKSLATE_PHOTON_256 4
+#define WICKSLATE_PHOTON_288 5
+#define WICKSLATE_SPONGENT_88 6
+#define WICKSLATE_SPONGENT_136 7
+#define WICKSLATE_SPONGENT_176 8
+#define WICKSLATE_SPONGENT_240 9
+#define WICKSLATE_SPONGENT_272 10
+
+/* ---- Answers ----------------------------------------------------------- */
+
+#define WICKSLATE_DONE 0
+#define WICKSLATE_UNKNOWN_VARIANT 1  /* the variant is not 1 to 10 */
+#define WICKSLATE_MALFORMED 2        /* the running hash is not well formed */
+#define WICKSLATE_WRONG_STAGE 3      /* it is closed, or for a read still open */
+#define WICKSLATE_TOO_LONG 4         /* more than 16,777,215 message bytes */
+#define WICKSLATE_OUTPUT_TOO_SHORT 5 /* the output cannot hold the result */
+#define WICKSLATE_BAD_IMAGE 6        /* wrong length, or spare bits not zero */
+#define WICKSLATE_OUT_OF_RANGE 7     /* the place or entry is past the end */
+#define WICKSLATE_NO_BLOCK 8         /* no block leads to the state */
+#define WICKSLATE_BAD_LIST 9         /* not whole entries, or more than 512 */
+#define WICKSLATE_MISORDERED 10      /* begins before the entry before it ends */
+#define WICKSLATE_PAST_END 11        /* an entry ends past the buffer */
+
+/* ---- Sizes in bytes ---------------------------------------------------- */
+
+/* A digest. */
+#define WICKSLATE_PHOTON_100_DIGEST_BYTES 10
+#define WICKSLATE_PHOTON_144_DIGEST_BYTES 16
+#define WICKSLATE_PHOTON_196_DIGEST_BYTES 20
+#define WICKSLATE_PHOTON_256_DIGEST_BYTES 28
+#define WICKSLATE_PHOTON_288_DIGEST_BYTES 32
+#define WICKSLATE_SPONGENT_88_DIGEST_BYTES 11
+#define WICKSLATE_SPONGENT_136_DIGEST_BYTES 16
+#define WICKSLATE_SPONGENT_176_DIGEST_BYTES 20
+#define WICKSLATE_SPONGENT_240_DIGEST_BYTES 28
+#define WICKSLATE_SPONGENT_272_DIGEST_BYTES 32
+#define WICKSLATE_MOST_DIGEST_BYTES 32
+
+/*
+ * An image: a whole state in bytes. PHOTON-100 and PHOTON-196 leave the low
+ * half of the last byte spare, and it must be zero.
+ */
+#define WICKSLATE_PHOTON_100_IMAGE_BYTES 13
+#define WICKSLATE_PHOTON_144_IMAGE_BYTES 18
+#define WICKSLATE_PHOTON_196_IMAGE_BYTES 25
+#define WICKSLATE_PHOTON_256_IMAGE_BYTES 32
+#define WICKSLATE_PHOTON_288_IMAGE_BYTES 36
+#define WICKSLATE_SPONGENT_88_IMAGE_BYTES 11
+#define WICKSLATE_SPONGENT_136_IMAGE_BYTES 17
+#define WICKSLATE_SPONGENT_176_IMAGE_BYTES 22
+#define WICKSLATE_SPONGENT_240_IMAGE_BYTES 30
+#define WICKSLATE_SPONGENT_272_IMAGE_BYTES 34
+#define WICKSLATE_MOST_IMAGE_BYTES 36
+
+/*
+ * A block, packed from the high bit of its first byte. The 20 bits of
+ * PHOTON-100 and the 36 of PHOTON-196 leave the low half of the last byte
+ * zero.
+ */
+#define WICKSLATE_PHOTON_100_BLOCK_BYTES 3
+#define WICKSLATE_PHOTON_144_BLOCK_BYTES 2
+#define WICKSLATE_PHOTON_196_BLOCK_BYTES 5
+#define WICKSLATE_PHOTON_256_BLOCK_BYTES 4
+#define WICKSLATE_PHOTON_288_BLOCK_BYTES 4
+#define WICKSLATE_SPONGENT_88_BLOCK_BYTES 1
+#define WICKSLATE_SPONGENT_136_BLOCK_BYTES 1
+#define WICKSLATE_SPONGENT_176_BLOCK_BYTES 2
+#define WICKSLATE_SPONGENT_240_BLOCK_BYTES 2
+#define WICKSLATE_SPONGENT_272_BLOCK_BYTES 2
+#define WICKSLATE_MOST_BLOCK_BYTES 5
+
+/* The longest message, and the longest segment list. */
+#define WICKSLATE_MOST_MESSAGE_BYTES 16777215
+#define WICKSLATE_ENTRY_BYTES 8
+#define WICKSLATE_MOST_ENTRIES 512
+
+/* What wickslate_whole and wickslate_digest_list are asked for. */
+#define WICKSLATE_DIGEST 0
+#define WICKSLATE_END_STATE 1
+
+/* ---- The running hash -------------------------------------------------- */
+
+#define WICKSLATE_OPEN 0
+#define WICKSLATE_CLOSED 1
+
+/*
+ * A message taken in pieces. Any 52 bytes may be lent as one: what is not
+ * well formed is refused with 2. Well formed means: the variant is 1 to 10,
+ * the stage open or closed, the total at most 16,777,215, the state's bits
+ * past the variant's state zero, the held bits past those of a part-filled
+ * block zero, and none held when closed.
+ *
+ * It can be copied, stored and brought back; calls go on from what it holds.
+ * The five bytes between and behind the fields mean nothing: they are never
+ * looked at, and a call may change them.
+ */
+typedef struct wickslate_hasher {
+    uint8_t variant;   /* 1 to 10; 0 after a refused start */
+    uint8_t stage;     /* WICKSLATE_OPEN or WICKSLATE_CLOSED */
+    uint32_t total;    /* the message bytes taken so far */
+    uint8_t state[36]; /* the state's image, and zeros */
+    uint8_t held[5];   /* the bits that fill no block yet, and zeros */
+} wickslate_hasher;
+
+#if defined(__cplusplus) && __cplusplus >= 201103L
+#define WICKSLATE_ASSERT(name, condition) static_assert(condition, #name)
+#elif !defined(__cplusplus) && defined(__STDC_VERSION__) && __STDC_VERSION__ >= 201112L
+#define WICKSLATE_ASSERT(name, condition) _Static_assert(condition, #name)
+#else
+#define WICKSLATE_ASSERT(name, condition) typedef char wickslate_assert_##name[(condition) ? 1 : -1]
+#endif
+
+WICKSLATE_ASSERT(size_of_hasher, sizeof(wickslate_hasher) == 52);
+WICKSLATE_ASSERT(offset_of_variant, offsetof(wickslate_hasher, variant) == 0);
+WICKSLATE_ASSERT(offset_of_stage, offsetof(wickslate_hasher, stage) == 1);
+WICKSLATE_ASSERT(offset_of_total, offsetof(wickslate_hasher, total) == 4);
+WICKSLATE_ASSERT(offset_of_state, offsetof(wickslate_hasher, state) == 8);
+WICKSLATE_ASSERT(offset_of_held, offsetof(wickslate_hasher, held) == 44);
+
+#undef WICKSLATE_ASSERT
+
+#ifdef __cplusplus
+extern "C" {
+#endif
+
+/*
+ * Begins a message. Whatever `h` held is replaced.
+ *
+ * Refusals: 1.
+ * Writes:   all fields of `h`. With refusal 1 they are all zero, so that each
+ *           later call on `h` is refused with 2.
+ *
+ *     wickslate_hasher h = {0};
+ *     if (wickslate_start(&h, WICKSLATE_PHOTON_256) != WICKSLATE_DONE)
+ *         return -1;
+ */
+uint8_t wickslate_start(wickslate_hasher *h, uint8_t variant);
+
+/*
+ * Takes the next piece of the message. Where a message is cut into pieces
+ * makes no difference to its digest, and a piece may be empty.
+ *
+ * Refusals: 2; 3 if closed; 4 if the total would pass 16,777,215.
+ * Writes:   `h`, if done. `piece` is only read.
+ *
+ *     uint8_t answer = wickslate_update(&h, buffer, received);
+ *     if (answer == WICKSLATE_TOO_LONG)
+ *         return drop_table();
+ */
+uint8_t wickslate_update(wickslate_hasher *h, const uint8_t *piece, size_t piece_length);
+
+/*
+ * Ends the message: pads it and takes its last block. `h` is closed then, and
+ * its state is the end state.
+ *
+ * Refusals: 2; 3 if closed already.
+ * Writes:   `h`, if done.
+ *
+ *     if (wickslate_finish(&h) != WICKSLATE_DONE)
+ *         return -1;
+ */
+uint8_t wickslate_finish(wickslate_hasher *h);
+
+/*
+ * Writes the digest of a finished message over the front of `out`. It can be
+ * read any number of times.
+ *
+ * Refusals: 2; 3 if still open; 5.
+ * Writes:   the variant's digest bytes, if done. What lies behind them in
+ *           `out` stays, and so does `h`.
+ *
+ *     uint8_t digest[WICKSLATE_PHOTON_256_DIGEST_BYTES] = {0};
+ *     if (wickslate_digest(&h, digest, sizeof digest) == WICKSLATE_DONE)
+ *         send(digest, sizeof digest);
+ */
+uint8_t wickslate_digest(const wickslate_hasher *h, uint8_t *out, size_t out_length);
+
+/*
+ * Writes the image of a finished message's end state over the front of `out`.
+ *
+ * Refusals: 2; 3 if still open; 5.
+ * Writes:   the variant's image bytes, if done. What lies behind them in
+ *           `out` stays, and so does `h`.
+ *
+ *     uint8_t image[WICKSLATE_PHOTON_256_IMAGE_BYTES] = {0};
+ *     uint8_t answer = wickslate_end_state(&h, image, sizeof image);
+ */
+uint8_t wickslate_end_state(const wickslate_hasher *h, uint8_t *out, size_t out_length);
+
+/*
+ * A whole message in one call: its digest, or the image of its end state if
+ * `wanted` is not 0 (WICKSLATE_DIGEST, WICKSLATE_END_STATE).
+ *
+ * Refusals: 1; 4; 5.
+ * Writes:   the result over the front of `out`, if done. What lies behind it
+ *           stays. `message` is only read.
+ *
+ *     uint8_t digest[WICKSLATE_MOST_DIGEST_BYTES] = {0};
+ *     uint8_t answer = wickslate_whole(WICKSLATE_SPONGENT_176, table, table_length,
+ *                                      WICKSLATE_DIGEST, digest, sizeof digest);
+ */
+uint8_t wickslate_whole(uint8_t variant, const uint8_t *message, size_t message_length,
+                        uint8_t wanted, uint8_t *out, size_t out_length);
+
+/*
+ * Runs the variant's permutation on an image.
+ *
+ * Refusals: 1; 6.
+ * Writes:   the whole of `image`, if done.
+ *
+ *     uint8_t image[WICKSLATE_SPONGENT_88_IMAGE_BYTES] = {0};
+ *     uint8_t answer = wickslate_permute(WICKSLATE_SPONGENT_88, image, sizeof image);
+ */
+uint8_t wickslate_permute(uint8_t variant, uint8_t *image, size_t image_length);
+
+/*
+ * Runs the inverse of the variant's permutation on an image: it takes back
+ * wickslate_permute, and wickslate_permute takes it back.
+ *
+ * Refusals: 1; 6.
+ * Writes:   the whole of `image`, if done.
+ *
+ *     uint8_t answer = wickslate_unpermute(WICKSLATE_SPONGENT_88, image, sizeof image);
+ */
+uint8_t wickslate_unpermute(uint8_t variant, uint8_t *image, size_t image_length);
+
+/*
+ * The lost block: what stood at `place`, counted from 0, among the blocks of
+ * the padded message, so that the message ended in the state of `image`. The
+ * bytes that `message` has there are not looked at. L bytes make 8 L / r + 1
+ * blocks, rounded down, for blocks of r bits. There is never more than one
+ * such block.
+ *
+ * Refusals: 1; 4; 7 if `place` is not below the number of blocks; 6; 5; 8 if
+ *           no block leads to that state.
+ * Writes:   the variant's block bytes over the front of `out`, if done. What
+ *           lies behind them stays. `message` and `image` are only read.
+ *
+ *     uint8_t block[WICKSLATE_MOST_BLOCK_BYTES] = {0};
+ *     uint8_t answer = wickslate_recover(WICKSLATE_PHOTON_256, table, table_length, 7,
+ *                                        image, sizeof image, block, sizeof block);
+ *     if (answer == WICKSLATE_NO_BLOCK)
+ *         puts("more than that block is wrong");
+ */
+uint8_t wickslate_recover(uint8_t variant, const uint8_t *message, size_t message_length,
+                          size_t place, const uint8_t *image, size_t image_length,
+                          uint8_t *out, size_t out_length);
+
+/*
+ * A segment list names the parts of a buffer that make up a message. Each
+ * entry has eight bytes: an offset and a length of four bytes each, the high
+ * byte first. Entries are sorted by offset and do not overlap; they may touch
+ * and may have length 0.
+ *
+ * Reads the offset and length of entry `k`, counted from 0, as they stand. A
+ * caller walks a list with k = 0, 1, .. until the answer is 7.
+ *
+ * Refusals: 9; 7 if `k` is not below the number of entries.
+ * Writes:   `*offset` and `*length`, if done; otherwise both stay.
+ *
+ *     uint32_t offset = 0, length = 0;
+ *     for (size_t k = 0; wickslate_entry(list, list_length, k, &offset, &length) == WICKSLATE_DONE; k++)
+ *         printf("%lu bytes from %lu\n", (unsigned long)length, (unsigned long)offset);
+ */
+uint8_t wickslate_entry(const uint8_t *list, size_t list_length, size_t k,
+                        uint32_t *offset, uint32_t *length);
+
+/*
+ * Tells whether entry `k` names a segment of the buffer. If so, the segment
+ * is the bytes of `buffer` that wickslate_entry names.
+ *
+ * Refusals: 9; 7; 10 if the entry's offset is below the end of the entry
+ *           before it (of which nothing else is checked); 11 if its end is
+ *           past the buffer.
+ * Writes:   `k` to `*entry` with refusals 10 and 11; otherwise `*entry` stays.
+ *
+ *     uint32_t entry = 0;
+ *     uint8_t answer = wickslate_check_entry(list, list_length, buffer, buffer_length, 0, &entry);
+ */
+uint8_t wickslate_check_entry(const uint8_t *list, size_t list_length,
+                              const uint8_t *buffer, size_t buffer_length,
+                              size_t k, uint32_t *entry);
+
+/*
+ * The digest of the segments joined in list order, or the image of the end
+ * state if `wanted` is not 0 (WICKSLATE_DIGEST, WICKSLATE_END_STATE).
+ *
+ * Refusals: 1; 9; then entry by entry 10 and 11, as above; 4 if the segments
+ *           together are too long; 5.
+ * Writes:   the result over the front of `out`, if done. What lies behind it
+ *           stays. The number of the first refused entry goes to `*entry` with
+ *           refusals 10 and 11; otherwise `*entry` stays.
+ *
+ *     uint8_t digest[WICKSLATE_PHOTON_144_DIGEST_BYTES] = {0};
+ *     uint32_t entry = 0;
+ *     uint8_t answer = wickslate_digest_list(WICKSLATE_PHOTON_144, list, list_length, buffer, buffer_length,
+ *                                            WICKSLATE_DIGEST, digest, sizeof digest, &entry);
+ *     if (answer == WICKSLATE_MISORDERED || answer == WICKSLATE_PAST_END)
+ *         printf("entry %lu is wrong\n", (unsigned long)entry);
+ */
+uint8_t wickslate_digest_list(uint8_t variant, const uint8_t *list, size_t list_length,
+                              const uint8_t *buffer, size_t buffer_length, uint8_t wanted,
+                              uint8_t *out, size_t out_length, uint32_t *entry);
+
+#ifdef __cplusplus
+}
+#endif
+
+#endif
