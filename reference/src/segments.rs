@@ -34,13 +34,16 @@ fn named<'a>(entries: &[(u64, u64)], buffer: &'a [u8], k: usize) -> Result<&'a [
     Ok(&buffer[offset as usize..(offset + length) as usize])
 }
 
+/// The offset and length of entry `k`, or refusal 9 or 7.
+pub fn entry(list: &[u8], k: usize) -> Result<(u64, u64), Refusal> {
+    let entries = entries(list)?;
+    entries.get(k).copied().ok_or((OUT_OF_RANGE, None))
+}
+
 /// The segment of entry `k`, or refusal 9, 7, 10 or 11.
 pub fn segment<'a>(list: &[u8], buffer: &'a [u8], k: usize) -> Result<&'a [u8], Refusal> {
-    let entries = entries(list)?;
-    if k >= entries.len() {
-        return Err((OUT_OF_RANGE, None));
-    }
-    named(&entries, buffer, k)
+    entry(list, k)?;
+    named(&entries(list)?, buffer, k)
 }
 
 /// The digest, or the end state's image, of the segments joined in order.
