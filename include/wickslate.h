@@ -139,8 +139,10 @@
  * block zero, and none held when closed.
  *
  * It can be copied, stored and brought back; calls go on from what it holds.
- * The five bytes between and behind the fields mean nothing: they are never
- * looked at, and a call may change them.
+ * The five bytes between and behind the fields mean nothing and are never
+ * looked at. A refused call leaves them; wickslate_start, and a call that is
+ * done, may put anything there, even what lay on the stack: send or store the
+ * fields, or clear those bytes first.
  */
 typedef struct wickslate_hasher {
     uint8_t variant;   /* 1 to 10; 0 after a refused start */

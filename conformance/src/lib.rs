@@ -1,0 +1,15 @@
+//! The archive of the proved library, held against the Rust version built
+//! apart: [`wickslate`] calls the archive, [`compare`] makes the same call on
+//! both sides and looks at every lent byte, [`random`] and [`make`] give the
+//! tests their inputs.
+
+#![warn(missing_docs)]
+
+pub mod compare;
+#[path = "../../reference/tests/generator/mod.rs"]
+pub mod generator;
+pub mod lent;
+pub mod make;
+pub mod random;
+pub mod settings;
+pub mod wickslate;

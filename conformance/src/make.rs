@@ -1,0 +1,130 @@
+//! Inputs for the tests: running hashes, images and segment lists, sound or
+//! damaged in one place.
+
+use wickslate_reference::running::{start, Running};
+use wickslate_reference::{Family, Variant, MESSAGE_LIMIT, VARIANTS};
+
+use crate::compare::hasher;
+use crate::random::Random;
+use crate::wickslate::Hasher;
+
+/// Variant numbers that no variant has.
+pub const UNKNOWN: [u8; 4] = [0, 11, 128, 255];
+
+/// An offset and a length.
+pub type Entry = (u32, u32);
+
+/// A running hash as it is before the first start.
+pub fn none() -> Hasher {
+    hasher(&start(0).1)
+}
+
+/// Any one of the ten variants.
+pub fn variant(random: &mut Random) -> &'static Variant {
+    &VARIANTS[random.below(VARIANTS.len())]
+}
+
+/// The bytes that hold a block.
+pub fn block_bytes(variant: &Variant) -> usize {
+    variant.block_bits.div_ceil(8)
+}
+
+/// The bytes of a digest, or of an end state's image.
+pub fn result_bytes(variant: &Variant, wanted: u8) -> usize {
+    match wanted {
+        0 => variant.digest_bytes(),
+        _ => variant.image_bytes(),
+    }
+}
+
+/// Lengths of messages that end a byte before a block does, with it, and a
+/// byte behind it, for blocks 1 to 9 and some more behind.
+pub fn block_edges(variant: &Variant) -> Vec<usize> {
+    let ends = [1, 2, 3, 4, 5, 6, 7, 8, 9, 63, 64, 65, 127, 128, 129];
+    let end = |blocks: usize| blocks * variant.block_bits / 8;
+    ends.iter()
+        .flat_map(|&blocks| (end(blocks) - 1)..=(end(blocks) + 2))
+        .collect()
+}
+
+/// The bits of a byte string from `first` on, as a byte and the bit's value in
+/// it, in the order in which the family's images hold bits.
+pub fn bits_from(family: Family, first: usize, bytes: usize) -> Vec<(usize, u8)> {
+    let weight = |bit: usize| match family {
+        Family::Photon => 0x80 >> (bit % 8),
+        Family::Spongent => 0x01 << (bit % 8),
+    };
+    (first..8 * bytes)
+        .map(|bit| (bit / 8, weight(bit)))
+        .collect()
+}
+
+/// The held bits of a running hash that must be zero.
+pub fn spare_held(variant: &Variant, stage: u8, total: u32) -> Vec<(usize, u8)> {
+    let count = match stage {
+        0 => 8 * total as usize % variant.block_bits,
+        _ => 0,
+    };
+    // Held bits are packed from the high bit in both families.
+    bits_from(Family::Photon, count, 5)
+}
+
+/// The state bits of a running hash that must be zero.
+pub fn spare_state(variant: &Variant) -> Vec<(usize, u8)> {
+    bits_from(variant.family, variant.state_bits, 36)
+}
+
+fn cleared<const N: usize>(mut bytes: [u8; N], spare: &[(usize, u8)]) -> [u8; N] {
+    for &(byte, bit) in spare {
+        bytes[byte] &= !bit;
+    }
+    bytes
+}
+
+/// A well-formed running hash with any state and any held bits.
+pub fn well_formed(random: &mut Random, variant: &Variant, stage: u8, total: u32) -> Hasher {
+    hasher(&Running {
+        variant: variant.number,
+        stage,
+        total,
+        state: cleared(random.array(), &spare_state(variant)),
+        held: cleared(random.array(), &spare_held(variant, stage, total)),
+    })
+}
+
+/// A total at either end of the range, or anywhere.
+pub fn total(random: &mut Random) -> u32 {
+    let near = random.below(40);
+    let any = random.below(MESSAGE_LIMIT + 1);
+    random.pick(&[near, MESSAGE_LIMIT - near, any]) as u32
+}
+
+/// An image of the variant.
+pub fn image(random: &mut Random, variant: &Variant) -> Vec<u8> {
+    let state = cleared(random.array::<36>(), &spare_state(variant));
+    state[..variant.image_bytes()].to_vec()
+}
+
+/// The bytes of a segment list.
+pub fn list(entries: &[Entry]) -> Vec<u8> {
+    entries
+        .iter()
+        .flat_map(|(offset, length)| [offset.to_be_bytes(), length.to_be_bytes()])
+        .flatten()
+        .collect()
+}
+
+/// Up to so many entries that name segments of a buffer, in order. Many
+/// touch, and some are empty.
+pub fn entries(random: &mut Random, most: usize, buffer_bytes: usize) -> Vec<Entry> {
+    let mut free = 0;
+    let mut entries = Vec::new();
+    for _ in 0..random.below(most + 1) {
+        let gap = random.pick(&[0, 0, 1, 3]).min(buffer_bytes - free);
+        let left = buffer_bytes - free - gap;
+        let length = random.pick(&[0, 1, 2, 5, 11]).min(left);
+        entries.push(((free + gap) as u32, length as u32));
+        free += gap + length;
+    }
+    entries
+}
