@@ -1,0 +1,248 @@
+//! Segment lists: sound and damaged ones, and the refusals 1, 9, 7, 10, 11, 4
+//! and 5 alone and against their neighbours.
+
+use wickslate_conformance::compare::{check_entry, digest_list, entry, whole};
+use wickslate_conformance::make::{self, list, result_bytes, variant, UNKNOWN};
+use wickslate_conformance::random::Random;
+use wickslate_conformance::settings::amount;
+use wickslate_conformance::wickslate;
+use wickslate_reference::{MESSAGE_LIMIT, VARIANTS};
+
+const SIX: &[u8] = b"bridge";
+const MOST_ENTRIES: u32 = 512;
+const OUT: [u8; 36] = [0x5e; 36];
+
+/// Looks at every entry and the one behind the last, and at the whole list.
+fn expect_same(random: &mut Random, list: &[u8], buffer: &[u8]) -> (u8, Option<u32>) {
+    for k in 0..=list.len() / 8 {
+        check_entry(list, buffer, k);
+        entry(list, k);
+    }
+    let variant = variant(random);
+    let wanted = random.pick(&[0, 1]);
+    digest_list(variant.number, list, buffer, wanted, &OUT)
+}
+
+#[test]
+fn sound_lists() {
+    let mut random = Random::of_test("sound_lists");
+    for _ in 0..amount(250, 10) {
+        let bytes = random.below(200);
+        let buffer = random.bytes(bytes);
+        let entries = make::entries(&mut random, 20, bytes);
+        let answer = expect_same(&mut random, &list(&entries), &buffer);
+        assert_eq!(answer, (0, None));
+    }
+}
+
+/// The result over a list is that of the segments joined.
+#[test]
+fn segments_are_joined() {
+    let mut random = Random::of_test("segments_are_joined");
+    for variant in &VARIANTS {
+        let buffer = random.bytes(120);
+        let entries = make::entries(&mut random, 30, buffer.len());
+        let segment = |&(offset, length): &make::Entry| {
+            let (offset, length) = (offset as usize, length as usize);
+            buffer[offset..offset + length].to_vec()
+        };
+        let joined: Vec<u8> = entries.iter().flat_map(segment).collect();
+        for wanted in [0, 1, 77] {
+            let (answer, after) = whole(variant.number, &joined, wanted, &OUT);
+            assert_eq!(answer, 0);
+            let mut out = OUT;
+            let (list, mut entry) = (list(&entries), 0);
+            let number = variant.number;
+            let answer =
+                wickslate::digest_list(number, &list, &buffer, wanted, &mut out, &mut entry);
+            assert_eq!((answer, &out[..]), (0, &after[..]));
+        }
+    }
+}
+
+/// A sound list with one number changed, a byte lost, or any bytes instead.
+#[test]
+fn damaged_lists() {
+    let mut random = Random::of_test("damaged_lists");
+    let mut seen = [0; 12];
+    for _ in 0..amount(1500, 150) {
+        let bytes = 1 + random.below(60);
+        let buffer = random.bytes(bytes);
+        let mut damaged = list(&make::entries(&mut random, 8, bytes));
+        damage(&mut random, &mut damaged);
+        let (answer, _) = expect_same(&mut random, &damaged, &buffer);
+        seen[usize::from(answer)] += 1;
+    }
+    for refusal in [0, 9, 10, 11] {
+        assert!(seen[refusal] > 0, "refusal {refusal} did not come up");
+    }
+}
+
+fn damage(random: &mut Random, list: &mut Vec<u8>) {
+    match random.below(8) {
+        0 => list.truncate(list.len().saturating_sub(1 + random.below(8))),
+        1 => *list = random.bytes(list.len()),
+        2 => list.extend(random.bytes(1)),
+        _ if list.is_empty() => {}
+        3 => {
+            let byte = random.below(list.len());
+            list[byte] = random.array::<1>()[0];
+        }
+        _ => {
+            // The low byte of an offset or a length, by a little.
+            let low = 4 * random.below(list.len() / 4) + 3;
+            list[low] = list[low].wrapping_add(random.pick(&[1, 2, 255, 254]));
+        }
+    }
+}
+
+#[test]
+fn known_lists() {
+    let calls: [(&[make::Entry], u8, Option<u32>); 6] = [
+        (&[(0, 2), (3, 2)], 0, None),
+        (&[(0, 2), (1, 2)], 10, Some(1)),
+        (&[(5, 2)], 11, Some(0)),
+        (&[(6, 0)], 0, None),
+        (&[(u32::MAX, 1)], 11, Some(0)),
+        (&[(1, u32::MAX)], 11, Some(0)),
+    ];
+    for (entries, refusal, named) in calls {
+        assert_eq!(
+            digest_list(1, &list(entries), SIX, 0, &OUT),
+            (refusal, named)
+        );
+    }
+}
+
+#[test]
+fn lists_that_are_none() {
+    let row: Vec<make::Entry> = (0..=MOST_ENTRIES).map(|k| (k, 1)).collect();
+    let long = list(&row);
+    let buffer = vec![0x31; row.len()];
+    for bytes in (0..=4104).filter(|bytes| bytes % 8 != 0).chain([4104]) {
+        let broken = &long[..bytes];
+        assert_eq!(entry(broken, 0).0, 9);
+        assert_eq!(entry(broken, usize::MAX).0, 9, "and past the end");
+        assert_eq!(check_entry(broken, &buffer, 0).0, 9);
+        assert_eq!(check_entry(broken, &buffer, 513).0, 9, "and past the end");
+        assert_eq!(digest_list(4, broken, &buffer, 0, &OUT), (9, None));
+    }
+    let most = &long[..4096];
+    assert_eq!(entry(most, 511), (0, 511, 1));
+    assert_eq!(check_entry(most, &buffer, 511).0, 0);
+    assert_eq!(digest_list(4, most, &buffer, 0, &OUT), (0, None));
+}
+
+#[test]
+fn entries_past_the_end() {
+    // All entries are misordered and past the buffer too.
+    let wrong = list(&[(9, 9), (8, 9), (7, 9)]);
+    for (bytes, count) in [(0, 0), (8, 1), (16, 2), (24, 3)] {
+        for k in [count, count + 1, 1 << 29, 1 << 32, 1 << 61, usize::MAX] {
+            assert_eq!(entry(&wrong[..bytes], k).0, 7);
+            assert_eq!(check_entry(&wrong[..bytes], SIX, k).0, 7);
+        }
+    }
+}
+
+#[test]
+fn misordered_comes_before_past_the_end() {
+    let both = list(&[(0, 3), (2, 90), (1, 1)]);
+    assert_eq!(check_entry(&both, SIX, 1), (10, 1));
+    assert_eq!(check_entry(&both, SIX, 2), (10, 2));
+    assert_eq!(digest_list(1, &both, SIX, 0, &OUT), (10, Some(1)));
+    // An earlier entry past the end comes before a later one out of order.
+    let earlier = list(&[(0, 3), (3, 90), (1, 1)]);
+    assert_eq!(check_entry(&earlier, SIX, 1), (11, 1));
+    assert_eq!(check_entry(&earlier, SIX, 2), (10, 2));
+    assert_eq!(digest_list(1, &earlier, SIX, 0, &OUT), (11, Some(1)));
+}
+
+/// Ends that do not fit in four bytes are not cut to four.
+#[test]
+fn sums_past_four_bytes() {
+    let most = u32::MAX;
+    for entries in [
+        [(most, 1), (0, 1)],
+        [(most, 2), (1, 1)],
+        [(most, most), (most, 0)],
+        [(1, most), (0, 0)],
+    ] {
+        let list = list(&entries);
+        assert_eq!(check_entry(&list, SIX, 0), (11, 0));
+        assert_eq!(check_entry(&list, SIX, 1), (10, 1));
+        assert_eq!(digest_list(2, &list, SIX, 0, &OUT), (11, Some(0)));
+    }
+}
+
+#[test]
+fn unknown_variants_come_first() {
+    let sound = list(&[(0, 2), (3, 2)]);
+    let misordered = list(&[(0, 2), (1, 2)]);
+    let past = list(&[(0, 7)]);
+    for number in UNKNOWN {
+        for list in [&sound, &sound[..9].to_vec(), &misordered, &past] {
+            for out in [&OUT[..], &[]] {
+                assert_eq!(digest_list(number, list, SIX, 0, out), (1, None));
+            }
+        }
+    }
+}
+
+/// A broken list whose entries are wrong too.
+#[test]
+fn a_list_that_is_none_comes_before_its_entries() {
+    let wrong = list(&[(5, 9), (0, 1), (0, 1)]);
+    for out in [&OUT[..], &[]] {
+        assert_eq!(digest_list(1, &wrong[..17], SIX, 0, out), (9, None));
+    }
+}
+
+/// Segments that make a message one byte too long, in one part and in many.
+#[test]
+fn too_long_comes_behind_the_entries_and_before_the_output() {
+    let buffer = vec![0x31; MESSAGE_LIMIT + 1];
+    let end = buffer.len() as u32;
+    let one = list(&[(0, end)]);
+    let touching: Vec<make::Entry> = (0..MOST_ENTRIES).map(|k| (k << 15, 1 << 15)).collect();
+    let many = list(&touching);
+    let beyond = list(&[(0, end), (end, 1)]);
+    let misordered = list(&[(0, end), (end - 1, 1)]);
+    for variant in &VARIANTS {
+        for out in [&OUT[..], &[]] {
+            let answer = |list: &[u8]| digest_list(variant.number, list, &buffer, 1, out);
+            assert_eq!(answer(&one), (4, None));
+            assert_eq!(answer(&many), (4, None));
+            assert_eq!(answer(&beyond), (11, Some(1)), "and too long");
+            assert_eq!(answer(&misordered), (10, Some(1)), "and too long");
+        }
+    }
+}
+
+/// As for whole messages: what is refused is the output.
+#[test]
+fn the_longest_message_is_not_too_long() {
+    let buffer = vec![0x31; MESSAGE_LIMIT + 1];
+    let half = 1 << 23;
+    let longest = list(&[(0, half), (half + 1, half - 1)]);
+    for variant in &VARIANTS {
+        let (mut out, mut entry) = ([0; 9], 0);
+        let number = variant.number;
+        let answer = wickslate::digest_list(number, &longest, &buffer, 0, &mut out, &mut entry);
+        assert_eq!(answer, 5, "{}", variant.name);
+    }
+}
+
+#[test]
+fn outputs_one_byte_too_short() {
+    let sound = list(&[(0, 2), (3, 2)]);
+    for variant in &VARIANTS {
+        for wanted in [0, 1] {
+            let fits = result_bytes(variant, wanted);
+            for bytes in [0, fits - 1, fits, fits + 1] {
+                let answer = digest_list(variant.number, &sound, SIX, wanted, &vec![0x5e; bytes]);
+                assert_eq!(answer, (if bytes < fits { 5 } else { 0 }, None));
+            }
+        }
+    }
+}
