@@ -1,10 +1,11 @@
 //! The archive of the proved library, held against the Rust version built
 //! apart: [`wickslate`] calls the archive, [`compare`] makes the same call on
 //! both sides and looks at every lent byte, [`random`] and [`make`] give the
-//! tests their inputs.
+//! tests their inputs, [`chains`] are digests of digests.
 
 #![warn(missing_docs)]
 
+pub mod chains;
 pub mod compare;
 #[path = "../../reference/tests/generator/mod.rs"]
 pub mod generator;

@@ -1,6 +1,8 @@
 //! The functions of the archive, with slices and references. Each answers
 //! with 0 or the number of its refusal.
 
+use std::mem::offset_of;
+
 /// The running hash as the archive lays it out, with names for the bytes that
 /// belong to no field, so that all 52 can be set and looked at.
 #[repr(C)]
@@ -21,6 +23,15 @@ pub struct Hasher {
     /// No field.
     pub behind: [u8; 3],
 }
+
+const _: () = {
+    assert!(size_of::<Hasher>() == 52 && align_of::<Hasher>() == 4);
+    assert!(offset_of!(Hasher, variant) == 0);
+    assert!(offset_of!(Hasher, stage) == 1);
+    assert!(offset_of!(Hasher, total) == 4);
+    assert!(offset_of!(Hasher, state) == 8);
+    assert!(offset_of!(Hasher, held) == 44);
+};
 
 mod archive {
     use super::Hasher;

@@ -1,0 +1,216 @@
+//! Random calls of every kind, sound and damaged, on both sides. They go on
+//! for `WICKSLATE_MINUTES` if that is set, and the longest messages come first
+//! then.
+
+use std::time::{Duration, Instant};
+
+use wickslate_conformance::make::{self, Entry};
+use wickslate_conformance::random::Random;
+use wickslate_conformance::wickslate::{self, Hasher};
+use wickslate_conformance::{compare, settings};
+use wickslate_reference::padding::block_count;
+use wickslate_reference::{digest, Variant, MESSAGE_LIMIT};
+
+/// The variant that takes the least time for a byte.
+const FAST: u8 = 5;
+
+/// A random call: its answer.
+type Call = fn(&mut Random) -> u8;
+
+const CALLS: [Call; 6] = [whole, image, running, one_entry, whole_list, lost_block];
+
+#[test]
+fn random_calls() {
+    let mut random = Random::of_test("random_calls");
+    let mut seen = [0; 12];
+    match settings::minutes() {
+        None => {
+            for _ in 0..settings::amount(30_000, 600) {
+                seen[usize::from(any_call(&mut random))] += 1;
+            }
+        }
+        Some(time) => {
+            let begun = Instant::now();
+            longest_messages(&mut random);
+            go_on(begun, time, || {
+                seen[usize::from(any_call(&mut random))] += 1
+            });
+        }
+    }
+    println!("answers 0 to 11: {seen:?}");
+    assert!(!seen.contains(&0), "an answer did not come up: {seen:?}");
+}
+
+fn go_on(begun: Instant, time: Duration, mut call: impl FnMut()) {
+    while begun.elapsed() < time {
+        call();
+    }
+}
+
+fn any_call(random: &mut Random) -> u8 {
+    random.pick(&CALLS)(random)
+}
+
+/// A message that is short, most of the time.
+fn message(random: &mut Random) -> Vec<u8> {
+    let most = random.pick(&[8, 40, 40, 200]);
+    let bytes = random.below(most);
+    random.bytes(bytes)
+}
+
+/// The variant's number, or one that no variant has.
+fn number(random: &mut Random, variant: &Variant) -> u8 {
+    match random.once_in(12) {
+        true => random.pick(&make::UNKNOWN),
+        false => variant.number,
+    }
+}
+
+/// An output, now and then too short, for a result of so many bytes.
+fn output(random: &mut Random, bytes: usize) -> Vec<u8> {
+    let bytes = match random.once_in(6) {
+        true => random.below(bytes),
+        false => bytes + random.below(5),
+    };
+    random.bytes(bytes)
+}
+
+/// An image of the variant, now and then with a byte more or less, or with
+/// its last byte changed.
+fn near_image(random: &mut Random, variant: &Variant) -> Vec<u8> {
+    let mut image = make::image(random, variant);
+    match random.below(10) {
+        0 => image.push(0),
+        1 => image.truncate(image.len() - 1),
+        2 => *image.last_mut().expect("not empty") ^= 1,
+        _ => {}
+    }
+    image
+}
+
+fn whole(random: &mut Random) -> u8 {
+    let variant = make::variant(random);
+    let message = message(random);
+    let wanted = random.below(3) as u8;
+    let out = output(random, make::result_bytes(variant, wanted));
+    compare::whole(number(random, variant), &message, wanted, &out).0
+}
+
+fn image(random: &mut Random) -> u8 {
+    let variant = make::variant(random);
+    let image = near_image(random, variant);
+    let back = random.once_in(2);
+    compare::permute(number(random, variant), &image, back).0
+}
+
+fn running(random: &mut Random) -> u8 {
+    let h = near_hasher(random);
+    match random.below(4) {
+        0 => compare::start(h, random.below(14) as u8).0,
+        1 => compare::finish(h).0,
+        2 => {
+            let out = output(random, 36);
+            compare::read(h, random.once_in(2), &out).0
+        }
+        _ => {
+            let piece = message(random);
+            compare::update(h, &piece).0
+        }
+    }
+}
+
+/// A well-formed running hash, in one of two cases with one bit of it changed.
+fn near_hasher(random: &mut Random) -> Hasher {
+    let variant = make::variant(random);
+    let (stage, total) = (random.below(2) as u8, make::total(random));
+    let mut h = make::well_formed(random, variant, stage, total);
+    let bit = 1 << random.below(8);
+    match random.below(10) {
+        0 => h.variant ^= bit,
+        1 => h.stage ^= bit,
+        2 => h.total ^= 1 << random.below(32),
+        3 => h.state[random.below(36)] ^= bit,
+        4 => h.held[random.below(5)] ^= bit,
+        _ => {}
+    }
+    h
+}
+
+/// A sound list and its buffer or, in one of two cases, one with a byte
+/// changed or lost.
+fn near_list(random: &mut Random) -> (Vec<u8>, Vec<u8>) {
+    let buffer = message(random);
+    let entries: Vec<Entry> = make::entries(random, 9, buffer.len());
+    let mut list = make::list(&entries);
+    match random.below(8) {
+        0 => list.truncate(list.len().saturating_sub(1)),
+        1..=3 if !list.is_empty() => {
+            // The low byte of an offset or a length.
+            let low = 4 * random.below(list.len() / 4) + 3;
+            list[low] ^= 1 << random.below(6);
+        }
+        _ => {}
+    }
+    (list, buffer)
+}
+
+fn one_entry(random: &mut Random) -> u8 {
+    let (list, buffer) = near_list(random);
+    let k = random.below(list.len() / 8 + 2);
+    compare::entry(&list, k);
+    compare::check_entry(&list, &buffer, k).0
+}
+
+fn whole_list(random: &mut Random) -> u8 {
+    let (list, buffer) = near_list(random);
+    let variant = make::variant(random);
+    let wanted = random.below(3) as u8;
+    let out = output(random, make::result_bytes(variant, wanted));
+    compare::digest_list(number(random, variant), &list, &buffer, wanted, &out).0
+}
+
+fn lost_block(random: &mut Random) -> u8 {
+    let variant = make::variant(random);
+    let message = message(random);
+    let number = number(random, variant);
+    let place = random.below(block_count(variant, message.len()) + 1);
+    let mut image = near_image(random, variant);
+    if random.once_in(2) {
+        // Its own end state, which a block leads to.
+        image = vec![0; variant.image_bytes()];
+        assert_eq!(wickslate::whole(variant.number, &message, 1, &mut image), 0);
+    }
+    let out = output(random, make::block_bytes(variant));
+    compare::recover(number, &message, place, &image, &out).0
+}
+
+/// 16,777,215 bytes: whole, in pieces, and as two segments.
+fn longest_messages(random: &mut Random) {
+    let message = random.bytes(MESSAGE_LIMIT);
+    let expected = digest(FAST, &message).expect("not too long");
+    let mut out = vec![0; expected.len()];
+    assert_eq!(wickslate::whole(FAST, &message, 0, &mut out), 0);
+    assert_eq!(out, expected);
+
+    let mut h = make::none();
+    assert_eq!(wickslate::start(&mut h, FAST), 0);
+    for piece in random.cut(&message, 100_000) {
+        assert_eq!(wickslate::update(&mut h, piece), 0);
+    }
+    assert_eq!(wickslate::update(&mut h, b"\xff"), 4);
+    assert_eq!(wickslate::finish(&mut h), 0);
+    out.fill(0);
+    assert_eq!(wickslate::digest(&h, &mut out), 0);
+    assert_eq!(out, expected);
+
+    let half = 1 << 23;
+    let buffer = [&message[..half], b"gap", &message[half..]].concat();
+    let second = (half as u32 + 3, (MESSAGE_LIMIT - half) as u32);
+    let list = make::list(&[(0, half as u32), second]);
+    out.fill(0);
+    assert_eq!(
+        wickslate::digest_list(FAST, &list, &buffer, 0, &mut out, &mut 0),
+        0
+    );
+    assert_eq!(out, expected);
+}
