@@ -132,7 +132,8 @@ pub fn whole(variant: u8, message: &[u8], wanted: u8, before: &[u8]) -> (u8, Vec
 
 /// The permutation on an image, or its inverse.
 pub fn permute(variant: u8, image: &[u8], back: bool) -> (u8, Vec<u8>) {
-    let (ours, theirs): (fn(u8, &mut [u8]) -> u8, fn(u8, &mut [u8]) -> u8) = match back {
+    type Change = fn(u8, &mut [u8]) -> u8;
+    let (ours, theirs): (Change, Change) = match back {
         true => (wickslate::unpermute, reference::unpermute),
         false => (wickslate::permute, reference::permute),
     };

@@ -149,7 +149,7 @@ impl Call<'_> {
 /// where there are any.
 fn bad_images(variant: &Variant, sound: &[u8]) -> Vec<Vec<u8>> {
     let mut bad = vec![Vec::new(), sound[1..].to_vec(), [sound, &[0]].concat()];
-    if variant.state_bits % 8 != 0 {
+    if !variant.state_bits.is_multiple_of(8) {
         for bit in [1, 2, 4, 8] {
             let mut spare = sound.to_vec();
             *spare.last_mut().expect("not empty") |= bit;

@@ -1,0 +1,234 @@
+//! The program `digest` and the script around it, run as a user runs them.
+
+use std::fs::{self, File};
+use std::io::Write;
+use std::path::{Path, PathBuf};
+use std::process::{Command, Output, Stdio};
+use std::sync::Once;
+use std::thread;
+
+use wickslate_conformance::chains::hexadecimal;
+use wickslate_conformance::make::UNKNOWN;
+use wickslate_conformance::random::Random;
+use wickslate_reference::{digest, MESSAGE_LIMIT, VARIANTS};
+
+/// The variant that takes the least time for a byte.
+const FAST: u8 = 5;
+
+fn root() -> PathBuf {
+    Path::new(env!("CARGO_MANIFEST_DIR")).join("..")
+}
+
+fn program() -> Command {
+    let path = root().join("target/bin/digest");
+    assert!(path.exists(), "no target/bin/digest: run `rt check digest`");
+    Command::new(path)
+}
+
+/// The script. Its first use after a change proves and builds, and says so.
+fn script(words: &[&str]) -> Command {
+    static FIRST: Once = Once::new();
+    let path = root().join("digest");
+    FIRST.call_once(|| {
+        let output = Command::new(&path).args(["1", "/dev/null"]).output();
+        assert!(output.expect("an end").status.success());
+    });
+    let mut command = Command::new(path);
+    command.args(words);
+    command
+}
+
+/// Runs a command over a pipe that brings these pieces. A command that has
+/// read enough may end before the last one.
+fn fed(mut command: Command, pieces: Vec<Vec<u8>>) -> Output {
+    let mut child = command
+        .stdin(Stdio::piped())
+        .stdout(Stdio::piped())
+        .stderr(Stdio::piped())
+        .spawn()
+        .expect("a program to run");
+    let mut pipe = child.stdin.take().expect("a pipe");
+    let feeder = thread::spawn(move || {
+        for piece in pieces {
+            if pipe.write_all(&piece).is_err() {
+                return;
+            }
+        }
+    });
+    let output = child.wait_with_output().expect("an end");
+    feeder.join().expect("no panic");
+    output
+}
+
+/// Expects these bytes on standard output and nothing on the other.
+fn expect_line(output: &Output, status: i32, line: &str) {
+    let [out, err] = [&output.stdout, &output.stderr].map(|text| String::from_utf8_lossy(text));
+    let given = (output.status.code(), out.as_ref(), err.as_ref());
+    assert_eq!(given, (Some(status), format!("{line}\n").as_str(), ""));
+}
+
+/// Expects a complaint alone.
+fn expect_complaint(output: &Output, status: i32, complaint: &str) {
+    let [out, err] = [&output.stdout, &output.stderr].map(|text| String::from_utf8_lossy(text));
+    let given = (output.status.code(), out.as_ref(), err.as_ref());
+    assert_eq!(
+        given,
+        (Some(status), "", format!("digest: {complaint}\n").as_str())
+    );
+}
+
+/// The line for a message.
+fn line(number: u8, message: &[u8]) -> String {
+    hexadecimal(&digest(number, message).expect("a short message"))
+}
+
+/// The program's input: the variant's byte and the message.
+fn input(number: u8, message: &[u8]) -> Vec<u8> {
+    [&[number], message].concat()
+}
+
+#[test]
+fn no_input() {
+    expect_line(&fed(program(), Vec::new()), 0, "refused 1");
+    let output = program().stdin(Stdio::null()).output();
+    expect_line(&output.expect("an end"), 0, "refused 1");
+}
+
+#[test]
+fn a_variant_byte_alone() {
+    for variant in &VARIANTS {
+        let output = fed(program(), vec![vec![variant.number]]);
+        expect_line(&output, 0, &line(variant.number, b""));
+    }
+}
+
+#[test]
+fn unknown_variants() {
+    for number in UNKNOWN.into_iter().chain(*b"1p") {
+        for message in [&b""[..], b"abc", &[7; 100_000]] {
+            let output = fed(program(), vec![input(number, message)]);
+            expect_line(&output, 0, "refused 1");
+        }
+    }
+}
+
+#[test]
+fn the_known_message() {
+    let message = b"The PHOTON Lightweight Hash Functions Family";
+    let output = fed(program(), vec![input(1, message)]);
+    expect_line(&output, 0, "07d1723459751e368532");
+}
+
+/// Every byte value, line ends and zeros among them, and random bytes.
+#[test]
+fn binary_input() {
+    let mut random = Random::of_test("binary_input");
+    let every: Vec<u8> = (0..=255).chain((0..=255).rev()).collect();
+    for variant in &VARIANTS {
+        for message in [
+            every.clone(),
+            b"\n\0\r\n\x1a\x04".to_vec(),
+            random.bytes(1000),
+        ] {
+            let output = fed(program(), vec![input(variant.number, &message)]);
+            expect_line(&output, 0, &line(variant.number, &message));
+        }
+    }
+}
+
+/// More than a pipe holds, and less than a block at a time.
+#[test]
+fn pieces_of_input() {
+    let mut random = Random::of_test("pieces_of_input");
+    let long = random.bytes(150_000);
+    let output = fed(program(), vec![input(FAST, &long)]);
+    expect_line(&output, 0, &line(FAST, &long));
+    for variant in &VARIANTS {
+        let short = random.bytes(40);
+        let bytes = input(variant.number, &short);
+        let pieces = bytes.chunks(1).map(<[u8]>::to_vec).collect();
+        expect_line(&fed(program(), pieces), 0, &line(variant.number, &short));
+    }
+}
+
+#[test]
+fn a_message_past_the_limit() {
+    let message = vec![0x31; MESSAGE_LIMIT + 1];
+    let output = fed(program(), vec![vec![FAST], message]);
+    expect_line(&output, 0, "refused 4");
+}
+
+#[test]
+fn input_that_cannot_be_read() {
+    let folder = File::open(root()).expect("a folder");
+    let output = program().stdin(folder).output().expect("an end");
+    expect_complaint(&output, 0, "standard input cannot be read");
+}
+
+/// A file with these bytes, which the caller names.
+fn file(name: &str, bytes: &[u8]) -> String {
+    let path = Path::new(env!("CARGO_TARGET_TMPDIR")).join(name);
+    fs::write(&path, bytes).expect("a file to write");
+    path.into_os_string().into_string().expect("a plain name")
+}
+
+#[test]
+fn the_script_knows_names_and_numbers() {
+    let message = b"6.20 m\n";
+    let path = file("six metres", message);
+    for variant in &VARIANTS {
+        let number = variant.number.to_string();
+        for name in [variant.name, &variant.name.to_uppercase(), &number] {
+            let output = script(&[name, &path]).output().expect("an end");
+            expect_line(&output, 0, &line(variant.number, message));
+        }
+    }
+}
+
+#[test]
+fn the_script_reads_standard_input() {
+    let output = fed(script(&["spongent-176", "-"]), vec![b"abc".to_vec()]);
+    expect_line(&output, 0, &line(8, b"abc"));
+}
+
+#[test]
+fn the_script_hashes_an_empty_file() {
+    let path = file("empty", b"");
+    let output = script(&["photon-144", &path]).output().expect("an end");
+    expect_line(&output, 0, &line(2, b""));
+}
+
+#[test]
+fn the_script_names_what_it_cannot_read() {
+    let folder = env!("CARGO_TARGET_TMPDIR");
+    let missing = format!("{folder}/no such file");
+    let output = script(&["photon-100", &missing]).output().expect("an end");
+    expect_complaint(&output, 1, &format!("{missing}: no such file"));
+    let output = script(&["photon-100", folder]).output().expect("an end");
+    expect_complaint(&output, 1, &format!("{folder}: is a directory"));
+}
+
+#[test]
+fn the_script_refuses_wrong_words() {
+    let wanted = "a variant and a file are needed, \
+        as in: digest photon-100 FILE (digest --help says more)";
+    for words in [&[][..], &["photon-100"], &["photon-100", "a", "b"]] {
+        expect_complaint(&script(words).output().expect("an end"), 2, wanted);
+    }
+    for name in ["photon-80", "0", "11", "", "spongent"] {
+        let output = script(&[name, "-"]).output().expect("an end");
+        let complaint = format!("{name} is not a variant (digest --help lists them)");
+        expect_complaint(&output, 2, &complaint);
+    }
+}
+
+#[test]
+fn the_script_explains_itself() {
+    for word in ["--help", "-h"] {
+        let output = script(&[word]).output().expect("an end");
+        let text = String::from_utf8_lossy(&output.stdout);
+        assert_eq!(output.status.code(), Some(0));
+        assert!(text.starts_with("usage: digest VARIANT FILE\n"));
+        assert!(VARIANTS.iter().all(|variant| text.contains(variant.name)));
+    }
+}
