@@ -26,11 +26,10 @@ pub fn hasher(fields: &Running) -> Hasher {
     marked(Hasher {
         variant: fields.variant,
         stage: fields.stage,
-        between: [0; 2],
         total: fields.total,
         state: fields.state,
         held: fields.held,
-        behind: [0; 3],
+        ..Hasher::default()
     })
 }
 

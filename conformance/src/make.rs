@@ -1,10 +1,11 @@
 //! Inputs for the tests: running hashes, images and segment lists, sound or
 //! damaged in one place.
 
-use wickslate_reference::running::{start, Running};
+use wickslate_reference::running::Running;
 use wickslate_reference::{Family, Variant, MESSAGE_LIMIT, VARIANTS};
 
 use crate::compare::hasher;
+use crate::lent::marked;
 use crate::random::Random;
 use crate::wickslate::Hasher;
 
@@ -16,7 +17,7 @@ pub type Entry = (u32, u32);
 
 /// A running hash as it is before the first start.
 pub fn none() -> Hasher {
-    hasher(&start(0).1)
+    marked(Hasher::default())
 }
 
 /// Any one of the ten variants.

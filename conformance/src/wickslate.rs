@@ -24,6 +24,21 @@ pub struct Hasher {
     pub behind: [u8; 3],
 }
 
+impl Default for Hasher {
+    /// All zeros, as after a refused start.
+    fn default() -> Hasher {
+        Hasher {
+            variant: 0,
+            stage: 0,
+            between: [0; 2],
+            total: 0,
+            state: [0; 36],
+            held: [0; 5],
+            behind: [0; 3],
+        }
+    }
+}
+
 const _: () = {
     assert!(size_of::<Hasher>() == 52 && align_of::<Hasher>() == 4);
     assert!(offset_of!(Hasher, variant) == 0);

@@ -6,12 +6,11 @@ use wickslate_conformance::make::{block_edges, result_bytes, UNKNOWN};
 use wickslate_conformance::random::Random;
 use wickslate_conformance::settings::amount;
 use wickslate_conformance::wickslate;
-use wickslate_reference::{MESSAGE_LIMIT, VARIANTS};
+use wickslate_reference::{Variant, MESSAGE_LIMIT, VARIANTS};
 
 /// Hashes a random message of so many bytes on both sides, with seven bytes
 /// of output past the result.
-fn expect_same(random: &mut Random, number: usize, bytes: usize, wanted: u8) {
-    let variant = &VARIANTS[number];
+fn expect_same(random: &mut Random, variant: &Variant, bytes: usize, wanted: u8) {
     let message = random.bytes(bytes);
     let out = random.bytes(result_bytes(variant, wanted) + 7);
     let (answer, after) = whole(variant.number, &message, wanted, &out);
@@ -23,8 +22,8 @@ fn expect_same(random: &mut Random, number: usize, bytes: usize, wanted: u8) {
 fn every_short_length() {
     let mut random = Random::of_test("every_short_length");
     for bytes in 0..=amount(300, 20) {
-        for number in 0..10 {
-            expect_same(&mut random, number, bytes, 0);
+        for variant in &VARIANTS {
+            expect_same(&mut random, variant, bytes, 0);
         }
     }
 }
@@ -32,10 +31,10 @@ fn every_short_length() {
 #[test]
 fn edges_of_blocks() {
     let mut random = Random::of_test("edges_of_blocks");
-    for number in 0..10 {
-        let edges = block_edges(&VARIANTS[number]);
+    for variant in &VARIANTS {
+        let edges = block_edges(variant);
         for &bytes in &edges[..amount(edges.len(), 20)] {
-            expect_same(&mut random, number, bytes, 1);
+            expect_same(&mut random, variant, bytes, 1);
         }
     }
 }
@@ -43,18 +42,18 @@ fn edges_of_blocks() {
 #[test]
 fn long_messages() {
     let mut random = Random::of_test("long_messages");
-    for number in 0..10 {
+    for variant in &VARIANTS {
         let bytes = amount(20_000, 300) + random.below(100);
-        expect_same(&mut random, number, bytes, 0);
+        expect_same(&mut random, variant, bytes, 0);
     }
 }
 
 #[test]
 fn any_number_but_zero_asks_for_the_end_state() {
     let mut random = Random::of_test("any_number_but_zero");
-    for number in 0..10 {
+    for variant in &VARIANTS {
         for wanted in [1, 2, 3, 127, 128, 254, 255] {
-            expect_same(&mut random, number, 3, wanted);
+            expect_same(&mut random, variant, 3, wanted);
         }
     }
 }
