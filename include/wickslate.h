@@ -270,6 +270,7 @@ uint8_t wickslate_permute(uint8_t variant, uint8_t *image, size_t image_length);
  * Refusals: 1; 6.
  * Writes:   the whole of `image`, if done.
  *
+ *     uint8_t image[WICKSLATE_SPONGENT_88_IMAGE_BYTES] = {0};
  *     uint8_t answer = wickslate_unpermute(WICKSLATE_SPONGENT_88, image, sizeof image);
  */
 uint8_t wickslate_unpermute(uint8_t variant, uint8_t *image, size_t image_length);
@@ -288,7 +289,7 @@ uint8_t wickslate_unpermute(uint8_t variant, uint8_t *image, size_t image_length
  *
  *     uint8_t block[WICKSLATE_MOST_BLOCK_BYTES] = {0};
  *     uint8_t answer = wickslate_recover(WICKSLATE_PHOTON_256, table, table_length, 7,
- *                                        image, sizeof image, block, sizeof block);
+ *                                        image, WICKSLATE_PHOTON_256_IMAGE_BYTES, block, sizeof block);
  *     if (answer == WICKSLATE_NO_BLOCK)
  *         puts("more than that block is wrong");
  */

@@ -18,7 +18,8 @@ pub fn seed() -> u64 {
 
 /// How long the random calls go on, if `WICKSLATE_MINUTES` says so.
 pub fn minutes() -> Option<Duration> {
-    number("WICKSLATE_MINUTES").map(|minutes| Duration::from_secs(60 * minutes))
+    let minutes = number("WICKSLATE_MINUTES").filter(|&minutes| minutes > 0);
+    minutes.map(|minutes| Duration::from_secs(60 * minutes))
 }
 
 /// The usual amount of work, or the small one if `WICKSLATE_SHORT` is set:

@@ -80,6 +80,10 @@ fn include() -> PathBuf {
     Path::new(env!("CARGO_MANIFEST_DIR")).join("../include")
 }
 
+fn header() -> String {
+    fs::read_to_string(include().join("wickslate.h")).expect("the header")
+}
+
 /// A program that asks the compiler to compare every constant.
 fn program() -> String {
     let checks: String = constants()
@@ -91,39 +95,89 @@ fn program() -> String {
     format!("#include \"wickslate.h\"\n#include \"wickslate.h\"\n{checks}{PROTOTYPES}")
 }
 
-fn expect_compiles(compiler: &str, standard: &str, file: &str) {
+/// Compiles the text of a program, where nothing may draw a warning but what
+/// the words allow.
+fn expect_compiles(compiler: &str, words: &[&str], file: &str, text: &str) {
     let source = Path::new(env!("CARGO_TARGET_TMPDIR")).join(file);
-    fs::write(&source, program()).expect("a file to write");
+    fs::write(&source, text).expect("a file to write");
     let output = Command::new(compiler)
-        .arg(format!("-std={standard}"))
         .args(["-Wall", "-Wextra", "-Wpedantic", "-Werror", "-fsyntax-only"])
+        .args(words)
         .arg("-I")
         .args([include(), source])
         .output()
         .expect("a compiler");
     let complaint = String::from_utf8_lossy(&output.stderr);
-    assert!(output.status.success(), "{standard}: {complaint}");
+    assert!(output.status.success(), "{words:?}: {complaint}");
 }
 
 #[test]
 fn compiles_as_c99() {
-    expect_compiles("gcc", "c99", "header99.c");
+    expect_compiles("gcc", &["-std=c99"], "header99.c", &program());
 }
 
 #[test]
 fn compiles_as_c11() {
-    expect_compiles("gcc", "c11", "header11.c");
+    expect_compiles("gcc", &["-std=c11"], "header11.c", &program());
 }
 
 #[test]
 fn compiles_as_cpp17() {
-    expect_compiles("g++", "c++17", "header17.cpp");
+    expect_compiles("g++", &["-std=c++17"], "header17.cpp", &program());
+}
+
+/// What the examples take for granted.
+const CALLER: &str = "
+#include <stdio.h>
+#include \"wickslate.h\"
+extern wickslate_hasher h;
+extern const uint8_t *table, *buffer, *list;
+extern size_t table_length, buffer_length, list_length, received;
+extern uint8_t image[WICKSLATE_MOST_IMAGE_BYTES];
+int drop_table(void);
+void send(const uint8_t *bytes, size_t length);
+";
+
+/// Each example of the header, as a function.
+fn examples() -> Vec<String> {
+    let header = header();
+    let indented = |line: &str| line.strip_prefix(" *     ").map(str::to_string);
+    // An example follows an empty line; other indented lines do not.
+    let paragraphs = header.split("\n *\n").filter_map(|paragraph| {
+        let lines = paragraph.lines().take_while(|line| *line != " */");
+        lines.map(indented).collect::<Option<Vec<String>>>()
+    });
+    paragraphs
+        .enumerate()
+        .map(|(k, lines)| {
+            let body = lines.join("\n");
+            format!("int example_{k}(void);\nint example_{k}(void) {{\n{body}\nreturn 0;\n}}\n")
+        })
+        .collect()
+}
+
+#[test]
+fn every_function_has_an_example_that_compiles() {
+    let examples = examples();
+    for function in PROTOTYPES
+        .lines()
+        .filter_map(|line| line.strip_prefix("uint8_t "))
+    {
+        let call = &function[..=function.find('(').expect("arguments")];
+        assert!(
+            examples.iter().any(|example| example.contains(call)),
+            "{call}"
+        );
+    }
+    let text = format!("{CALLER}{}", examples.concat());
+    let words = ["-std=c11", "-Wno-unused-variable"];
+    expect_compiles("gcc", &words, "examples.c", &text);
 }
 
 /// No constant of the header is left out above.
 #[test]
 fn every_constant_is_compared() {
-    let header = fs::read_to_string(include().join("wickslate.h")).expect("the header");
+    let header = header();
     let defined = header
         .lines()
         .filter_map(|line| line.strip_prefix("#define WICKSLATE_"))

@@ -65,7 +65,7 @@ fn segments_are_joined() {
 fn damaged_lists() {
     let mut random = Random::of_test("damaged_lists");
     let mut seen = [0; 12];
-    for _ in 0..amount(1500, 150) {
+    for _ in 0..amount(1500, 600) {
         let bytes = 1 + random.below(60);
         let buffer = random.bytes(bytes);
         let mut damaged = list(&make::entries(&mut random, 8, bytes));

@@ -25,7 +25,7 @@ fn random_calls() {
     let mut seen = [0; 12];
     match settings::minutes() {
         None => {
-            for _ in 0..settings::amount(30_000, 600) {
+            for _ in 0..settings::amount(30_000, 6000) {
                 seen[usize::from(any_call(&mut random))] += 1;
             }
         }
