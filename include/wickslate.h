@@ -9,9 +9,9 @@
  * THE ANSWER. Every function answers with WICKSLATE_DONE or with the number
  * of one refusal. The refusals listed for a function are checked in the order
  * of the list, and the first that holds is the answer. A refused call leaves
- * every byte that was lent to it as it was; the two exceptions are stated
- * where they apply (wickslate_start, and the entry number of refusals 10 and
- * 11).
+ * every byte that was lent to it as it was. Refusals 10 and 11 come with the
+ * number of an entry, which is part of the answer and is written where the
+ * caller says.
  *
  * WHAT IS PROVED. Each function below is proved in its source language, for
  * every variant number, running hash, length and content: it ends, touches
@@ -140,12 +140,12 @@
  *
  * It can be copied, stored and brought back; calls go on from what it holds.
  * The five bytes between and behind the fields mean nothing and are never
- * looked at. A refused call leaves them; wickslate_start, and a call that is
- * done, may put anything there, even what lay on the stack: send or store the
- * fields, or clear those bytes first.
+ * looked at. A refused call leaves them; a call that is done may put anything
+ * there, even what lay on the stack: send or store the fields, or clear those
+ * bytes first.
  */
 typedef struct wickslate_hasher {
-    uint8_t variant;   /* 1 to 10; 0 after a refused start */
+    uint8_t variant;   /* 1 to 10 */
     uint8_t stage;     /* WICKSLATE_OPEN or WICKSLATE_CLOSED */
     uint32_t total;    /* the message bytes taken so far */
     uint8_t state[36]; /* the state's image, and zeros */
@@ -177,8 +177,7 @@ extern "C" {
  * Begins a message. Whatever `h` held is replaced.
  *
  * Refusals: 1.
- * Writes:   all fields of `h`. With refusal 1 they are all zero, so that each
- *           later call on `h` is refused with 2.
+ * Writes:   `h`, if done.
  *
  *     wickslate_hasher h = {0};
  *     if (wickslate_start(&h, WICKSLATE_PHOTON_256) != WICKSLATE_DONE)

@@ -73,13 +73,13 @@ fn with_copy(before: &[u8], call: impl FnOnce(&mut [u8]) -> u8) -> (u8, Vec<u8>)
     (call(&mut after), after)
 }
 
-/// Begins a message. A refused start clears what was lent.
-pub fn start(before: Hasher, variant: u8) -> (u8, Hasher) {
-    let mut lent = Value::new(marked(before));
-    let answer = wickslate::start(lent.lend(), variant);
-    let after = lent.take_back();
-    assert_eq!((answer, fields(&after)), running::start(variant));
-    (answer, marked(after))
+/// Begins a message.
+pub fn start(h: Hasher, variant: u8) -> (u8, Hasher) {
+    let expected = match running::start(variant) {
+        (0, begun) => (0, begun),
+        (refusal, _) => (refusal, fields(&h)),
+    };
+    expect_hasher(h, expected, |h| wickslate::start(h, variant))
 }
 
 /// Takes a piece.

@@ -25,7 +25,7 @@ pub struct Hasher {
 }
 
 impl Default for Hasher {
-    /// All zeros, as after a refused start.
+    /// All zeros, which is no running hash yet.
     fn default() -> Hasher {
         Hasher {
             variant: 0,

@@ -85,16 +85,14 @@ fn calls_go_on_from_any_well_formed_state() {
 }
 
 #[test]
-fn a_start_replaces_anything() {
+fn a_start_replaces_anything_if_the_variant_is_known() {
     let mut random = Random::of_test("a_start_replaces_anything");
     for number in 0..=255 {
-        let before = anything(&mut random);
-        let (answer, after) = start(before, number);
-        let known = (1..=10).contains(&number);
-        assert_eq!(answer, if known { 0 } else { 1 });
-        assert_eq!(after.variant, if known { number } else { 0 });
-        if !known {
-            expect_malformed(after);
+        for before in [anything(&mut random), begun(&VARIANTS[0])] {
+            let (answer, after) = start(before, number);
+            let known = (1..=10).contains(&number);
+            assert_eq!(answer, if known { 0 } else { 1 });
+            assert_eq!(after.variant, if known { number } else { before.variant });
         }
     }
 }
