@@ -2,9 +2,9 @@
  * Wickslate: the ten PHOTON and SPONGENT hash functions of ISO/IEC 29192-5.
  *
  * C99, C11 and C++. Link with libwickslate.a, which `rt staticlib wickslate`
- * writes to target/staticlib. The archive keeps nothing between calls, takes
- * no memory and needs only memcpy from outside; calls on different memory can
- * run at the same time.
+ * writes to target/staticlib, for x86-64. The archive keeps nothing between
+ * calls, uses no heap and needs only memcpy from outside; calls on different
+ * memory can run at the same time.
  *
  * THE ANSWER. Every function answers with WICKSLATE_DONE or with the number
  * of one refusal. The refusals listed for a function are checked in the order

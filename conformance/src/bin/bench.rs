@@ -1,11 +1,13 @@
 //! The archive's speed beside the Rust version's: the same messages on both
-//! sides, by turns, and the best of several repetitions of each.
+//! sides, by turns, and the best of several repetitions of each. Times are the
+//! processor's for this thread, so that other work on the machine counts less.
 
 use std::env;
+use std::ffi::{c_int, c_long};
 use std::fs;
 use std::process::exit;
 use std::thread::available_parallelism;
-use std::time::{Duration, Instant};
+use std::time::Duration;
 
 use wickslate_conformance::wickslate;
 use wickslate_reference::{digest, Variant, VARIANTS};
@@ -199,10 +201,10 @@ fn hash(variant: &Variant, message: &[u8], out: &mut [u8]) {
 
 /// The least time of each call, in nanoseconds, with the calls by turns.
 fn best<const N: usize>(mut calls: [&mut dyn FnMut(); N], repetitions: usize) -> [f64; N] {
-    let begun = Instant::now();
+    let begun = processor_time();
     let mut least = [f64::INFINITY; N];
     let mut done = 0;
-    while done < repetitions || begun.elapsed() < LEAST_OF_ALL {
+    while done < repetitions || processor_time() - begun < LEAST_OF_ALL {
         for (least, call) in least.iter_mut().zip(&mut calls) {
             *least = least.min(time_of(call));
         }
@@ -213,11 +215,28 @@ fn best<const N: usize>(mut calls: [&mut dyn FnMut(); N], repetitions: usize) ->
 
 /// Nanoseconds of one call, from as many as fill the least time.
 fn time_of(call: &mut dyn FnMut()) -> f64 {
-    let begun = Instant::now();
+    let begun = processor_time();
     let mut calls = 0;
-    while begun.elapsed() < LEAST {
+    loop {
         call();
         calls += 1;
+        let spent = processor_time() - begun;
+        if spent >= LEAST {
+            return spent.as_nanos() as f64 / f64::from(calls);
+        }
     }
-    begun.elapsed().as_nanos() as f64 / f64::from(calls)
+}
+
+/// The time that the processor has spent on this thread.
+fn processor_time() -> Duration {
+    extern "C" {
+        fn clock_gettime(clock: c_int, time: *mut [c_long; 2]) -> c_int;
+    }
+    // CLOCK_THREAD_CPUTIME_ID of Linux.
+    const OF_THREAD: c_int = 3;
+    let mut time = [0; 2];
+    // SAFETY: a timespec is two numbers, and this one can be written.
+    let answer = unsafe { clock_gettime(OF_THREAD, &mut time) };
+    assert_eq!(answer, 0, "no clock of the thread");
+    Duration::new(time[0] as u64, time[1] as u32)
 }
