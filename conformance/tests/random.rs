@@ -2,7 +2,7 @@
 //! for `WICKSLATE_MINUTES` if that is set, and the longest messages come first
 //! then.
 
-use std::time::{Duration, Instant};
+use std::time::Instant;
 
 use wickslate_conformance::make::{self, Entry};
 use wickslate_conformance::random::Random;
@@ -30,21 +30,15 @@ fn random_calls() {
             }
         }
         Some(time) => {
-            let begun = Instant::now();
             longest_messages(&mut random);
-            go_on(begun, time, || {
-                seen[usize::from(any_call(&mut random))] += 1
-            });
+            let begun = Instant::now();
+            while begun.elapsed() < time {
+                seen[usize::from(any_call(&mut random))] += 1;
+            }
         }
     }
     println!("answers 0 to 11: {seen:?}");
     assert!(!seen.contains(&0), "an answer did not come up: {seen:?}");
-}
-
-fn go_on(begun: Instant, time: Duration, mut call: impl FnMut()) {
-    while begun.elapsed() < time {
-        call();
-    }
 }
 
 fn any_call(random: &mut Random) -> u8 {
@@ -188,29 +182,34 @@ fn lost_block(random: &mut Random) -> u8 {
 fn longest_messages(random: &mut Random) {
     let message = random.bytes(MESSAGE_LIMIT);
     let expected = digest(FAST, &message).expect("not too long");
-    let mut out = vec![0; expected.len()];
-    assert_eq!(wickslate::whole(FAST, &message, 0, &mut out), 0);
-    assert_eq!(out, expected);
+    let expect_same = |hash: &mut dyn FnMut(&mut [u8]) -> u8| {
+        let mut out = vec![0; expected.len()];
+        assert_eq!(hash(&mut out), 0);
+        assert_eq!(out, expected);
+    };
+    expect_same(&mut |out| wickslate::whole(FAST, &message, 0, out));
+    let h = closed(random.cut(&message, 100_000));
+    expect_same(&mut |out| wickslate::digest(&h, out));
+    let (list, buffer) = two_segments(&message);
+    expect_same(&mut |out| wickslate::digest_list(FAST, &list, &buffer, 0, out, &mut 0));
+}
 
+/// The running hash of a message of the greatest length.
+fn closed(pieces: Vec<&[u8]>) -> Hasher {
     let mut h = make::none();
     assert_eq!(wickslate::start(&mut h, FAST), 0);
-    for piece in random.cut(&message, 100_000) {
+    for piece in pieces {
         assert_eq!(wickslate::update(&mut h, piece), 0);
     }
-    assert_eq!(wickslate::update(&mut h, b"\xff"), 4);
+    assert_eq!(wickslate::update(&mut h, b"\xff"), 4, "one byte more");
     assert_eq!(wickslate::finish(&mut h), 0);
-    out.fill(0);
-    assert_eq!(wickslate::digest(&h, &mut out), 0);
-    assert_eq!(out, expected);
+    h
+}
 
-    let half = 1 << 23;
-    let buffer = [&message[..half], b"gap", &message[half..]].concat();
-    let second = (half as u32 + 3, (MESSAGE_LIMIT - half) as u32);
-    let list = make::list(&[(0, half as u32), second]);
-    out.fill(0);
-    assert_eq!(
-        wickslate::digest_list(FAST, &list, &buffer, 0, &mut out, &mut 0),
-        0
-    );
-    assert_eq!(out, expected);
+/// A list and a buffer in which the message is cut in two by a gap.
+fn two_segments(message: &[u8]) -> (Vec<u8>, Vec<u8>) {
+    let (first, second) = message.split_at(message.len() / 2);
+    let [first_bytes, second_bytes] = [first, second].map(|part| part.len() as u32);
+    let list = make::list(&[(0, first_bytes), (first_bytes + 3, second_bytes)]);
+    (list, [first, b"gap", second].concat())
 }
