@@ -130,7 +130,7 @@ fn print_growth(wish: &Wish) {
     head.push("last / first".into());
     print_head(wish.markdown, &head);
     for variant in &wish.variants {
-        let times = GROWING.map(|bytes| archive_time(variant, &message(bytes), wish.repetitions));
+        let times = growth(variant, wish.repetitions);
         let mut row = vec![name(variant)];
         row.extend(times.map(|time| format!("{time:.0}")));
         row.push(format!("{:.2}", times[GROWING.len() - 1] / times[0]));
@@ -187,12 +187,21 @@ fn speed(variant: &Variant, message: &[u8], repetitions: usize) -> Speed {
     }
 }
 
-/// Nanoseconds per byte of the archive alone.
-fn archive_time(variant: &Variant, message: &[u8], repetitions: usize) -> f64 {
-    let mut out = vec![0; variant.digest_bytes()];
-    let mut archive = || hash(variant, message, &mut out);
-    let [time] = best([&mut archive], repetitions);
-    time / message.len() as f64
+/// Nanoseconds per byte of the archive for growing messages. Each time is that
+/// of as many bytes, in more messages or fewer, so that all have their share of
+/// the machine's noise.
+fn growth(variant: &Variant, repetitions: usize) -> [f64; GROWING.len()] {
+    let all = message(GROWING[GROWING.len() - 1]);
+    let mut calls = GROWING.map(|bytes| {
+        let messages = all.chunks(bytes);
+        move || {
+            messages
+                .clone()
+                .for_each(|message| hash(variant, message, &mut [0; 32]))
+        }
+    });
+    let calls = calls.each_mut().map(|call| call as &mut dyn FnMut());
+    best(calls, repetitions).map(|time| time / all.len() as f64)
 }
 
 fn hash(variant: &Variant, message: &[u8], out: &mut [u8]) {
