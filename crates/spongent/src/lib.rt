@@ -66,18 +66,18 @@ fn with_counter(s: [u8; 36], n: usize, c: u8) -> [u8; 36]
     out
 }
 
-// Both nibbles of a byte by the table.
-fn substituted_byte(b: u8, table: [u8; 16]) -> u8
-    requires { ⌜ ((x : ℕ) → x < 16 → getD table x 0 < 16) ⌝ }
-    ensures { λ r. ⌜ r ≡ lowValue (sBoxLayer table (lowBits 8 b)) ⌝ }
+// Both nibbles of a byte by the table. The table is lent: by value it would be copied for each byte.
+fn substituted_byte(b: u8, table: &[u8; 16]) -> u8
+    requires { ⌜ ((x : ℕ) → x < 16 → getD (now table) x 0 < 16) ⌝ }
+    ensures { λ r. ⌜ r ≡ lowValue (sBoxLayer (now (table .entry)) (lowBits 8 b)) ⌝ }
 {
     table[(b % 16) as usize] + 16 * table[(b / 16) as usize]
 }
 
 // sBoxLayer on the first n bytes, by a table of nibbles.
-fn substituted(s: [u8; 36], n: usize, table: [u8; 16]) -> [u8; 36]
-    requires { ⌜ (n ≤ 36) × ((x : ℕ) → x < 16 → getD table x 0 < 16) ⌝ }
-    ensures { λ r. ⌜ bitsIn low-first r ≡ sBoxLayer table (take (8 * n) (bitsIn low-first s)) ++ drop (8 * n) (bitsIn low-first s) ⌝ }
+fn substituted(s: [u8; 36], n: usize, table: &[u8; 16]) -> [u8; 36]
+    requires { ⌜ (n ≤ 36) × ((x : ℕ) → x < 16 → getD (now table) x 0 < 16) ⌝ }
+    ensures { λ r. ⌜ bitsIn low-first r ≡ sBoxLayer (now (table .entry)) (take (8 * n) (bitsIn low-first s)) ++ drop (8 * n) (bitsIn low-first s) ⌝ }
 {
     let mut out = s;
     let mut i: usize = 0;
@@ -126,12 +126,19 @@ fn planes(s: [u8; 36], n: usize) -> [u8; 144]
     with_plane(three, s, 3 * n, 3)
 }
 
-// The byte of four pairs.
+fn wide64(x: u8) -> u64
+    ensures { λ r. ⌜ r ≡ x ⌝ }
+{
+    x as u64
+}
+
+// The byte of four pairs. They are read as one number, and one product brings all four side by side.
 fn joined(w: u8, x: u8, y: u8, z: u8) -> u8
     requires { ⌜ (w < 4) × ((x < 4) × ((y < 4) × (z < 4))) ⌝ }
     ensures { λ r. ⌜ (r % 4 ≡ w) × ((r / 4 % 4 ≡ x) × ((r / 16 % 4 ≡ y) × (r / 64 % 4 ≡ z))) ⌝ }
 {
-    w + x * 4 + y * 16 + z * 64
+    let all = wide64(w) + wide64(x) * 0x100 + wide64(y) * 0x10000 + wide64(z) * 0x1000000;
+    (all * 0x1041040 / 0x1000000 % 0x100) as u8
 }
 
 // The n bytes of pairs, and zeros behind them.
@@ -223,11 +230,11 @@ fn round(s: [u8; 36], t: usize, c: u8, back: bool) -> [u8; 36]
     let n = t / 8;
     if back {
         let put = moved_back(s, t);
-        let replaced = substituted(put, n, UNNIBBLES);
+        let replaced = substituted(put, n, &UNNIBBLES);
         return with_counter(replaced, n, c);
     }
     let added = with_counter(s, n, c);
-    let replaced = substituted(added, n, NIBBLES);
+    let replaced = substituted(added, n, &NIBBLES);
     moved(replaced, t)
 }
 

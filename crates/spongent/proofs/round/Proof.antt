@@ -30,7 +30,7 @@ with-counter-requires c κs = search needs
 returns : tie.Need-returns
 unfolding spongentRound
 returns c =
-    let a = c .before .before .before .before .args in
+    let a = c .before .before .before .before .before .args in
     let t : ℕ = a .t in
     let n : ℕ = t / 8 in
     let en : 8 * n ≡ t = omega arith in
@@ -38,14 +38,14 @@ returns c =
     let x : List Bool = take t (bitsIn low-first (a .s)) in
     let p : List Bool = pLayer t 4 x in
     let q : List Bool = sBoxLayer unnibbles p in
-    let P : List Bool = bitsIn low-first (c .before .before .moved-back .result) in
+    let P : List Bool = bitsIn low-first (c .before .before .before .moved-back .result) in
     let Q : List Bool = bitsIn low-first (c .before .substituted .result) in
     let R : List Bool = bitsIn low-first (c .with-counter .result) in
     let lp : length p ≡ t = length-pLayer t 4 x in
-    let eq : Q ≡ q ++ z = layer-after t P p z lp (c .before .before .moved-back .ensures) (sBoxLayer unnibbles) n Q en (c .before .substituted .ensures) in
+    let eq : Q ≡ q ++ z = layer-after t P p z lp (c .before .before .before .moved-back .ensures) (sBoxLayer unnibbles) n Q en (c .before .substituted .ensures) in
     layer-after t Q q z (length-sBoxLayer unnibbles p ∙ lp) eq (cAddition (8 * n) (a .c)) n R en (c .with-counter .ensures)
     ∙ ap (λ (m : ℕ). cAddition m (a .c) q ++ z) en
-    ∙ ap (λ (b : Bool). spongentRound t (direction b) x (a .c) ++ z) (sym (c .before .before .before .if1 .taken))
+    ∙ ap (λ (b : Bool). spongentRound t (direction b) x (a .c) ++ z) (sym (c .before .before .before .before .if1 .taken))
 
 with-counter-requires-2 : tie.Need-with-counter-requires-2
 with-counter-requires-2 c κs = search needs
@@ -59,7 +59,7 @@ moved-requires c κs = search needs
 returns-2 : tie.Need-returns-2
 unfolding spongentRound
 returns-2 c =
-    let a = c .before .before .before .before .args in
+    let a = c .before .before .before .before .before .args in
     let t : ℕ = a .t in
     let n : ℕ = t / 8 in
     let en : 8 * n ≡ t = omega arith in
@@ -68,18 +68,18 @@ returns-2 c =
     let x : List Bool = take t L in
     let p : List Bool = cAddition t (a .c) x in
     let q : List Bool = sBoxLayer nibbles p in
-    let P : List Bool = bitsIn low-first (c .before .before .with-counter2 .result) in
+    let P : List Bool = bitsIn low-first (c .before .before .before .with-counter2 .result) in
     let Q : List Bool = bitsIn low-first (c .before .substituted2 .result) in
     let lx : length x ≡ t = length-take-le t L (omega (arith, length-bitsIn low-first (a .s))) in
-    let ex : L ≡ x ++ z = sym (take-append-drop t L) ∙ ap (λ (l : List Bool). x ++ l) (c .before .before .before .before .pre .1) in
+    let ex : L ≡ x ++ z = sym (take-append-drop t L) ∙ ap (λ (l : List Bool). x ++ l) (c .before .before .before .before .before .pre .1) in
     let lp : length p ≡ t = length-cAddition t (a .c) x ∙ lx in
     let ep : P ≡ p ++ z =
-    layer-after t L x z lx ex (cAddition (8 * n) (a .c)) n P en (c .before .before .with-counter2 .ensures)
+    layer-after t L x z lx ex (cAddition (8 * n) (a .c)) n P en (c .before .before .before .with-counter2 .ensures)
     ∙ ap (λ (m : ℕ). cAddition m (a .c) x ++ z) en in
     let eq : Q ≡ q ++ z = layer-after t P p z lp ep (sBoxLayer nibbles) n Q en (c .before .substituted2 .ensures) in
     c .moved .ensures
     ∙ ap (λ (l : List Bool). pLayer t (t / 4) l ++ z) (first-bits t Q q z (length-sBoxLayer nibbles p ∙ lp) eq)
-    ∙ ap (λ (b : Bool). spongentRound t (direction b) x (a .c) ++ z) (sym (c .before .before .before .if1 .left))
+    ∙ ap (λ (b : Bool). spongentRound t (direction b) x (a .c) ++ z) (sym (c .before .before .before .before .if1 .left))
 
 pub round-spec : {M : Type 1} → statement M
 round-spec =

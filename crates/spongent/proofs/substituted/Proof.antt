@@ -39,7 +39,7 @@ loop-less c = omega arith
 loop-again : tie.Need-loop-again Inv-loop μ-loop
 loop-again c =
     let a = c .before .before in
-    let f : ℕ → ℕ = byteBy (a .before .args .table) in
+    let f : ℕ → ℕ = byteBy (a .before .args .table .now) in
     let i : ℕ = a .loop .i in
     let s : List ℕ = a .before .args .s in (
       omega arith,
@@ -50,7 +50,7 @@ loop-again c =
 returns : tie.Need-returns Inv-loop μ-loop
 returns c =
     let a = c .before in
-    let f : List ℕ = a .before .args .table in
+    let f : List ℕ = a .before .args .table .now in
     let e : a .loop .i ≡ a .before .args .n = omega arith in
     ap (bitsIn low-first) (a .loop .inv .1 ∙ ap (λ (m : ℕ). mapped (byteBy f) m (a .before .args .s)) e)
     ∙ mapped-bits f (a .before .args .n) (a .before .args .s)
