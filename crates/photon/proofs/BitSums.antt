@@ -3,30 +3,46 @@
 use mathlib.Core.Path.{_≡_, refl, sym, ap, ap₂, _∙_, subst}
 use mathlib.Core.Bool.{Bool, true, false, cond}
 use mathlib.Core.List.{List}
-use Prim.Native.Nat.{ℕ, zero, suc, _+_, _*_, _/_, _%_, _^_, _≤_, _<_, suc-le-suc}
-use native.Mathlib.Nat.{zero-lt-suc, div-eq-of-lt, div-div-eq-div-mul, div-one}
+use Prim.Native.Nat.{ℕ, zero, suc, _+_, _-_, _*_, _/_, _%_, _^_, _≤_, _<_, suc-le-suc}
+use native.Mathlib.Nat.{zero-lt-suc, add-zero, add-suc, div-eq-of-lt, div-div-eq-div-mul, div-one, div-le-self}
 use native.Mathlib.Numerals.{add-one}
 use native.Mathlib.Omega.{arith}
-use lib.Bits.{bitXor}
+use lib.Bits.{bitXor, xor-zero-r}
 use lib.Dec.{eqb}
-use lib.Pow.{pow-add}
+use lib.Pow.{pow-add, pow-pos}
 use lib.ListN.{getD}
-use Rattle.standard.specs.Grid.{tab, cells}
+use Rattle.standard.specs.Grid.{tab}
 use Rattle.standard.specs.Field.{double, mul, dot}
 use Rattle.standard.proofs.Xor.{xor-exchange}
 use Rattle.standard.proofs.Tab.{length-tab, tab-snoc, tab-cong}
 use Rattle.standard.proofs.Undo.{All}
 use Rattle.standard.proofs.FieldLaws.{double-xor, double-zero, mul-lt, mul-double, mul-none, mul-step, dot-lt, dot-snoc}
-use Rattle.photon.specs.Rows.{lane, columnFrom, withoutLow, Mixing, SmallRows}
-use Rattle.photon.proofs.Lanes.{lane-zero, lane-xor}
+use Rattle.photon.specs.Rows.{lane, lanes, columnFrom, oddSum, Mixing, NoneFrom, SmallRows}
+use Rattle.photon.proofs.Lanes.{lane-lt, lane-zero, lane-xor, lane-bit}
 
--- the sum of those of the first n rows whose coefficient is odd
-abbrev pub oddSum : (ℕ → ℕ) → (ℕ → ℕ) → ℕ → ℕ
-oddSum f g zero = 0
-oddSum f g (suc n) = bitXor (oddSum f g n) (cond (eqb (f n % 2) 1) (g n) 0)
-
+-- one row more
 pub odd-more : (f g : ℕ → ℕ) (n sum w : ℕ) → w ≡ cond (eqb (f n % 2) 1) (g n) 0 → sum ≡ oddSum f g n → bitXor sum w ≡ oddSum f g (n + 1)
 odd-more f g n sum w e h = ap₂ bitXor h e ∙ ap (oddSum f g) (sym (add-one n))
+
+-- whether a coefficient is odd is all that counts of it
+odd-same : (f f′ g : ℕ → ℕ) (n : ℕ) → ((i : ℕ) → i < n → f i % 2 ≡ f′ i % 2) → oddSum f g n ≡ oddSum f′ g n
+odd-same f f′ g zero h = refl
+odd-same f f′ g (suc n) h =
+    ap₂ (λ (x k : ℕ). bitXor x (cond (eqb k 1) (g n) 0)) (odd-same f f′ g n (λ i l. h i (omega arith))) (h n (omega arith))
+
+-- rows whose coefficient is zero add nothing
+odd-rest : (f g : ℕ → ℕ) (d k : ℕ) → ((i : ℕ) → d ≤ i → i < d + k → f i ≡ 0) → oddSum f g (d + k) ≡ oddSum f g d
+odd-rest f g d zero h = ap (oddSum f g) (add-zero d)
+odd-rest f g d (suc k) h =
+    ap (oddSum f g) (add-suc d k)
+    ∙ ap (λ (x : ℕ). bitXor (oddSum f g (d + k)) (cond (eqb (x % 2) 1) (g (d + k)) 0)) (h (d + k) (omega arith) (omega arith))
+    ∙ xor-zero-r (oddSum f g (d + k))
+    ∙ odd-rest f g d k (λ i l u. h i l (omega arith))
+
+odd-first : (f g : ℕ → ℕ) (d : ℕ) → d ≤ 8 → ((i : ℕ) → d ≤ i → i < 8 → f i ≡ 0) → oddSum f g 8 ≡ oddSum f g d
+odd-first f g d l h =
+    let all : d + (8 - d) ≡ 8 = omega arith in
+    ap (oddSum f g) (sym all) ∙ odd-rest f g d (8 - d) (λ i m u. h i m (omega arith))
 
 lane-odd : (j : ℕ) (f g : ℕ → ℕ) (n : ℕ) → lane j (oddSum f g n) ≡ oddSum f (λ i. lane j (g i)) n
 lane-odd j f g zero = lane-zero j
@@ -76,7 +92,7 @@ module _ (s poly : ℕ) (low : 2 ^ s ≤ poly) (high : poly < 2 ^ s * 2) where
       (sym (double-xor s poly low high a b (dots-lt n half g before) (mul-lt s poly low high (f n / 2) (g n) hn))
       ∙ ap (double (2 ^ s) poly) (sym (dots-suc n half g)))
 
--- ---- four bits of each coefficient, on the rows
+-- ---- bit by bit of the coefficients, on the rows
 
 -- In column j: the rows of one bit are summed, and the double of what the higher bits made is added.
 module _ (d s poly : ℕ) (m : Mixing d s poly) (rows : List ℕ) (n : ℕ) (small : SmallRows d (2 ^ s) rows n) (j : ℕ) (hj : j < d) where
@@ -98,33 +114,25 @@ module _ (d s poly : ℕ) (m : Mixing d s poly) (rows : List ℕ) (n : ℕ) (sma
       (t j (omega (arith, m .most)) below ∙ ap (double (2 ^ s) poly) h)
       ∙ sym (dots-half s poly (m .modulus .low) (m .modulus .high) d f (λ i. lane j (getD rows (n + i) 0)) hf cell)
 
-  pub nibble-more : (f : ℕ → ℕ) → ((i : ℕ) → f i < 256) → (s₀ s₁ s₂ s₃ above r₃ r₂ r₁ r₀ : ℕ)
-      → s₀ ≡ oddSum f (λ i. getD rows (n + i) 0) d
-      → s₁ ≡ oddSum (λ i. f i / 2) (λ i. getD rows (n + i) 0) d
-      → s₂ ≡ oddSum (λ i. f i / 2 / 2) (λ i. getD rows (n + i) 0) d
-      → s₃ ≡ oddSum (λ i. f i / 2 / 2 / 2) (λ i. getD rows (n + i) 0) d
-      → lane j above ≡ sumOf (λ i. f i / 2 / 2 / 2 / 2)
-      → Doubles above r₃ → Doubles (bitXor s₃ r₃) r₂ → Doubles (bitXor s₂ r₂) r₁ → Doubles (bitXor s₁ r₁) r₀
-      → lane j (bitXor s₀ r₀) ≡ sumOf f
-  nibble-more f hf s₀ s₁ s₂ s₃ above r₃ r₂ r₁ r₀ e₀ e₁ e₂ e₃ h t₃ t₂ t₁ t₀ =
-      bit-more f hf s₀ (bitXor s₁ r₁) r₀ e₀
-      (bit-more (λ i. f i / 2) (λ i. omega (arith, hf i)) s₁ (bitXor s₂ r₂) r₁ e₁
-      (bit-more (λ i. f i / 2 / 2) (λ i. omega (arith, hf i)) s₂ (bitXor s₃ r₃) r₂ e₂
-      (bit-more (λ i. f i / 2 / 2 / 2) (λ i. omega (arith, hf i)) s₃ above r₃ e₃ h t₃) t₂) t₁) t₀
+  -- the rows whose coefficient has bit b, and the double of what the bits above made
+  pub bit-taken : (z b : ℕ) → b < 8 → NoneFrom d z → (sum above twice : ℕ)
+      → sum ≡ oddSum (λ i. lane i (z / 2 ^ b)) (λ i. getD rows (n + i) 0) 8
+      → lane j above ≡ sumOf (λ i. lane i z / 2 ^ (b + 1)) → Doubles above twice → lane j (bitXor sum twice) ≡ sumOf (λ i. lane i z / 2 ^ b)
+  bit-taken z b hb none sum above twice e h t =
+      let f : ℕ → ℕ = λ i. lane i z / 2 ^ b in
+      let g : ℕ → ℕ = λ i. getD rows (n + i) 0 in
+      bit-more f (λ i. omega (arith, div-le-self (lane i z) (2 ^ b), lane-lt i z)) sum above twice
+      (e ∙ odd-same (λ i. lane i (z / 2 ^ b)) f g 8 (λ i l. lane-bit i z b hb)
+      ∙ odd-first f g d (m .most) (λ i l u. ap (λ (x : ℕ). x / 2 ^ b) (none .none i l u) ∙ div-eq-of-lt (pow-pos b)))
+      (h ∙ ap (λ (us : List ℕ). dot (2 ^ s) poly us (columnFrom d rows n j)) (tab-cong d (λ i. lane i z / 2 ^ (b + 1)) (λ i. f i / 2) (λ i l. half (lane i z)))) t
+    where
+      half : (x : ℕ) → x / 2 ^ (b + 1) ≡ x / 2 ^ b / 2
+      half x = ap (λ (k : ℕ). x / k) (pow-add 2 b 1) ∙ sym (div-div-eq-div-mul x (2 ^ b) 2)
 
--- the coefficients without their lowest bits: four more, all of them, or none
-pub four-halves : (d b : ℕ) (z : List ℕ) → tab d (λ i. getD z i 0 / 2 ^ b / 2 / 2 / 2 / 2) ≡ withoutLow d (b + 4) z
-four-halves d b z = tab-cong d (λ i. getD z i 0 / 2 ^ b / 2 / 2 / 2 / 2) (λ i. getD z i 0 / 2 ^ (b + 4)) (λ i h. each (getD z i 0))
-  where
-    each : (x : ℕ) → x / 2 ^ b / 2 / 2 / 2 / 2 ≡ x / 2 ^ (b + 4)
-    each x =
-        let sixteen : x / 2 ^ b / 2 / 2 / 2 / 2 ≡ x / 2 ^ b / 16 = omega arith in
-        sixteen ∙ div-div-eq-div-mul x (2 ^ b) 16 ∙ ap (λ (k : ℕ). x / k) (sym (pow-add 2 b 4))
-
-pub no-bits : (top poly d b j : ℕ) (z : List ℕ) (g : ℕ → ℕ) → ((i : ℕ) → i < d → getD z i 0 < 2 ^ b)
-    → lane j 0 ≡ dot top poly (withoutLow d b z) (tab d g)
+-- no bit of the coefficients, and all of them
+pub no-bits : (top poly d j z : ℕ) (g : ℕ → ℕ) → lane j 0 ≡ dot top poly (tab d (λ i. lane i z / 2 ^ 8)) (tab d g)
 unfolding dot
-no-bits top poly d b j z g h = lane-zero j ∙ sym (none d (λ i. getD z i 0 / 2 ^ b) g (λ i l. div-eq-of-lt (h i l)))
+no-bits top poly d j z g = lane-zero j ∙ sym (none d (λ i. lane i z / 2 ^ 8) g (λ i l. div-eq-of-lt (lane-lt i z)))
   where
     none : (n : ℕ) (f x : ℕ → ℕ) → ((i : ℕ) → i < n → f i ≡ 0) → dot top poly (tab n f) (tab n x) ≡ 0
     none zero f x e = refl
@@ -132,5 +140,5 @@ no-bits top poly d b j z g h = lane-zero j ∙ sym (none d (λ i. getD z i 0 / 2
         ap₂ bitXor (ap (λ (k : ℕ). mul top poly k (x 0)) (e 0 (zero-lt-suc n)) ∙ mul-none top poly (x 0))
         (none n (λ i. f (suc i)) (λ i. x (suc i)) (λ i l. e (suc i) (suc-le-suc l)))
 
-pub all-bits : (d : ℕ) (z : List ℕ) → withoutLow d 0 z ≡ cells d z
-all-bits d z = tab-cong d (λ i. getD z i 0 / 2 ^ 0) (λ i. getD z i 0) (λ i h. div-one (getD z i 0))
+pub all-bits : (d z : ℕ) → tab d (λ i. lane i z / 2 ^ 0) ≡ lanes d z
+all-bits d z = tab-cong d (λ i. lane i z / 2 ^ 0) (λ i. lane i z) (λ i h. div-one (lane i z))

@@ -53,7 +53,7 @@ lane-mul (suc j) y c h =
     ∙ lane-mul j (y / 256) c (λ i l. h (suc i) (suc-le-suc l))
 
 -- bit k of each cell
-lane-bit : (j x k : ℕ) → k < 8 → lane j (x / 2 ^ k) % 2 ≡ lane j x / 2 ^ k % 2
+pub lane-bit : (j x k : ℕ) → k < 8 → lane j (x / 2 ^ k) % 2 ≡ lane j x / 2 ^ k % 2
 unfolding lane
 lane-bit zero x k h =
     let m : ℕ = 2 ^ (7 - k) in

@@ -1,21 +1,22 @@
 -- The parameters by a variant's number are those of the table of variants, they are sound, and the code's tables hold them.
 -- Assumes nothing.
-use mathlib.Core.Path.{_≡_, refl, sym, ap}
-use mathlib.Core.Bool.{Bool, true, false, cond}
-use mathlib.Core.List.{List, [], _∷_, map}
-use Prim.Native.Nat.{ℕ, _-_, _^_, _≤_, _<_}
+use mathlib.Core.Path.{_≡_, refl, sym, ap, _∙_, subst}
+use mathlib.Core.Bool.{Bool, cond}
+use mathlib.Core.List.{List, [], map}
+use Prim.Native.Nat.{ℕ, _+_, _-_, _≤_, _<_}
 use native.Mathlib.Omega.{arith}
-use lib.Dec.{T, eqb, ltb, lit<}
+use lib.Dec.{T, eqb, lit<}
 use lib.ListN.{getD}
 use Rattle.standard.specs.Grid.{cells}
 use Rattle.standard.specs.Photon.{PhotonParameters, present, unpresent, aes, unaes}
 use Rattle.standard.specs.Sponge.{photon}
 use Rattle.standard.specs.Variants.{variant, photon100, photon144, photon196, photon256, photon288}
-use Rattle.standard.proofs.Tests.{below, bound-below, one-to-five}
+use Rattle.standard.proofs.Tests.{below, same-below, one-to-five}
 use Rattle.standard.proofs.PhotonLaws.{Sound}
 use Rattle.standard.proofs.PhotonVariants.{sound100, sound144, sound196, sound256, sound288}
-use Rattle.photon.specs.Parameters.{photons, photonOf, BoxNumber}
-use Rattle.photon.specs.Rows.{Narrow}
+use Rattle.photon.specs.Parameters.{photons, photonOf}
+use Rattle.photon.specs.Rows.{lane, lanes}
+use Rattle.photon.proofs.StepsOf.{MixedBy}
 
 pub photon-variant : (v : ℕ) → 1 ≤ v → v ≤ 5 → variant v .family ≡ photon (photonOf v)
 unfolding variant photonOf
@@ -24,6 +25,10 @@ photon-variant = one-to-five (λ v. variant v .family ≡ photon (photonOf v)) r
 pub sound : (v : ℕ) → 1 ≤ v → v ≤ 5 → Sound (photonOf v)
 unfolding photonOf
 sound = one-to-five (λ v. Sound (photonOf v)) sound100 sound144 sound196 sound256 sound288
+
+pub two-or-more : (v : ℕ) → 1 ≤ v → v ≤ 5 → 2 ≤ photonOf v .d
+unfolding photonOf
+two-or-more = one-to-five (λ v. 2 ≤ photonOf v .d) (lit< tt) (lit< tt) (lit< tt) (lit< tt) (lit< tt)
 
 -- a table of numbers, one for each variant
 pub number-of : (f : PhotonParameters → ℕ) (v : ℕ) → 1 ≤ v → v ≤ 5 → getD (map f photons) (v - 1) 0 ≡ f (photonOf v)
@@ -38,57 +43,69 @@ pub ic-of : (v : ℕ) → 1 ≤ v → v ≤ 5 → cells (photonOf v .d) (getD (r
 unfolding photonOf
 ic-of = one-to-five (λ v. cells (photonOf v .d) (getD (rowTable (λ p. p .ic)) (v - 1) []) ≡ photonOf v .ic) refl refl refl refl refl
 
-pub z-of : (v : ℕ) → 1 ≤ v → v ≤ 5 → cells (photonOf v .d) (getD (rowTable (λ p. p .z)) (v - 1) []) ≡ photonOf v .z
+-- ---- the S-box of each variant, and its inverse
+
+pub aes-of : (v : ℕ) → v ≡ 5 → (back : Bool) → cond back (photonOf v .unbox) (photonOf v .box) ≡ cond back unaes aes
 unfolding photonOf
-z-of = one-to-five (λ v. cells (photonOf v .d) (getD (rowTable (λ p. p .z)) (v - 1) []) ≡ photonOf v .z) refl refl refl refl refl
+aes-of v e back = ap (λ (k : ℕ). cond back (photonOf k .unbox) (photonOf k .box)) e
 
-pub unz-of : (v : ℕ) → 1 ≤ v → v ≤ 5 → cells (photonOf v .d) (getD (rowTable (λ p. p .unz)) (v - 1) []) ≡ photonOf v .unz
+pub present-of : (v : ℕ) → 1 ≤ v → v ≤ 4 → (back : Bool) → cond back (photonOf v .unbox) (photonOf v .box) ≡ cond back unpresent present
 unfolding photonOf
-unz-of = one-to-five (λ v. cells (photonOf v .d) (getD (rowTable (λ p. p .unz)) (v - 1) []) ≡ photonOf v .unz) refl refl refl refl refl
+present-of v l u back =
+    one-to-five (λ k. k ≤ 4 → cond back (photonOf k .unbox) (photonOf k .box) ≡ cond back unpresent present)
+    (λ h. refl) (λ h. refl) (λ h. refl) (λ h. refl) (λ h. absurd (omega arith)) v l (omega arith) u
 
--- ---- coefficients of at most four bits
+-- ---- the numbers of each call of the mixing
 
-pub z-narrow : (v : ℕ) → 1 ≤ v → v ≤ 5 → Narrow (photonOf v .d) (photonOf v .z) false
+given : (p : PhotonParameters) (zs : List ℕ) (d s poly z : ℕ) → d ≡ p .d → s ≡ p .s → poly ≡ p .poly → lanes d z ≡ zs
+    → T (below (λ k. eqb (lane (d + k) z) 0) (8 - d)) → MixedBy p zs d s poly z
+given p zs d s poly z ed es ep ez t =
+    record {
+      size = ed;
+      bits = es;
+      modulo = ep;
+      coefficients = ez;
+      none = record {
+        none = λ i l u.
+            let place : d + (i - d) ≡ i = omega arith in
+            ap (λ (n : ℕ). lane n z) (sym place) ∙ same-below (λ k. lane (d + k) z) (λ k. 0) (8 - d) t (i - d) (omega arith);
+      };
+    }
+
+pub numbers-of : (zs : PhotonParameters → List ℕ) (v k d s poly z : ℕ) → v ≡ k
+    → MixedBy (photonOf k) (zs (photonOf k)) d s poly z → MixedBy (photonOf v) (zs (photonOf v)) d s poly z
+numbers-of zs v k d s poly z e m = subst (λ (i : ℕ). MixedBy (photonOf i) (zs (photonOf i)) d s poly z) (sym e) m
+
+pub one : MixedBy (photonOf 1) (photonOf 1 .z) 5 4 0x13 0x0209090201
+unfolding photonOf lane
+one = given photon100 _ 5 4 0x13 0x0209090201 refl refl refl refl tt
+
+pub two : MixedBy (photonOf 2) (photonOf 2 .z) 6 4 0x13 0x020805080201
+unfolding photonOf lane
+two = given photon144 _ 6 4 0x13 0x020805080201 refl refl refl refl tt
+
+pub three : MixedBy (photonOf 3) (photonOf 3 .z) 7 4 0x13 0x04060101060401
+unfolding photonOf lane
+three = given photon196 _ 7 4 0x13 0x04060101060401 refl refl refl refl tt
+
+pub four : MixedBy (photonOf 4) (photonOf 4 .z) 8 4 0x13 0x060508020b020402
+unfolding photonOf lane
+four = given photon256 _ 8 4 0x13 0x060508020b020402 refl refl refl refl tt
+
+pub five : MixedBy (photonOf 5) (photonOf 5 .z) 6 8 0x11b 0x040102010302
+unfolding photonOf lane
+five = given photon288 _ 6 8 0x11b 0x040102010302 refl refl refl refl tt
+
+pub four-back : MixedBy (photonOf 4) (photonOf 4 .unz) 8 4 0x13 0x02010c01040b0309
+unfolding photonOf lane
+four-back = given photon256 _ 8 4 0x13 0x02010c01040b0309 refl refl refl refl tt
+
+pub five-back : MixedBy (photonOf 5) (photonOf 5 .unz) 6 8 0x11b 0x8c8d018d028d
+unfolding photonOf lane
+five-back = given photon288 _ 6 8 0x11b 0x8c8d018d028d refl refl refl refl tt
+
+pub same-back : (v : ℕ) → 1 ≤ v → v ≤ 3 → photonOf v .z ≡ photonOf v .unz
 unfolding photonOf
-z-narrow =
-    one-to-five (λ v. Narrow (photonOf v .d) (photonOf v .z) false)
-    (narrow photon100 tt) (narrow photon144 tt) (narrow photon196 tt) (narrow photon256 tt) (narrow photon288 tt)
-  where
-    narrow : (p : PhotonParameters) → T (below (λ i. ltb (getD (p .z) i 0) 16) (p .d)) → Narrow (p .d) (p .z) false
-    narrow p t = record { nibble = λ e. bound-below (λ i. getD (p .z) i 0) 16 (p .d) t }
-
--- of the inverses, one has wider ones
-pub unz-narrow : (v : ℕ) → 1 ≤ v → v ≤ 5 → Narrow (photonOf v .d) (photonOf v .unz) (eqb v 5)
-unfolding photonOf
-unz-narrow =
-    one-to-five (λ v. Narrow (photonOf v .d) (photonOf v .unz) (eqb v 5))
-    (narrow photon100 tt) (narrow photon144 tt) (narrow photon196 tt) (narrow photon256 tt)
-    (record { nibble = λ e i h. let no : _≡_ {A = ℕ} 0 1 = ap (λ (b : Bool). cond b 0 1) e in absurd (omega arith) })
-  where
-    narrow : (p : PhotonParameters) → T (below (λ i. ltb (getD (p .unz) i 0) 16) (p .d)) → Narrow (p .d) (p .unz) false
-    narrow p t = record { nibble = λ e. bound-below (λ i. getD (p .unz) i 0) 16 (p .d) t }
-
--- ---- the numbers of the S-boxes, and of their inverses
-
-present-number : (p : PhotonParameters) → p .s ≡ 4 → p .box ≡ present → p .unbox ≡ unpresent → (back : Bool) → BoxNumber p back (cond back 1 0)
-present-number p e f b true = record { below = lit< tt; table = sym b; bound = ap (λ (s : ℕ). 2 ^ s) (sym e) }
-present-number p e f b false = record { below = lit< tt; table = sym f; bound = ap (λ (s : ℕ). 2 ^ s) (sym e) }
-
-aes-number : (p : PhotonParameters) → p .s ≡ 8 → p .box ≡ aes → p .unbox ≡ unaes → (back : Bool) → BoxNumber p back (cond back 3 2)
-aes-number p e f b true = record { below = lit< tt; table = sym b; bound = ap (λ (s : ℕ). 2 ^ s) (sym e) }
-aes-number p e f b false = record { below = lit< tt; table = sym f; bound = ap (λ (s : ℕ). 2 ^ s) (sym e) }
-
-abbrev pub numbers : Bool → List ℕ
-numbers false = 0 ∷ 0 ∷ 0 ∷ 0 ∷ 2 ∷ []
-numbers true = 1 ∷ 1 ∷ 1 ∷ 1 ∷ 3 ∷ []
-
-pub number-of-box : (back : Bool) (v : ℕ) → 1 ≤ v → v ≤ 5 → BoxNumber (photonOf v) back (getD (numbers back) (v - 1) 0)
-unfolding photonOf
-number-of-box true =
-    one-to-five (λ v. BoxNumber (photonOf v) true (getD (numbers true) (v - 1) 0))
-    (present-number photon100 refl refl refl true) (present-number photon144 refl refl refl true) (present-number photon196 refl refl refl true)
-    (present-number photon256 refl refl refl true) (aes-number photon288 refl refl refl true)
-number-of-box false =
-    one-to-five (λ v. BoxNumber (photonOf v) false (getD (numbers false) (v - 1) 0))
-    (present-number photon100 refl refl refl false) (present-number photon144 refl refl refl false) (present-number photon196 refl refl refl false)
-    (present-number photon256 refl refl refl false) (aes-number photon288 refl refl refl false)
+same-back v l u =
+    one-to-five (λ k. k ≤ 3 → photonOf k .z ≡ photonOf k .unz)
+    (λ h. refl) (λ h. refl) (λ h. refl) (λ h. absurd (omega arith)) (λ h. absurd (omega arith)) v l (omega arith) u

@@ -11,7 +11,7 @@ use Rattle.standard.specs.Rounds.{Direction, forward, backward, inTurn, rounds}
 use Rattle.standard.specs.Grid.{Grid, window, Small}
 use Rattle.standard.specs.Photon.{PhotonParameters, addConstants, subCells, shiftRows, mixColumns, unmixColumns, roundConstants, photonRound, photonRounds}
 use Rattle.standard.proofs.Tests.{bound-below}
-use Rattle.standard.proofs.PhotonLaws.{Sound, boxFor, window-state, state-small, add-state, sub-state, shift-state, mix-state, round-state}
+use Rattle.standard.proofs.PhotonLaws.{Sound, boxFor, window-state, state-small, add-state, sub-state, shift-state, round-state}
 
 module _ (p : PhotonParameters) (h : Sound p) (g : Grid) (m : Small (p .d) (2 ^ p .s) g) (r : Grid) where
   pub added-small : (rc : ℕ) → rc < 16 → window (p .d) r ≡ addConstants (p .d) rc (p .ic) (window (p .d) g) → Small (p .d) (2 ^ p .s) r
@@ -22,9 +22,6 @@ module _ (p : PhotonParameters) (h : Sound p) (g : Grid) (m : Small (p .d) (2 ^ 
 
   pub shifted-small : (k : ℕ) → window (p .d) r ≡ shiftRows (p .d) k (window (p .d) g) → Small (p .d) (2 ^ p .s) r
   shifted-small k e = state-small p r _ e (shift-state p h k (window (p .d) g) (window-state p g m))
-
-  pub unmixed-small : window (p .d) r ≡ unmixColumns (2 ^ p .s) (p .poly) (p .d) (p .unz) (window (p .d) g) → Small (p .d) (2 ^ p .s) r
-  unmixed-small e = state-small p r _ e (mix-state p h backward (window (p .d) g) (window-state p g m))
 
   pub round-small : (w : Direction) (rc : ℕ) → rc < 16 → window (p .d) r ≡ photonRound p w (window (p .d) g) rc → Small (p .d) (2 ^ p .s) r
   round-small w rc hr e = state-small p r _ e (round-state p h w (window (p .d) g) rc (window-state p g m) (omega (arith, h .nibble)))

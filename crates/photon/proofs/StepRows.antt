@@ -9,29 +9,29 @@ use native.Mathlib.Numerals.{add-one}
 use native.Mathlib.Omega.{arith}
 use lib.ListN.{length, getD, set, length-set}
 use lib.Seq.{getD-set-same, getD-set-other}
-use Rattle.standard.specs.Grid.{Grid, at, cells, window, Small}
+use Rattle.standard.specs.Grid.{Grid, at, window, Small}
 use Rattle.standard.specs.Field.{dot}
 use Rattle.standard.specs.Photon.{mixColumns}
 use Rattle.standard.proofs.Tab.{tab-cong}
 use Rattle.standard.proofs.Recurrence.{mix-rows}
-use Rattle.photon.specs.Rows.{lane, columnFrom, Mixing, SmallRows}
+use Rattle.photon.specs.Rows.{lane, lanes, columnFrom, Mixing, SmallRows}
 use Rattle.photon.proofs.BitSums.{dots-lt}
 
 -- cell j of the row that the d rows from row n on make
-abbrev next : ℕ → ℕ → ℕ → List ℕ → List ℕ → ℕ → ℕ → ℕ
-next d s poly z rows n j = dot (2 ^ s) poly (cells d z) (columnFrom d rows n j)
+abbrev next : ℕ → ℕ → ℕ → ℕ → List ℕ → ℕ → ℕ → ℕ
+next d s poly z rows n j = dot (2 ^ s) poly (lanes d z) (columnFrom d rows n j)
 
 -- n steps from the rows `own`
-pub record Stepped (d s poly : ℕ) (z own : List ℕ) (n : ℕ) (rows : List ℕ) : Type 0 where
+pub record Stepped (d s poly z : ℕ) (own : List ℕ) (n : ℕ) (rows : List ℕ) : Type 0 where
   pub size : length rows ≡ 16
   pub first : (i : ℕ) → i < d → getD rows i 0 ≡ getD own i 0
   pub made : (k j : ℕ) → k < n → j < d → lane j (getD rows (k + d) 0) ≡ next d s poly z rows k j
   pub small : (i j : ℕ) → i < n + d → j < d → lane j (getD rows i 0) < 2 ^ s
 
-pub stepped-small : (d s poly : ℕ) (z own : List ℕ) (n : ℕ) (rows : List ℕ) → Stepped d s poly z own n rows → SmallRows d (2 ^ s) rows n
+pub stepped-small : (d s poly z : ℕ) (own : List ℕ) (n : ℕ) (rows : List ℕ) → Stepped d s poly z own n rows → SmallRows d (2 ^ s) rows n
 stepped-small d s poly z own n rows p = record { cell = λ i j hi hj. p .small (n + i) j (omega arith) hj }
 
-module _ (d s poly : ℕ) (m : Mixing d s poly) (z own : List ℕ) where
+module _ (d s poly : ℕ) (m : Mixing d s poly) (z : ℕ) (own : List ℕ) where
   pub stepped-none : (g : Grid) → Small d (2 ^ s) g → length own ≡ 16 → ((i j : ℕ) → i < 8 → j < 8 → lane j (getD own i 0) ≡ at g i j)
       → Stepped d s poly z own 0 own
   stepped-none g h len e =
@@ -64,7 +64,7 @@ module _ (d s poly : ℕ) (m : Mixing d s poly) (z own : List ℕ) where
 
       same : (k j : ℕ) → k ≤ n → next d s poly z rows k j ≡ next d s poly z rows′ k j
       same k j h =
-          ap (dot (2 ^ s) poly (cells d z))
+          ap (dot (2 ^ s) poly (lanes d z))
           (tab-cong d (λ i. lane j (getD rows (k + i) 0)) (λ i. lane j (getD rows′ (k + i) 0)) (λ i hi. ap (lane j) (sym (other (k + i) (omega arith)))))
 
       made-last : (k j : ℕ) → j < d → k ≡ n → lane j (getD rows′ (k + d) 0) ≡ next d s poly z rows′ k j
@@ -77,7 +77,7 @@ module _ (d s poly : ℕ) (m : Mixing d s poly) (z own : List ℕ) where
       small-last : (i j : ℕ) → j < d → i ≡ n + d → lane j (getD rows′ i 0) < 2 ^ s
       small-last i j hj q =
           subst (λ (y : ℕ). y < 2 ^ s) (sym (ap (λ (k : ℕ). lane j (getD rows′ k 0)) q ∙ ap (lane j) last ∙ e j hj))
-          (dots-lt s poly (m .modulus .low) (m .modulus .high) d (λ k. getD z k 0) (λ k. lane j (getD rows (n + k) 0)) (λ k hk. p .small (n + k) j (omega arith) hj))
+          (dots-lt s poly (m .modulus .low) (m .modulus .high) d (λ k. lane k z) (λ k. lane j (getD rows (n + k) 0)) (λ k hk. p .small (n + k) j (omega arith) hj))
 
       small-before : (i j : ℕ) → j < d → i < n + d → lane j (getD rows′ i 0) < 2 ^ s
       small-before i j hj l = subst (λ (y : ℕ). lane j y < 2 ^ s) (sym (other i l)) (p .small i j l hj)
@@ -85,9 +85,9 @@ module _ (d s poly : ℕ) (m : Mixing d s poly) (z own : List ℕ) where
   pub stepped-all : (g r : Grid) (n : ℕ) (rows : List ℕ) → n ≡ d → Stepped d s poly z own n rows
       → ((i j : ℕ) → i < 8 → j < 8 → lane j (getD own i 0) ≡ at g i j)
       → ((i j : ℕ) → i < 8 → j < 8 → at r i j ≡ lane j (getD rows (d + i) 0))
-      → window d r ≡ mixColumns (2 ^ s) poly d (cells d z) (window d g)
+      → window d r ≡ mixColumns (2 ^ s) poly d (lanes d z) (window d g)
   stepped-all g r n rows q p e f =
-      mix-rows (2 ^ s) poly (cells d z) d g r (λ i j. lane j (getD rows i 0))
+      mix-rows (2 ^ s) poly (lanes d z) d g r (λ i j. lane j (getD rows i 0))
       (λ i j hi hj. ap (lane j) (p .first i hi) ∙ e i j (omega (arith, m .most)) (omega (arith, m .most)))
       (λ k j hk hj. p .made k j (omega arith) hj)
       (λ i j hi hj. f i j (omega (arith, m .most)) (omega (arith, m .most)))

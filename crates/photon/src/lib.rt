@@ -4,14 +4,15 @@ ghost use mathlib.Core.Path.{_≡_};
 ghost use mathlib.Core.Bool.{cond};
 ghost use mathlib.Core.List.{reverse};
 ghost use Prim.Native.Nat.{ℕ, _+_, _-_, _*_, _%_, _^_, _≤_, _<_};
-ghost use lib.ListN.{getD, length};
+ghost use lib.Bits.{bitXor};
+ghost use lib.ListN.{getD};
 ghost use lib.Dec.{eqb};
 ghost use Rattle.standard.specs.Rounds.{direction, inTurn};
 ghost use Rattle.standard.specs.Grid.{at, cells, window, Small};
 ghost use Rattle.standard.specs.Field.{double, dot, Modulus};
-ghost use Rattle.standard.specs.Photon.{addConstants, subCells, shiftRows, mixColumns, unmixColumns, roundConstants, photonRound, photonRounds};
-ghost use Rattle.photon.specs.Parameters.{photonOf, boxOf, boundOf, BoxNumber};
-ghost use Rattle.photon.specs.Rows.{lane, columnFrom, withoutLow, Mixing, Narrow, SmallRows};
+ghost use Rattle.standard.specs.Photon.{inFirst, addConstants, subCells, shiftRows, mixColumns, unmixColumns, roundConstants, photonRound, photonRounds};
+ghost use Rattle.photon.specs.Parameters.{photonOf};
+ghost use Rattle.photon.specs.Rows.{lane, lanes, columnFrom, oddSum, Mixing, NoneFrom, SmallRows};
 
 mod boxes; // boxes.rt: the S-boxes and their inverses
 
@@ -23,15 +24,7 @@ use boxes::UNPRESENT;
 // The tables below have an entry for each variant, 1 to 5. A row of fewer than eight cells is filled with zeros.
 const SIZE: [usize; 5] = [5, 6, 7, 8, 6];
 
-const BITS: [u8; 5] = [4, 4, 4, 4, 8];
-
 const TOP: [u16; 5] = [16, 16, 16, 16, 256];
-
-const POLY: [u16; 5] = [0x13, 0x13, 0x13, 0x13, 0x11b];
-
-const BOX: [u8; 5] = [0, 0, 0, 0, 2];
-
-const UNBOX: [u8; 5] = [1, 1, 1, 1, 3];
 
 const ROW: [[u8; 8]; 5] = [
     [0, 1, 3, 6, 4, 0, 0, 0],
@@ -41,21 +34,17 @@ const ROW: [[u8; 8]; 5] = [
     [0, 1, 3, 7, 6, 4, 0, 0],
 ];
 
-const Z: [[u8; 8]; 5] = [
-    [1, 2, 9, 9, 2, 0, 0, 0],
-    [1, 2, 8, 5, 8, 2, 0, 0],
-    [1, 4, 6, 1, 1, 6, 4, 0],
-    [2, 4, 2, 11, 2, 8, 5, 6],
-    [2, 3, 1, 2, 1, 4, 0, 0],
+// The coefficients Z of each variant, a byte for each in one number, the first lowest.
+const Z: [u64; 5] = [
+    0x02_09_09_02_01,
+    0x02_08_05_08_02_01,
+    0x04_06_01_01_06_04_01,
+    0x06_05_08_02_0b_02_04_02,
+    0x04_01_02_01_03_02,
 ];
 
-const UNZ: [[u8; 8]; 5] = [
-    [1, 2, 9, 9, 2, 0, 0, 0],
-    [1, 2, 8, 5, 8, 2, 0, 0],
-    [1, 4, 6, 1, 1, 6, 4, 0],
-    [9, 3, 11, 4, 1, 12, 1, 2],
-    [141, 2, 141, 1, 141, 140, 0, 0],
-];
+// Those of the inverses of variants 4 and 5. The inverses of the others have the same as forward.
+const UNZ: [u64; 2] = [0x02_01_0c_01_04_0b_03_09, 0x8c_8d_01_8d_02_8d];
 
 const CONSTANTS: [u8; 12] = [1, 3, 7, 14, 13, 11, 6, 12, 9, 2, 5, 10];
 
@@ -67,14 +56,6 @@ pub fn size_of(v: usize) -> usize
     SIZE[v - 1]
 }
 
-// The number of bits of a cell.
-fn bits_of(v: usize) -> u8
-    requires { ⌜ (1 ≤ v) × (v ≤ 5) ⌝ }
-    ensures { λ r. ⌜ r ≡ photonOf v .s ⌝ }
-{
-    BITS[v - 1]
-}
-
 // The bound of a cell: 2 to the number of its bits.
 pub fn top_of(v: usize) -> u16
     requires { ⌜ (1 ≤ v) × (v ≤ 5) ⌝ }
@@ -83,18 +64,34 @@ pub fn top_of(v: usize) -> u16
     TOP[v - 1]
 }
 
-fn poly_of(v: usize) -> u16
-    requires { ⌜ (1 ≤ v) × (v ≤ 5) ⌝ }
-    ensures { λ r. ⌜ r ≡ photonOf v .poly ⌝ }
+// The entries of a nibble's table, and zeros behind them: a table that any byte can index.
+fn widened(table: [u8; 16]) -> [u8; 256]
+    ensures { λ r. ⌜ ((k : ℕ) → getD r k 0 ≡ getD table k 0) ⌝ }
 {
-    POLY[v - 1]
+    let mut out = [0u8; 256];
+    let mut k = 0;
+    while k < 16 {
+        out[k] = table[k];
+        k += 1;
+    }
+    out
 }
 
-fn box_of(v: usize, back: bool) -> u8
+// The S-box of a variant, or its inverse.
+fn box_of(v: usize, back: bool) -> [u8; 256]
     requires { ⌜ (1 ≤ v) × (v ≤ 5) ⌝ }
-    ensures { λ r. ⌜ BoxNumber (photonOf v) back r ⌝ }
+    ensures { λ r. ⌜ ((k : ℕ) → getD r k 0 ≡ getD (cond back (photonOf v .unbox) (photonOf v .box)) k 0) ⌝ }
 {
-    if back { UNBOX[v - 1] } else { BOX[v - 1] }
+    if v == 5 {
+        if back {
+            return UNAES;
+        }
+        return AES;
+    }
+    if back {
+        return widened(UNPRESENT);
+    }
+    widened(PRESENT)
 }
 
 fn row_constants(v: usize) -> [u8; 8]
@@ -102,21 +99,6 @@ fn row_constants(v: usize) -> [u8; 8]
     ensures { λ r. ⌜ cells (photonOf v .d) r ≡ photonOf v .ic ⌝ }
 {
     ROW[v - 1]
-}
-
-fn coefficients(v: usize, back: bool) -> [u8; 8]
-    requires { ⌜ (1 ≤ v) × (v ≤ 5) ⌝ }
-    ensures { λ r. ⌜ cells (photonOf v .d) r ≡ cond back (photonOf v .unz) (photonOf v .z) ⌝ }
-{
-    if back { UNZ[v - 1] } else { Z[v - 1] }
-}
-
-// Whether a coefficient has more than four bits.
-fn wide_coefficients(v: usize, back: bool) -> bool
-    requires { ⌜ (1 ≤ v) × (v ≤ 5) ⌝ }
-    ensures { λ r. ⌜ Narrow (photonOf v .d) (cond back (photonOf v .unz) (photonOf v .z)) r ⌝ }
-{
-    back && v == 5
 }
 
 // The constant of round n: the inverse begins with the last.
@@ -137,14 +119,15 @@ fn wide(x: u8) -> usize
     x as usize
 }
 
-fn sub_row(table: &[u8], row: [u8; 8], d: usize) -> [u8; 8]
-    requires { ⌜ d ≤ 8 ⌝ }
-    requires { ⌜ ((j : ℕ) → j < d → getD row j 0 < length (now table)) ⌝ }
-    ensures { λ r. ⌜ ((j : ℕ) → j < d → getD r j 0 ≡ getD (now (table .entry)) (getD row j 0) 0) ⌝ }
+// The steps work on all eight rows and columns, whatever the size of the matrix: a loop of a fixed number of turns is compiled without a loop,
+// and the rows stay in registers.
+
+fn sub_row(table: &[u8; 256], row: [u8; 8]) -> [u8; 8]
+    ensures { λ r. ⌜ ((j : ℕ) → j < 8 → getD r j 0 ≡ getD (now (table .entry)) (getD row j 0) 0) ⌝ }
 {
     let mut out = row;
     let mut j = 0;
-    while j < d {
+    while j < 8 {
         let k = wide(out[j]);
         out[j] = table[k];
         j += 1;
@@ -152,46 +135,34 @@ fn sub_row(table: &[u8], row: [u8; 8], d: usize) -> [u8; 8]
     out
 }
 
-fn sub_rows(table: &[u8], g: [[u8; 8]; 8], d: usize) -> [[u8; 8]; 8]
-    requires { ⌜ d ≤ 8 ⌝ }
-    requires { ⌜ Small d (length (now table)) g ⌝ }
-    ensures { λ r. ⌜ window d r ≡ subCells d (now (table .entry)) (window d g) ⌝ }
+fn sub_rows(table: &[u8; 256], g: [[u8; 8]; 8]) -> [[u8; 8]; 8]
+    ensures { λ r. ⌜ ((i j : ℕ) → i < 8 → j < 8 → at r i j ≡ getD (now (table .entry)) (at g i j) 0) ⌝ }
 {
     let mut out = g;
     let mut i = 0;
-    while i < d {
-        out[i] = sub_row(table, out[i], d);
+    while i < 8 {
+        out[i] = sub_row(table, out[i]);
         i += 1;
     }
     out
 }
 
-// By an S-box of this number: 0 and 1 are the 4-bit box and its inverse, 2 and 3 the 8-bit box and its inverse.
-fn sub_cells(kind: u8, g: [[u8; 8]; 8], d: usize) -> [[u8; 8]; 8]
-    requires { ⌜ (d ≤ 8) × (kind < 4) ⌝ }
-    requires { ⌜ Small d (boundOf kind) g ⌝ }
-    ensures { λ r. ⌜ window d r ≡ subCells d (boxOf kind) (window d g) ⌝ }
+// A row with x added to its first cell.
+fn with_first(row: [u8; 8], x: u8) -> [u8; 8]
+    ensures { λ r. ⌜ ((j : ℕ) → j < 8 → getD r j 0 ≡ inFirst j (bitXor (getD row 0 0) x) (getD row j 0)) ⌝ }
 {
-    if kind == 0 {
-        return sub_rows(&PRESENT, g, d);
-    }
-    if kind == 1 {
-        return sub_rows(&UNPRESENT, g, d);
-    }
-    if kind == 2 {
-        return sub_rows(&AES, g, d);
-    }
-    sub_rows(&UNAES, g, d)
+    let cells = packed(row);
+    let first = wide64(x);
+    unpacked(cells ^ first)
 }
 
-fn add_constants(g: [[u8; 8]; 8], d: usize, rc: u8, ic: [u8; 8]) -> [[u8; 8]; 8]
-    requires { ⌜ d ≤ 8 ⌝ }
-    ensures { λ r. ⌜ window d r ≡ addConstants d rc (cells d ic) (window d g) ⌝ }
+fn add_constants(g: [[u8; 8]; 8], rc: u8, ic: [u8; 8]) -> [[u8; 8]; 8]
+    ensures { λ r. ⌜ ((i j : ℕ) → i < 8 → j < 8 → at r i j ≡ inFirst j (bitXor (at g i 0) (bitXor rc (getD ic i 0))) (at g i j)) ⌝ }
 {
     let mut out = g;
     let mut i = 0;
-    while i < d {
-        out[i][0] = out[i][0] ^ (rc ^ ic[i]);
+    while i < 8 {
+        out[i] = with_first(out[i], rc ^ ic[i]);
         i += 1;
     }
     out
@@ -256,22 +227,25 @@ fn turn_row(row: [u8; 8], d: usize, by: usize) -> [u8; 8]
     unpacked(y)
 }
 
-// By how many places row i turns: the inverse turns on to where the row began.
+// By how many places row i turns: the inverse turns on to where the row began. A row past the matrix turns by one, and nothing reads it.
 fn turn_of(d: usize, i: usize, back: bool) -> usize
-    requires { ⌜ i ≤ d ⌝ }
-    ensures { λ r. ⌜ r ≡ cond back (d - i) i ⌝ }
+    requires { ⌜ (2 ≤ d) × (0 < i) ⌝ }
+    ensures { λ r. ⌜ ((0 < r) × (r < d)) × (i < d → r ≡ cond back (d - i) i) ⌝ }
 {
+    if d <= i {
+        return 1;
+    }
     if back { d - i } else { i }
 }
 
 // Row 0 stays as it is.
 fn shift_rows(g: [[u8; 8]; 8], d: usize, back: bool) -> [[u8; 8]; 8]
-    requires { ⌜ (0 < d) × (d ≤ 8) ⌝ }
+    requires { ⌜ (2 ≤ d) × (d ≤ 8) ⌝ }
     ensures { λ r. ⌜ window d r ≡ shiftRows d (cond back (d - 1) 1) (window d g) ⌝ }
 {
     let mut out = g;
     let mut i = 1;
-    while i < d {
+    while i < 8 {
         let by = turn_of(d, i, back);
         out[i] = turn_row(out[i], d, by);
         i += 1;
@@ -296,67 +270,45 @@ fn doubled(x: u64, s: u8, poly: u16) -> u64
     ((x & 0x7f7f7f7f7f7f7f7f) * 2) ^ (over * reduction(poly))
 }
 
-// x where the lowest bit of a is set, and else 0.
-fn low_bit(a: u8, x: u64) -> u64
+// x where a is odd, and else 0.
+fn low_bit(a: u64, x: u64) -> u64
     ensures { λ r. ⌜ r ≡ cond (eqb (a % 2) 1) x 0 ⌝ }
 {
     if a % 2 == 1 { x } else { 0 }
 }
 
-// The sum of coefficient times row, over the d rows from row n on, with the b lowest bits of each coefficient left out.
-// `high` is that sum with four bits more left out. For each of the four the rows whose coefficient has that bit are summed;
-// from the highest bit down, what there is is doubled and the bit's sum added.
-fn nibble_sum(
-    rows: &[u64; 16],
-    n: usize,
-    d: usize,
-    s: u8,
-    poly: u16,
-    z: [u8; 8],
-    b: u8,
-    high: u64,
-) -> u64
-    requires { ⌜ Mixing d s poly ⌝ }
-    requires { ⌜ (n ≤ 8) × (b < 8) ⌝ }
-    requires { ⌜ SmallRows d (2 ^ s) (now rows) n ⌝ }
-    requires { ⌜ ((j : ℕ) → j < d → lane j high ≡ dot (2 ^ s) poly (withoutLow d (b + 4) z) (columnFrom d (now rows) n j)) ⌝ }
-    ensures { λ r. ⌜ ((j : ℕ) → j < d → lane j r ≡ dot (2 ^ s) poly (withoutLow d b z) (columnFrom d (now (rows .entry)) n j)) ⌝ }
+// The sum of those of the eight rows from row n on whose cell of y is odd.
+fn bit_sum(rows: &[u64; 16], n: usize, y: u64) -> u64
+    requires { ⌜ n ≤ 8 ⌝ }
+    ensures { λ r. ⌜ r ≡ oddSum (λ i. lane i y) (λ i. getD (now (rows .entry)) (n + i) 0) 8 ⌝ }
 {
-    let mut s0: u64 = 0;
-    let mut s1: u64 = 0;
-    let mut s2: u64 = 0;
-    let mut s3: u64 = 0;
+    let mut sum: u64 = 0;
+    let mut rest = y;
     let mut i = 0;
-    while i < d {
-        let c0 = z[i] >> b;
-        let c1 = c0 / 2;
-        let c2 = c1 / 2;
-        let c3 = c2 / 2;
-        let row = rows[n + i];
-        s0 = s0 ^ low_bit(c0, row);
-        s1 = s1 ^ low_bit(c1, row);
-        s2 = s2 ^ low_bit(c2, row);
-        s3 = s3 ^ low_bit(c3, row);
+    while i < 8 {
+        sum = sum ^ low_bit(rest, rows[n + i]);
+        rest = rest / 256;
         i += 1;
     }
-    let t3 = s3 ^ doubled(high, s, poly);
-    let t2 = s2 ^ doubled(t3, s, poly);
-    let t1 = s1 ^ doubled(t2, s, poly);
-    s0 ^ doubled(t1, s, poly)
+    sum
 }
 
-// The sum of coefficient times row, over the d rows from row n on. `wide` says that some coefficient has more than four bits.
-fn row_sum(rows: &[u64; 16], n: usize, d: usize, s: u8, poly: u16, z: [u8; 8], wide: bool) -> u64
-    requires { ⌜ Mixing d s poly ⌝ }
-    requires { ⌜ (n ≤ 8) × Narrow d z wide ⌝ }
-    requires { ⌜ SmallRows d (2 ^ s) (now rows) n ⌝ }
-    ensures { λ r. ⌜ ((j : ℕ) → j < d → lane j r ≡ dot (2 ^ s) poly (cells d z) (columnFrom d (now (rows .entry)) n j)) ⌝ }
+// The sum of coefficient times row, over the rows from row n on, as many as there are coefficients. From the highest bit of the coefficients
+// down, what there is is doubled and the rows whose coefficient has the bit are added.
+fn row_sum(rows: &[u64; 16], n: usize, s: u8, poly: u16, z: u64) -> u64
+    requires { ⌜ (n ≤ 8) × ((1 ≤ s) × (s ≤ 8)) ⌝ }
+    requires { ⌜ Modulus (2 ^ s) poly ⌝ }
+    ensures { λ r. ⌜ ((d j : ℕ) → Mixing d s poly → NoneFrom d z → SmallRows d (2 ^ s) (now (rows .entry)) n → j < d
+        → lane j r ≡ dot (2 ^ s) poly (lanes d z) (columnFrom d (now (rows .entry)) n j)) ⌝ }
 {
-    if wide {
-        let high = nibble_sum(rows, n, d, s, poly, z, 4, 0);
-        return nibble_sum(rows, n, d, s, poly, z, 0, high);
+    let mut sum: u64 = 0;
+    let mut b: u8 = 8;
+    while 0 < b {
+        b -= 1;
+        let twice = doubled(sum, s, poly);
+        sum = bit_sum(rows, n, z >> b) ^ twice;
     }
-    nibble_sum(rows, n, d, s, poly, z, 0, 0)
+    sum
 }
 
 fn packed_rows(g: [[u8; 8]; 8]) -> [u64; 16]
@@ -401,19 +353,56 @@ fn flipped(g: [[u8; 8]; 8], d: usize) -> [[u8; 8]; 8]
 }
 
 // Behind the d rows of the matrix stand those of the steps: each step moves the rows up by one, so its last row is the only new one.
-fn mix_columns(g: [[u8; 8]; 8], d: usize, s: u8, poly: u16, z: [u8; 8], wide: bool) -> [[u8; 8]; 8]
+fn mix_columns(g: [[u8; 8]; 8], d: usize, s: u8, poly: u16, z: u64) -> [[u8; 8]; 8]
     requires { ⌜ Mixing d s poly ⌝ }
-    requires { ⌜ Narrow d z wide ⌝ }
+    requires { ⌜ NoneFrom d z ⌝ }
     requires { ⌜ Small d (2 ^ s) g ⌝ }
-    ensures { λ r. ⌜ window d r ≡ mixColumns (2 ^ s) poly d (cells d z) (window d g) ⌝ }
+    ensures { λ r. ⌜ window d r ≡ mixColumns (2 ^ s) poly d (lanes d z) (window d g) ⌝ }
 {
     let mut rows = packed_rows(g);
     let mut n = 0;
     while n < d {
-        rows[n + d] = row_sum(&rows, n, d, s, poly, z, wide);
+        rows[n + d] = row_sum(&rows, n, s, poly, z);
         n += 1;
     }
     unpacked_rows(rows, d)
+}
+
+// The numbers of its variant stand in each call: the mixing is then compiled for each variant, and nothing is left of the bits that its
+// coefficients do not have.
+fn mixed(v: usize, g: [[u8; 8]; 8]) -> [[u8; 8]; 8]
+    requires { ⌜ (1 ≤ v) × (v ≤ 5) ⌝ }
+    requires { ⌜ Small (photonOf v .d) (2 ^ photonOf v .s) g ⌝ }
+    ensures { λ r. ⌜ window (photonOf v .d) r ≡ mixColumns (2 ^ photonOf v .s) (photonOf v .poly) (photonOf v .d) (photonOf v .z) (window (photonOf v .d) g) ⌝ }
+{
+    if v == 1 {
+        return mix_columns(g, 5, 4, 0x13, Z[0]);
+    }
+    if v == 2 {
+        return mix_columns(g, 6, 4, 0x13, Z[1]);
+    }
+    if v == 3 {
+        return mix_columns(g, 7, 4, 0x13, Z[2]);
+    }
+    if v == 4 {
+        return mix_columns(g, 8, 4, 0x13, Z[3]);
+    }
+    mix_columns(g, 6, 8, 0x11b, Z[4])
+}
+
+// The same with the coefficients of the inverse.
+fn mixed_back(v: usize, g: [[u8; 8]; 8]) -> [[u8; 8]; 8]
+    requires { ⌜ (1 ≤ v) × (v ≤ 5) ⌝ }
+    requires { ⌜ Small (photonOf v .d) (2 ^ photonOf v .s) g ⌝ }
+    ensures { λ r. ⌜ window (photonOf v .d) r ≡ mixColumns (2 ^ photonOf v .s) (photonOf v .poly) (photonOf v .d) (photonOf v .unz) (window (photonOf v .d) g) ⌝ }
+{
+    if v <= 3 {
+        return mixed(v, g);
+    }
+    if v == 4 {
+        return mix_columns(g, 8, 4, 0x13, UNZ[0]);
+    }
+    mix_columns(g, 6, 8, 0x11b, UNZ[1])
 }
 
 // AddConstants of a variant.
@@ -421,9 +410,8 @@ pub fn constants_added(v: usize, g: [[u8; 8]; 8], rc: u8) -> [[u8; 8]; 8]
     requires { ⌜ (1 ≤ v) × (v ≤ 5) ⌝ }
     ensures { λ r. ⌜ window (photonOf v .d) r ≡ addConstants (photonOf v .d) rc (photonOf v .ic) (window (photonOf v .d) g) ⌝ }
 {
-    let d = size_of(v);
     let ic = row_constants(v);
-    add_constants(g, d, rc, ic)
+    add_constants(g, rc, ic)
 }
 
 // SubCells of a variant, or its inverse.
@@ -432,9 +420,8 @@ pub fn cells_substituted(v: usize, g: [[u8; 8]; 8], back: bool) -> [[u8; 8]; 8]
     requires { ⌜ Small (photonOf v .d) (2 ^ photonOf v .s) g ⌝ }
     ensures { λ r. ⌜ window (photonOf v .d) r ≡ subCells (photonOf v .d) (cond back (photonOf v .unbox) (photonOf v .box)) (window (photonOf v .d) g) ⌝ }
 {
-    let d = size_of(v);
-    let kind = box_of(v, back);
-    sub_cells(kind, g, d)
+    let table = box_of(v, back);
+    sub_rows(&table, g)
 }
 
 // ShiftRows of a variant, or its inverse.
@@ -452,11 +439,10 @@ pub fn columns_mixed(v: usize, g: [[u8; 8]; 8], back: bool) -> [[u8; 8]; 8]
     requires { ⌜ Small (photonOf v .d) (2 ^ photonOf v .s) g ⌝ }
     ensures { λ r. ⌜ window (photonOf v .d) r ≡ mixColumns (2 ^ photonOf v .s) (photonOf v .poly) (photonOf v .d) (cond back (photonOf v .unz) (photonOf v .z)) (window (photonOf v .d) g) ⌝ }
 {
-    let d = size_of(v);
-    let s = bits_of(v);
-    let poly = poly_of(v);
-    let z = coefficients(v, back);
-    mix_columns(g, d, s, poly, z, wide_coefficients(v, back))
+    if back {
+        return mixed_back(v, g);
+    }
+    mixed(v, g)
 }
 
 // The inverse of MixColumnsSerial: the same on the rows from the bottom up, with its own coefficients.
@@ -471,6 +457,36 @@ pub fn columns_unmixed(v: usize, g: [[u8; 8]; 8]) -> [[u8; 8]; 8]
     flipped(m, d)
 }
 
+// A round of a variant with its size, row constants and S-box looked up, or that round taken back.
+fn round_with(
+    v: usize,
+    d: usize,
+    ic: [u8; 8],
+    table: &[u8; 256],
+    g: [[u8; 8]; 8],
+    rc: u8,
+    back: bool,
+) -> [[u8; 8]; 8]
+    requires { ⌜ (1 ≤ v) × (v ≤ 5) ⌝ }
+    requires { ⌜ d ≡ photonOf v .d ⌝ }
+    requires { ⌜ cells (photonOf v .d) ic ≡ photonOf v .ic ⌝ }
+    requires { ⌜ ((k : ℕ) → getD (now table) k 0 ≡ getD (cond back (photonOf v .unbox) (photonOf v .box)) k 0) ⌝ }
+    requires { ⌜ Small (photonOf v .d) (2 ^ photonOf v .s) g ⌝ }
+    requires { ⌜ rc < 16 ⌝ }
+    ensures { λ r. ⌜ window (photonOf v .d) r ≡ photonRound (photonOf v) (direction back) (window (photonOf v .d) g) rc ⌝ }
+{
+    if back {
+        let m = columns_unmixed(v, g);
+        let s = shift_rows(m, d, true);
+        let b = sub_rows(table, s);
+        return add_constants(b, rc, ic);
+    }
+    let a = add_constants(g, rc, ic);
+    let b = sub_rows(table, a);
+    let s = shift_rows(b, d, false);
+    columns_mixed(v, s, false)
+}
+
 // One round of a variant, or that round taken back.
 pub fn round_of(v: usize, g: [[u8; 8]; 8], rc: u8, back: bool) -> [[u8; 8]; 8]
     requires { ⌜ (1 ≤ v) × (v ≤ 5) ⌝ }
@@ -478,16 +494,10 @@ pub fn round_of(v: usize, g: [[u8; 8]; 8], rc: u8, back: bool) -> [[u8; 8]; 8]
     requires { ⌜ rc < 16 ⌝ }
     ensures { λ r. ⌜ window (photonOf v .d) r ≡ photonRound (photonOf v) (direction back) (window (photonOf v .d) g) rc ⌝ }
 {
-    if back {
-        let m = columns_unmixed(v, g);
-        let s = rows_shifted(v, m, true);
-        let b = cells_substituted(v, s, true);
-        return constants_added(v, b, rc);
-    }
-    let a = constants_added(v, g, rc);
-    let b = cells_substituted(v, a, false);
-    let s = rows_shifted(v, b, false);
-    columns_mixed(v, s, false)
+    let d = size_of(v);
+    let ic = row_constants(v);
+    let table = box_of(v, back);
+    round_with(v, d, ic, &table, g, rc, back)
 }
 
 // The twelve rounds of a variant, or all of them taken back.
@@ -496,11 +506,14 @@ pub fn permuted(v: usize, g: [[u8; 8]; 8], back: bool) -> [[u8; 8]; 8]
     requires { ⌜ Small (photonOf v .d) (2 ^ photonOf v .s) g ⌝ }
     ensures { λ r. ⌜ window (photonOf v .d) r ≡ photonRounds (photonOf v) (direction back) (window (photonOf v .d) g) ⌝ }
 {
+    let d = size_of(v);
+    let ic = row_constants(v);
+    let table = box_of(v, back);
     let mut out = g;
     let mut n = 0;
     while n < 12 {
         let rc = round_constant(n, back);
-        let next = round_of(v, out, rc, back);
+        let next = round_with(v, d, ic, &table, out, rc, back);
         out = next;
         n += 1;
     }

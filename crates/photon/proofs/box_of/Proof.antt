@@ -1,39 +1,47 @@
--- `photon::box_of` meets its contract: its tables hold the number of each variant's S-box, and of the inverse.
+-- `photon::box_of` meets its contract: variant 5 has the 8-bit box, and the others the 4-bit box.
 -- Assumes nothing.
-use mathlib.Core.Path.{sym, subst}
-use mathlib.Core.Bool.{Bool, true, false}
-use Prim.Native.Nat.{_-_}
+use mathlib.Core.Path.{sym, ap, _∙_}
+use mathlib.Core.Bool.{Bool, cond}
+use mathlib.Core.List.{List}
+use Prim.Native.Nat.{ℕ}
 use native.Mathlib.Omega.{arith}
 use lib.ListN.{getD}
 use borrow.Author.Needs.{needs}
-use Rattle.photon.specs.Parameters.{photonOf, BoxNumber}
-use Rattle.photon.proofs.ParametersOf.{numbers, number-of-box}
+use Rattle.standard.specs.Photon.{present, unpresent, aes, unaes}
+use Rattle.photon.proofs.ParametersOf.{aes-of, present-of}
 use Rattle.photon.proofs.box_of.Statement.{statement}
 use Rattle.photon.proofs.box_of.Tie as tie
 
-sub-result : tie.Need-sub-result
-sub-result c = search needs
-
-array-read-result : tie.Need-array-read-result
-array-read-result c = search needs
-
-sub-result-2 : tie.Need-sub-result-2
-sub-result-2 c = search needs
-
-array-read-result-2 : tie.Need-array-read-result-2
-array-read-result-2 c = search needs
-
 returns : tie.Need-returns
-returns c =
-    let v = c .before .args .v in
-    subst (λ (b : Bool). BoxNumber (photonOf v) b (getD (numbers true) (v - 1) 0)) (sym (c .if1 .taken)) (number-of-box true v (omega arith) (omega arith))
+unfolding unaes
+returns c = λ k.
+    let a = c .before .before .args in
+    ap (λ (l : List ℕ). getD l k 0) (sym (aes-of (a .v) (c .before .if1 .taken) (a .back) ∙ ap (λ (b : Bool). cond b unaes aes) (c .if2 .taken)))
 
 returns-2 : tie.Need-returns-2
-returns-2 c =
-    let v = c .before .args .v in
-    subst (λ (b : Bool). BoxNumber (photonOf v) b (getD (numbers false) (v - 1) 0)) (sym (c .if1 .left)) (number-of-box false v (omega arith) (omega arith))
+unfolding aes
+returns-2 c = λ k.
+    let a = c .before .before .args in
+    ap (λ (l : List ℕ). getD l k 0) (sym (aes-of (a .v) (c .before .if1 .taken) (a .back) ∙ ap (λ (b : Bool). cond b unaes aes) (c .if2 .left)))
+
+widened-requires : tie.Need-widened-requires
+widened-requires c κs = search needs
+
+returns-3 : tie.Need-returns-3
+returns-3 c = λ k.
+    let a = c .before .before .before .args in
+    c .widened .ensures k
+    ∙ ap (λ (l : List ℕ). getD l k 0) (sym (present-of (a .v) (omega arith) (omega arith) (a .back) ∙ ap (λ (b : Bool). cond b unpresent present) (c .before .if3 .taken)))
+
+widened-requires-2 : tie.Need-widened-requires-2
+widened-requires-2 c κs = search needs
+
+returns-4 : tie.Need-returns-4
+returns-4 c = λ k.
+    let a = c .before .before .before .args in
+    c .widened2 .ensures k
+    ∙ ap (λ (l : List ℕ). getD l k 0) (sym (present-of (a .v) (omega arith) (omega arith) (a .back) ∙ ap (λ (b : Bool). cond b unpresent present) (c .before .if3 .left)))
 
 pub box-of-spec : {M : Type 1} → statement M
 box-of-spec =
-    tie.close
-    (tie.spec sub-result array-read-result sub-result-2 array-read-result-2 returns returns-2)
+    tie.close (tie.spec returns returns-2 widened-requires returns-3 widened-requires-2 returns-4)

@@ -1,55 +1,34 @@
 -- `photon::columns_mixed` meets its contract.
 -- Assumes nothing.
-use Prim.Native.Nat.{_-_}
+use mathlib.Core.Path.{sym, ap, _∙_}
+use mathlib.Core.Bool.{Bool, cond}
+use Prim.Native.Nat.{_^_}
 use borrow.Author.Needs.{needs}
+use Rattle.standard.specs.Grid.{window}
+use Rattle.standard.specs.Photon.{mixColumns}
 use Rattle.photon.specs.Parameters.{photonOf}
-use Rattle.photon.proofs.ParametersOf.{sound}
-use Rattle.photon.proofs.StepsOf.{mix-at, mix-ready}
 use Rattle.photon.proofs.columns_mixed.Statement.{statement}
 use Rattle.photon.proofs.columns_mixed.Tie as tie
 
-size-of-requires : tie.Need-size-of-requires
-size-of-requires c κs = search needs
-
-bits-of-requires : tie.Need-bits-of-requires
-bits-of-requires c κs = search needs
-
-poly-of-requires : tie.Need-poly-of-requires
-poly-of-requires c κs = search needs
-
-coefficients-requires : tie.Need-coefficients-requires
-coefficients-requires c κs = search needs
-
-wide-coefficients-requires : tie.Need-wide-coefficients-requires
-wide-coefficients-requires c κs = search needs
-
-mix-columns-requires : tie.Need-mix-columns-requires
-mix-columns-requires c κs =
-    let z = c .before in
-    let b = z .before .before in
-    let n = b .before in
-    let s = n .before in
-    mix-ready (photonOf (s .args .v)) (sound (s .args .v) (s .pre .0 .0) (s .pre .0 .1)) (n .size-of .result) (n .size-of .ensures)
-    (b .bits-of .result) (z .before .poly-of .result) (s .args .g) (z .coefficients .result) _ (c .wide-coefficients .result)
-    (b .bits-of .ensures) (z .before .poly-of .ensures) (z .coefficients .ensures) (c .wide-coefficients .ensures) (s .pre .1)
+mixed-back-requires : tie.Need-mixed-back-requires
+mixed-back-requires c κs = search needs
 
 returns : tie.Need-returns
 returns c =
-    let z = c .before .before in
-    let b = z .before .before in
-    let n = b .before in
-    let s = n .before in
-    mix-at (photonOf (s .args .v)) (n .size-of .result) (n .size-of .ensures) (s .args .g) (c .mix-columns .result)
-    (b .bits-of .result) (z .before .poly-of .result) (z .coefficients .result) _ (b .bits-of .ensures) (z .before .poly-of .ensures) (z .coefficients .ensures) (c .mix-columns .ensures)
+    let a = c .before .before .args in
+    let p = photonOf (a .v) in
+    c .mixed-back .ensures
+    ∙ ap (λ (b : Bool). mixColumns (2 ^ p .s) (p .poly) (p .d) (cond b (p .unz) (p .z)) (window (p .d) (a .g))) (sym (c .before .if1 .taken))
+
+mixed-requires : tie.Need-mixed-requires
+mixed-requires c κs = search needs
+
+returns-2 : tie.Need-returns-2
+returns-2 c =
+    let a = c .before .before .args in
+    let p = photonOf (a .v) in
+    c .mixed .ensures
+    ∙ ap (λ (b : Bool). mixColumns (2 ^ p .s) (p .poly) (p .d) (cond b (p .unz) (p .z)) (window (p .d) (a .g))) (sym (c .before .if1 .left))
 
 pub columns-mixed-spec : {M : Type 1} → statement M
-columns-mixed-spec =
-    tie.close
-    (tie.spec
-    size-of-requires
-    bits-of-requires
-    poly-of-requires
-    coefficients-requires
-    wide-coefficients-requires
-    mix-columns-requires
-    returns)
+columns-mixed-spec = tie.close (tie.spec mixed-back-requires returns mixed-requires returns-2)

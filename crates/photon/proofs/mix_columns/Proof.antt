@@ -7,10 +7,10 @@ use Rattle.photon.proofs.mix_columns.Statement.{statement}
 use Rattle.photon.proofs.mix_columns.Tie as tie
 
 abbrev Inv-loop : tie.InvT-loop
-Inv-loop d s poly z wide rows₀ n₀ rows n = (n ≤ d) × Stepped d s poly z rows₀ n rows
+Inv-loop d s poly z rows₀ n₀ rows n = (n ≤ d) × Stepped d s poly z rows₀ n rows
 
 abbrev μ-loop : tie.MeasureT-loop
-μ-loop d s poly z wide rows₀ n₀ rows n = d - n
+μ-loop d s poly z rows₀ n₀ rows n = d - n
 
 packed-rows-requires : tie.Need-packed-rows-requires Inv-loop μ-loop
 packed-rows-requires c κs = tt
@@ -25,7 +25,8 @@ row-sum-requires : tie.Need-row-sum-requires Inv-loop μ-loop
 row-sum-requires c κs =
     let s = c .before .before .before .before in
     let l = c .before .before .loop in
-    (s .pre .0, ((omega (arith, s .pre .0 .most), s .pre .1 .0), stepped-small _ _ _ _ _ (l .n) (l .rows) (l .inv .1)))
+    let m = s .pre .0 in
+    ((omega (arith, m .most), (m .bits, m .byte)), m .modulus)
 
 add-rows : tie.Need-add-rows Inv-loop μ-loop
 add-rows c = omega (arith, c .before .before .before .before .before .pre .0 .most)
@@ -46,8 +47,11 @@ loop-again : tie.Need-loop-again Inv-loop μ-loop
 loop-again c =
     let s = c .before .before .before .before .before in
     let a = s .args in
-    let l = c .before .before .before .loop in
-    (omega arith, stepped-more (a .d) (a .s) (a .poly) (s .pre .0) (a .z) _ (l .n) (l .rows) (c .row-sum .result) (omega arith) (c .row-sum .ensures) (l .inv .1))
+    let l = c .before .before .before .loop in (
+      omega arith,
+      stepped-more (a .d) (a .s) (a .poly) (s .pre .0) (a .z) _ (l .n) (l .rows) (c .row-sum .result) (omega arith)
+          (λ j hj. c .row-sum .ensures (a .d) j (s .pre .0) (s .pre .1 .0) (stepped-small _ _ _ _ _ (l .n) (l .rows) (l .inv .1)) hj) (l .inv .1),
+    )
 
 unpacked-rows-requires : tie.Need-unpacked-rows-requires Inv-loop μ-loop
 unpacked-rows-requires c κs = c .before .before .before .pre .0 .most

@@ -4,7 +4,7 @@ use Prim.Native.Nat.{_-_}
 use native.Mathlib.Omega.{arith}
 use borrow.Author.Needs.{needs}
 use Rattle.photon.specs.Parameters.{photonOf}
-use Rattle.photon.proofs.ParametersOf.{sound}
+use Rattle.photon.proofs.ParametersOf.{sound, two-or-more}
 use Rattle.photon.proofs.StepsOf.{shift-at, size-fits}
 use Rattle.photon.proofs.rows_shifted.Statement.{statement}
 use Rattle.photon.proofs.rows_shifted.Tie as tie
@@ -16,7 +16,7 @@ shift-rows-requires : tie.Need-shift-rows-requires
 shift-rows-requires c κs =
     let s = c .before in
     let h = sound (s .args .v) (s .pre .0) (s .pre .1) in
-    (omega (arith, c .size-of .ensures, h .pos), size-fits (photonOf (s .args .v)) h (c .size-of .result) (c .size-of .ensures))
+    (omega (arith, c .size-of .ensures, two-or-more (s .args .v) (s .pre .0) (s .pre .1)), size-fits (photonOf (s .args .v)) h (c .size-of .result) (c .size-of .ensures))
 
 returns : tie.Need-returns
 returns c =

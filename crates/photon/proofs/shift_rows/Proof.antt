@@ -1,4 +1,4 @@
--- `photon::shift_rows` meets its contract: before turn i of the loop the rows above row i are turned. A turn by d - i places is one by (d - 1) * i.
+-- `photon::shift_rows` meets its contract: before turn i of the loop the rows above row i are turned. A turn by d - i places is one by (d - 1) * i. Rows past the matrix do not count.
 -- Assumes nothing.
 use mathlib.Core.Path.{_≡_, refl, sym, ap, ap₂, _∙_, subst}
 use mathlib.Core.Bool.{Bool, true, false, cond}
@@ -34,34 +34,30 @@ same-turn (suc e) true (suc i) j p h =
     less : suc e - 1 ≡ e
     less = omega arith
 
-turns-between : (d : ℕ) (back : Bool) (i : ℕ) → 0 < i → i < d → (0 < places d back i) × (places d back i < d)
-turns-between d true i p h = (omega arith, omega arith)
-turns-between d false i p h = (p, h)
-
 abbrev Turned : ℕ → Bool → Grid → ℕ → List ℕ → Type 0
-Turned d back g k row = (j : ℕ) → j < d → getD row j 0 ≡ at g k ((j + factor d back * k) % d)
+Turned d back g k row = k < d → (j : ℕ) → j < d → getD row j 0 ≡ at g k ((j + factor d back * k) % d)
 
 first-row : (d : ℕ) (back : Bool) (g : Grid) → length g ≡ 8 → Upto [] (Turned d back g) 8 1 g g
 first-row d back g len =
     record {
       len = len;
-      done = λ k l j hj.
+      done = λ k l hk j hj.
           let still : (j + factor d back * 0) % d ≡ j = ap (λ (m : ℕ). (j + m) % d) (mul-zero (factor d back)) ∙ ap (λ (m : ℕ). m % d) (add-zero j) ∙ mod-eq-of-lt hj in
           subst (λ (n : ℕ). at g n j ≡ at g n ((j + factor d back * n) % d)) (sym (lt-one l)) (ap (λ (m : ℕ). at g 0 m) (sym still));
       rest = λ k l. refl;
     }
 
 abbrev Inv-loop : tie.InvT-loop
-Inv-loop d back out₀ i₀ out i = (1 ≤ i) × ((i ≤ d) × Upto [] (Turned d back out₀) 8 i out₀ out)
+Inv-loop d back out₀ i₀ out i = (1 ≤ i) × ((i ≤ 8) × Upto [] (Turned d back out₀) 8 i out₀ out)
 
 abbrev μ-loop : tie.MeasureT-loop
-μ-loop d back out₀ i₀ out i = d - i
+μ-loop d back out₀ i₀ out i = 8 - i
 
 loop-holds : tie.Need-loop-holds Inv-loop μ-loop
 loop-holds c = (omega arith, (omega arith, first-row (c .args .d) (c .args .back) (c .args .g) (c .good .0 .1 .0 .1)))
 
 turn-of-requires : tie.Need-turn-of-requires Inv-loop μ-loop
-turn-of-requires c κs = omega arith
+turn-of-requires c κs = (omega arith, omega arith)
 
 mul-turn-row : tie.Need-mul-turn-row Inv-loop μ-loop
 mul-turn-row c = omega arith
@@ -70,12 +66,7 @@ array-copy-out-turn-row : tie.Need-array-copy-out-turn-row Inv-loop μ-loop
 array-copy-out-turn-row c = omega arith
 
 turn-row-requires : tie.Need-turn-row-requires Inv-loop μ-loop
-turn-row-requires c κs =
-    let l = c .before .before .before .loop in
-    let s = c .before .before .before .before in (
-      subst (λ (k : ℕ). (0 < k) × (k < s .args .d)) (sym (c .before .turn-of .ensures)) (turns-between (s .args .d) (s .args .back) (l .i) (omega arith) (omega arith)),
-      omega arith,
-    )
+turn-row-requires c κs = (c .before .turn-of .ensures .0, omega arith)
 
 mul-out : tie.Need-mul-out Inv-loop μ-loop
 mul-out c = omega arith
@@ -98,9 +89,9 @@ loop-again c =
       (
         omega arith,
         upto-more (l .i) _ (l .out) (c .turn-row .result) (omega arith)
-            (λ j h. c .turn-row .ensures j h
-            ∙ ap₂ (λ (r : List ℕ) (k : ℕ). getD r ((j + k) % a .d) 0) (l .inv .1 .1 .rest (l .i) (omega arith)) (by .ensures)
-            ∙ ap (at (a .g) (l .i)) (same-turn (a .d) (a .back) (l .i) j (omega arith) (omega arith)))
+            (λ hi j h. c .turn-row .ensures j h
+            ∙ ap₂ (λ (r : List ℕ) (k : ℕ). getD r ((j + k) % a .d) 0) (l .inv .1 .1 .rest (l .i) (omega arith)) (by .ensures .1 hi)
+            ∙ ap (at (a .g) (l .i)) (same-turn (a .d) (a .back) (l .i) j (omega arith) hi))
             (l .inv .1 .1),
       ),
     )
@@ -110,7 +101,7 @@ unfolding shiftRows
 returns c =
     let a = c .before .before .args in
     window-is (a .d) _ _
-    (λ i j hi hj. c .before .loop .inv .1 .1 .done i (omega arith) j hj
+    (λ i j hi hj. c .before .loop .inv .1 .1 .done i (omega arith) hi j hj
     ∙ sym (at-window (a .d) (a .g) i ((j + factor (a .d) (a .back) * i) % a .d) hi (mod-lt (j + factor (a .d) (a .back) * i) (omega arith))))
 
 pub shift-rows-spec : {M : Type 1} → statement M

@@ -3,19 +3,20 @@
 use mathlib.Core.Path.{_≡_, sym, ap, _∙_, subst}
 use Prim.Native.Nat.{ℕ, _-_, _≤_, _<_}
 use native.Mathlib.Omega.{arith}
-use lib.ListN.{getD, length}
+use lib.ListN.{getD}
+use Rattle.arrays.proofs.Elements.{bytes-lt}
 use Rattle.arrays.proofs.Upto.{Upto, upto-none, upto-more}
 use Rattle.photon.proofs.sub_row.Statement.{statement}
 use Rattle.photon.proofs.sub_row.Tie as tie
 
 abbrev Inv-loop : tie.InvT-loop
-Inv-loop table d out₀ j₀ out j = (j ≤ d) × Upto 0 (λ k x. x ≡ getD table (getD out₀ k 0) 0) 8 j out₀ out
+Inv-loop table out₀ j₀ out j = (j ≤ 8) × Upto 0 (λ k x. x ≡ getD table (getD out₀ k 0) 0) 8 j out₀ out
 
 abbrev μ-loop : tie.MeasureT-loop
-μ-loop table d out₀ j₀ out j = d - j
+μ-loop table out₀ j₀ out j = 8 - j
 
 loop-holds : tie.Need-loop-holds Inv-loop μ-loop
-loop-holds c = (omega arith, upto-none _ (c .before .good .1 .0 .1 .0 .1))
+loop-holds c = (omega arith, upto-none _ (c .good .1 .0 .1 .0 .1))
 
 array-read-wide : tie.Need-array-read-wide Inv-loop μ-loop
 array-read-wide c = omega arith
@@ -23,11 +24,11 @@ array-read-wide c = omega arith
 wide-requires : tie.Need-wide-requires Inv-loop μ-loop
 wide-requires c κs = tt
 
-shared-slice-read-out : tie.Need-shared-slice-read-out Inv-loop μ-loop
-shared-slice-read-out c =
-    let l = c .before .before .before .loop in
-    let s = c .before .before .before .before .before in
-    subst (λ (x : ℕ). x < length (s .args .table .now)) (sym (c .before .wide .ensures ∙ l .inv .1 .rest (l .j) (omega arith))) (s .pre .1 (l .j) (omega arith))
+element-copy-out-out : tie.Need-element-copy-out-out Inv-loop μ-loop
+element-copy-out-out c =
+    let l = c .before .before .loop in
+    let s = c .before .before .before in
+    subst (λ (x : ℕ). x < 256) (sym (c .wide .ensures ∙ l .inv .1 .rest (l .j) (omega arith))) (bytes-lt 8 (s .args .row) _ (s .good .1 .0) (l .j))
 
 array-write-out : tie.Need-array-write-out Inv-loop μ-loop
 array-write-out c = omega arith
@@ -41,7 +42,7 @@ loop-less c = omega arith
 loop-again : tie.Need-loop-again Inv-loop μ-loop
 loop-again c =
     let l = c .before .before .before .loop in
-    let s = c .before .before .before .before .before in (
+    let s = c .before .before .before .before in (
       omega arith,
       upto-more (l .j) _ (l .out) _ (omega arith)
           (ap (λ (x : ℕ). getD (s .args .table .now) x 0) (c .before .wide .ensures ∙ l .inv .1 .rest (l .j) (omega arith)))
@@ -60,7 +61,7 @@ sub-row-spec =
     loop-holds
     array-read-wide
     wide-requires
-    shared-slice-read-out
+    element-copy-out-out
     array-write-out
     add-j
     loop-less
