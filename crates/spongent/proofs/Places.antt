@@ -15,7 +15,7 @@ use Rattle.standard.specs.Spongent.{pLayer}
 use Rattle.standard.proofs.BitLaws.{bitsIn-digit, bit-digit, length-bitsIn, bitsIn-drop, bitsIn-zeros}
 use Rattle.standard.proofs.SpongentLaws.{length-pLayer, pLayer-plane}
 use Rattle.standard.proofs.Tests.{zero-to-three}
-use Rattle.spongent.specs.Pairs.{pairAt, pairOf}
+use Rattle.spongent.specs.Pairs.{Joined, pairAt, pairOf}
 
 -- ---- pairs and their places
 
@@ -34,12 +34,6 @@ pairAt-in s k m h =
     let ek : (4 * k + m) / 4 ≡ k = omega arith in
     let em : (4 * k + m) % 4 ≡ m = omega arith in
     ap₂ (λ (i l : ℕ). getD s i 0 / 2 ^ (2 * l) % 4) ek em
-
--- the pairs of byte k are those from 4 * k on
-abbrev pub Joined : List ℕ → ℕ → ℕ → Type 0
-Joined pairs k x =
-    (x % 4 ≡ getD pairs (4 * k) 0)
-    × ((x / 4 % 4 ≡ getD pairs (4 * k + 1) 0) × ((x / 16 % 4 ≡ getD pairs (4 * k + 2) 0) × (x / 64 % 4 ≡ getD pairs (4 * k + 3) 0)))
 
 pub joined-at : (pairs r : List ℕ) (j : ℕ) → Joined pairs (j / 4) (getD r (j / 4) 0) → pairAt r j ≡ getD pairs j 0
 unfolding pairAt

@@ -8,7 +8,7 @@ ghost use Rattle.standard.specs.Bits.{low-first, high-first, bitsIn, bitsOf, lo
 ghost use Rattle.standard.specs.Rounds.{direction, inTurn, rounds};
 ghost use Rattle.standard.specs.Spongent.{sBoxLayer, pLayer, cAddition, nextCounter, counters, spongentRound, spongentPermutation};
 ghost use Rattle.spongent.specs.Parameters.{spongentOf, tapsOf};
-ghost use Rattle.spongent.specs.Pairs.{pairAt, pairOf};
+ghost use Rattle.spongent.specs.Pairs.{Joined, pairAt, pairOf};
 
 // The byte with its bits in the reverse order.
 fn reversed(b: u8) -> u8
@@ -141,16 +141,27 @@ fn joined(w: u8, x: u8, y: u8, z: u8) -> u8
     (all * 0x1041040 / 0x1000000 % 0x100) as u8
 }
 
-// The n bytes of pairs, and zeros behind them.
+// Byte k of the n that the pairs make, and zero past them.
+fn joined_at(pairs: &[u8; 144], n: usize, k: usize) -> u8
+    requires { ⌜ (k < 36) × ((j : ℕ) → j < 4 * n → getD (now pairs) j 0 < 4) ⌝ }
+    ensures { λ r. ⌜ (k < n → Joined (now (pairs .entry)) k r) × (n ≤ k → r ≡ 0) ⌝ }
+{
+    if n <= k {
+        return 0;
+    }
+    let j = 4 * k;
+    joined(pairs[j], pairs[j + 1], pairs[j + 2], pairs[j + 3])
+}
+
+// The n bytes of pairs, and zeros behind them. All 36 are made, in a fixed number of turns.
 fn all_joined(pairs: [u8; 144], n: usize) -> [u8; 36]
     requires { ⌜ (n ≤ 36) × ((j : ℕ) → j < 4 * n → getD pairs j 0 < 4) ⌝ }
     ensures { λ r. ⌜ ((j : ℕ) → j < 4 * n → pairAt r j ≡ getD pairs j 0) × ((k : ℕ) → n ≤ k → getD r k 0 ≡ 0) ⌝ }
 {
     let mut out = [0u8; 36];
     let mut k: usize = 0;
-    while k < n {
-        let j = 4 * k;
-        out[k] = joined(pairs[j], pairs[j + 1], pairs[j + 2], pairs[j + 3]);
+    while k < 36 {
+        out[k] = joined_at(&pairs, n, k);
         k += 1;
     }
     out
