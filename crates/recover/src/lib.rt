@@ -4,7 +4,7 @@ ghost use mathlib.Core.Bool.{true, false};
 ghost use mathlib.Core.List.{[], _∷_, _++_};
 ghost use Prim.Native.Nat.{ℕ, suc, _+_, _-_, _*_, _/_, _≤_, _<_};
 ghost use lib.ListN.{length, take, drop, getD};
-ghost use Rattle.standard.specs.Bits.{Order, high-first, valueOf, bitsIn, filled, xorInto};
+ghost use Rattle.standard.specs.Bits.{high-first, valueOf, bitsIn, filled, xorInto};
 ghost use Rattle.standard.specs.Rounds.{backward};
 ghost use Rattle.standard.specs.Sponge.{startState, permutation, messageBlocks, run, unrun, stateIn};
 ghost use Rattle.standard.specs.Variants.{variant};
@@ -107,19 +107,6 @@ fn run_back(v: u8, message: &[u8], place: usize, end: [u8; 36]) -> [u8; 36]
     s
 }
 
-// The bytes of two states xored.
-fn difference(a: [u8; 36], b: [u8; 36]) -> [u8; 36]
-    ensures { λ r. ⌜ ((o : Order) → bitsIn o r ≡ xorInto (bitsIn o a) (bitsIn o b)) ⌝ }
-{
-    let mut out = a;
-    let mut i = 0;
-    while i < 36 {
-        out[i] = out[i] ^ b[i];
-        i += 1;
-    }
-    out
-}
-
 // The difference of the state before the place and the state that its block has to make there.
 fn between(v: u8, message: &[u8], place: usize, end: [u8; 36]) -> [u8; 36]
     requires { ⌜ (1 ≤ v) × (v ≤ 10) ⌝ }
@@ -133,7 +120,7 @@ fn between(v: u8, message: &[u8], place: usize, end: [u8; 36]) -> [u8; 36]
     let before = run_to(v, message, place);
     let after = run_back(v, message, place, end);
     let wanted = sponge::permuted(v, after, true);
-    difference(before, wanted)
+    sponge::xored(before, &wanted)
 }
 
 const BLOCK_BYTES: [usize; 11] = [0, 3, 2, 5, 4, 4, 1, 1, 2, 2, 2];

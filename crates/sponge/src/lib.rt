@@ -155,13 +155,14 @@ pub fn copy_front(s: &[u8], n: usize, out: &mut [u8])
     }
 }
 
-// The block's bytes xored into the first bytes of the state.
-fn with_block(s: [u8; 36], b: [u8; 5]) -> [u8; 36]
-    ensures { λ r. ⌜ ((o : Order) → bitsIn o r ≡ xorInto (bitsIn o s) (bitsIn o b)) ⌝ }
+// The bytes xored into the first bytes of the state.
+pub fn xored(s: [u8; 36], b: &[u8]) -> [u8; 36]
+    requires { ⌜ length (now b) ≤ 36 ⌝ }
+    ensures { λ r. ⌜ ((o : Order) → bitsIn o r ≡ xorInto (bitsIn o s) (bitsIn o (now (b .entry)))) ⌝ }
 {
     let mut out = s;
     let mut i = 0;
-    while i < 5 {
+    while i < b.len() {
         out[i] = out[i] ^ b[i];
         i += 1;
     }
@@ -337,7 +338,7 @@ pub fn stepped(v: u8, s: [u8; 36], b: [u8; 5]) -> [u8; 36]
     requires { ⌜ b ≡ blockBytes (blockIn (variant v) b) ⌝ }
     ensures { λ r. ⌜ r ≡ stateBytes (variant v) (step (variant v) (stateIn (variant v) s) (blockIn (variant v) b)) ⌝ }
 {
-    let taken = with_block(s, b);
+    let taken = xored(s, &b);
     permuted(v, taken, false)
 }
 
@@ -349,7 +350,7 @@ pub fn unstepped(v: u8, s: [u8; 36], b: [u8; 5]) -> [u8; 36]
     ensures { λ r. ⌜ r ≡ stateBytes (variant v) (unstep (variant v) (stateIn (variant v) s) (blockIn (variant v) b)) ⌝ }
 {
     let before = permuted(v, s, true);
-    with_block(before, b)
+    xored(before, &b)
 }
 
 // Whether the bytes are an image of the variant.

@@ -36,12 +36,15 @@ permuted-requires c κs =
     let le = state-length (a .v) (omega arith) (omega arith) (a .end) (omega arith) in
     (start .pre .0, unrun-ready (a .v) (omega arith) (omega arith) m E le (suc (a .place)) (c .run-back .result) (c .run-back .ensures))
 
-difference-requires : tie.Need-difference-requires
-difference-requires c κs = search needs
+slice-aggregate-xored : tie.Need-slice-aggregate-xored
+slice-aggregate-xored c = search needs
+
+xored-requires : tie.Need-xored-requires
+xored-requires c κs = search needs
 
 returns : tie.Need-returns
 returns c =
-    let start = c .before .before .before .before .before in
+    let start = c .before .before .before .before .before .before in
     let a = start .args in
     let m = a .message .now in
     let H = variant (a .v) in
@@ -51,17 +54,17 @@ returns c =
     let bs = messageBlocks H m in
     let S = run H (startState H) (take (a .place) bs) in
     let Y = unrun H E (drop (suc (a .place)) bs) in
-    let r = c .difference in
+    let r = c .xored in
     let lY = unrun-length H h (drop (suc (a .place)) bs) E le in
-    states-xored (a .v) (omega arith) (omega arith) (c .before .before .before .run-to .result) (c .before .permuted .result) (r .result) S (permutation H backward Y)
+    states-xored (a .v) (omega arith) (omega arith) (c .before .before .before .before .run-to .result) (c .before .before .permuted .result) (r .result) S (permutation H backward Y)
     (before-length H h (startState H) (h .start-length) bs (a .place) (start .pre .1 .1 .0) E le)
     (wanted-length H h (startState H) (h .start-length) bs (a .place) (start .pre .1 .1 .0) E le)
-    (bytes-lt 36 (r .result) _ (r .ok)) (omega arith) (c .before .before .before .run-to .ensures)
-    (c .before .permuted .ensures
-    ∙ ap (λ (s : List Bool). stateBytes H (permutation H backward s)) (stored (a .v) (omega arith) (omega arith) (c .before .before .run-back .result) Y lY (c .before .before .run-back .ensures)))
+    (bytes-lt 36 (r .result) _ (r .ok)) (omega arith) (c .before .before .before .before .run-to .ensures)
+    (c .before .before .permuted .ensures
+    ∙ ap (λ (s : List Bool). stateBytes H (permutation H backward s)) (stored (a .v) (omega arith) (omega arith) (c .before .before .before .run-back .result) Y lY (c .before .before .before .run-back .ensures)))
     (r .ensures)
 
 pub between-spec : {M : Type 1} → statement M
 between-spec =
     tie.close
-    (tie.spec run-to-requires run-back-requires permuted-requires difference-requires returns)
+    (tie.spec run-to-requires run-back-requires permuted-requires slice-aggregate-xored xored-requires returns)

@@ -17,27 +17,30 @@ use borrow.Author.Needs.{needs}
 use Rattle.sponge.proofs.stepped.Statement.{statement}
 use Rattle.sponge.proofs.stepped.Tie as tie
 
-with-block-requires : tie.Need-with-block-requires
-with-block-requires c κs = search needs
+slice-aggregate-xored : tie.Need-slice-aggregate-xored
+slice-aggregate-xored c = search needs
+
+xored-requires : tie.Need-xored-requires
+xored-requires c κs = search needs
 
 permuted-requires : tie.Need-permuted-requires
 permuted-requires c κs =
-    let start = c .before in
+    let start = c .before .before in
     let a = start .args in
-    let e = taken (a .v) (omega arith) (omega arith) (a .s) (c .with-block .result) (a .b) (omega arith) (omega arith)
-    (bytes-lt 36 (c .with-block .result) _ (c .with-block .ok)) (omega arith) (start .pre .1 .0) (start .pre .1 .1) (c .with-block .ensures) in (
+    let e = taken (a .v) (omega arith) (omega arith) (a .s) (c .xored .result) (a .t3) (omega arith) (omega arith)
+    (bytes-lt 36 (c .xored .result) _ (c .xored .ok)) (omega arith) (start .pre .1 .0) (start .pre .1 .1) (c .xored .ensures) in (
       start .pre .0,
-      stored-ready (a .v) (omega arith) (omega arith) (c .with-block .result) _
+      stored-ready (a .v) (omega arith) (omega arith) (c .xored .result) _
           (length-xorInto _ _ ∙ state-length (a .v) (omega arith) (omega arith) (a .s) (omega arith)) e,
     )
 
 returns : tie.Need-returns
 unfolding step
 returns c =
-    let start = c .before .before in
+    let start = c .before .before .before in
     let a = start .args in
-    let x = c .before .with-block in
-    let e = taken (a .v) (omega arith) (omega arith) (a .s) (x .result) (a .b) (omega arith) (omega arith)
+    let x = c .before .xored in
+    let e = taken (a .v) (omega arith) (omega arith) (a .s) (x .result) (a .t3) (omega arith) (omega arith)
     (bytes-lt 36 (x .result) _ (x .ok)) (omega arith) (start .pre .1 .0) (start .pre .1 .1) (x .ensures) in
     c .permuted .ensures
     ∙ ap (λ (s : List Bool). stateBytes (variant (a .v)) (permutation (variant (a .v)) forward s))
@@ -45,4 +48,4 @@ returns c =
     (length-xorInto _ _ ∙ state-length (a .v) (omega arith) (omega arith) (a .s) (omega arith)) e)
 
 pub stepped-spec : {M : Type 1} → statement M
-stepped-spec = tie.close (tie.spec with-block-requires permuted-requires returns)
+stepped-spec = tie.close (tie.spec slice-aggregate-xored xored-requires permuted-requires returns)

@@ -19,23 +19,26 @@ use Rattle.sponge.proofs.unstepped.Tie as tie
 permuted-requires : tie.Need-permuted-requires
 permuted-requires c κs = search needs
 
-with-block-requires : tie.Need-with-block-requires
-with-block-requires c κs = search needs
+slice-aggregate-xored : tie.Need-slice-aggregate-xored
+slice-aggregate-xored c = search needs
+
+xored-requires : tie.Need-xored-requires
+xored-requires c κs = search needs
 
 returns : tie.Need-returns
 unfolding unstep
 returns c =
-    let start = c .before .before in
+    let start = c .before .before .before in
     let a = start .args in
-    let p = c .before .permuted in
-    let x = c .with-block in
+    let p = c .before .before .permuted in
+    let x = c .xored in
     let back = permutation (variant (a .v)) backward (stateIn (variant (a .v)) (a .s)) in
     let lb = permutation-length (a .v) (omega arith) (omega arith) backward (stateIn (variant (a .v)) (a .s))
     (state-length (a .v) (omega arith) (omega arith) (a .s) (omega arith)) in
-    taken (a .v) (omega arith) (omega arith) (p .result) (x .result) (a .b) (omega arith) (omega arith)
+    taken (a .v) (omega arith) (omega arith) (p .result) (x .result) (a .t3) (omega arith) (omega arith)
     (bytes-lt 36 (x .result) _ (x .ok)) (omega arith) (stored-ready (a .v) (omega arith) (omega arith) (p .result) back lb (p .ensures)) (start .pre .1 .1) (x .ensures)
-    ∙ ap (λ (s : List Bool). stateBytes (variant (a .v)) (xorInto s (reordered high-first (order (variant (a .v))) (blockIn (variant (a .v)) (a .b)))))
+    ∙ ap (λ (s : List Bool). stateBytes (variant (a .v)) (xorInto s (reordered high-first (order (variant (a .v))) (blockIn (variant (a .v)) (a .t3)))))
     (stored (a .v) (omega arith) (omega arith) (p .result) back lb (p .ensures))
 
 pub unstepped-spec : {M : Type 1} → statement M
-unstepped-spec = tie.close (tie.spec permuted-requires with-block-requires returns)
+unstepped-spec = tie.close (tie.spec permuted-requires slice-aggregate-xored xored-requires returns)
