@@ -12,7 +12,6 @@ use Rattle.sponge.specs.declared.Status.the-variants.{BadList, OutOfRange}
 use Rattle.segments.specs.Entries.{isList, count, offsetOf, lengthOf}
 use Rattle.lent.specs.declared.Step.{Step}
 use Rattle.lent.specs.declared.Step.the-variants.{Entry, Refused}
-use Rattle.lent.specs.declared.Found.{Found}
 use Rattle.lent.specs.declared.Cursor.{Cursor}
 use Rattle.lent.specs.Cursors.{stays, foundAt, movedOn}
 

@@ -1,5 +1,6 @@
 -- What the walks of this crate share, and the laws of the cursor.
 pub mod Values
+pub mod Passed
 pub mod Locals
 pub mod Beside
 pub mod Advances

@@ -1,7 +1,6 @@
 -- `lent::entry_at` meets its contract: refusals 9, 7, then the entry's two numbers. Assumes nothing.
-use mathlib.Core.Path.{sym, _∙_}
-use native.Mathlib.Omega.{arith}
-use borrow.Author.Tests.{lt-ltb, le-ltb, not-false}
+use mathlib.Core.Path.{sym}
+use borrow.Author.Tests.{lt-ltb, le-ltb}
 use borrow.Author.Needs.{needs}
 use Rattle.lent.specs.Cursors.{foundAt}
 use Rattle.lent.proofs.entry_at.Statement.{statement}
