@@ -1,6 +1,6 @@
 -- A cursor over a segment list (document 01: a walker over the sheet): what a step gives, and where it leaves the cursor.
 -- Assumes nothing.
-use mathlib.Core.Bool.{Bool, cond, not}
+use mathlib.Core.Bool.{cond, not}
 use mathlib.Core.List.{List}
 use Prim.Native.Nat.{ℕ, _+_}
 use lib.Dec.{ltb}

@@ -1,18 +1,18 @@
 -- The blocks of a padded message, half byte by half byte.
 -- Assumes nothing.
-use mathlib.Core.Path.{_≡_, refl, sym, ap, ap₂, _∙_, subst}
+use mathlib.Core.Path.{_≡_, sym, ap, ap₂, _∙_, subst}
 use mathlib.Core.Bool.{Bool, true, false}
 use mathlib.Core.List.{List, [], _∷_, _++_, append-assoc}
-use Prim.Native.Nat.{ℕ, zero, suc, _+_, _-_, _*_, _/_, _%_, _≤_, _<_}
+use Prim.Native.Nat.{ℕ, suc, _+_, _-_, _*_, _/_, _%_, _≤_, _<_}
 use native.Mathlib.Nat.{div-add-mod', mod-lt, add-mul, mul-le-mul-right, mul-le-mul-left, le-trans, div-le-self, mul-assoc, mul-comm, one-mul}
 use native.Mathlib.Omega.{arith}
 use lib.ListN.{length, take, drop, getD, replicate, length-append, length-drop, drop-of-length-le}
 use lib.Seq.{drop-append-le, take-append-le, drop-at, take-at, take-add, drop-drop, length-take-le}
-use Rattle.standard.specs.Bits.{high-first, bitsOf, lowValue, ordered, valueOf, bitsIn, filled, pack, cut}
+use Rattle.standard.specs.Bits.{high-first, bitsOf, lowValue, ordered, valueOf, bitsIn, filled}
 use Rattle.standard.specs.Sponge.{Variant, padded, wholeBlocks, messageBlocks}
 use Rattle.standard.proofs.BitLaws.{length-bitsIn, length-filled, filled-add, filled-short, bitsOf-valueOf, valueOf-lt}
 use Rattle.standard.proofs.CutLaws.{cut-at, take-drop-take, length-cut}
-use Rattle.standard.proofs.Padding.{length-padded, block-count}
+use Rattle.standard.proofs.Padding.{length-padded}
 use Rattle.sponge.specs.Cells.{cellIn}
 use Rattle.sponge.proofs.MatrixImage.{filled-take, filled-nothing}
 use Rattle.sponge.proofs.CellLaws.{cell-even, cell-odd}

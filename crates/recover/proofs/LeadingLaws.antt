@@ -1,14 +1,14 @@
 -- The block that leads to a state: none, or the difference of the state before the place and the state wanted there.
 -- Assumes nothing.
-use mathlib.Core.Path.{_≡_, refl, sym, ap, ap₂, _∙_, subst}
-use mathlib.Core.Bool.{Bool, true, false}
+use mathlib.Core.Path.{_≡_, sym, ap, ap₂, _∙_}
+use mathlib.Core.Bool.{Bool, false}
 use mathlib.Core.List.{List, [], _∷_, _++_}
-use mathlib.Core.Logic.{_⊎_, inl, inr, ⊎-elim}
-use Prim.Native.Nat.{ℕ, suc, _-_, _%_, _≤_, _<_}
+use mathlib.Core.Logic.{inl, inr, ⊎-elim}
+use Prim.Native.Nat.{ℕ, suc, _-_, _%_, _<_}
 use native.Mathlib.Omega.{arith}
 use lib.ListN.{length, take, drop, replicate, take-append-drop}
 use lib.Seq.{take-at, drop-at, length-take-le}
-use Rattle.standard.specs.Bits.{Order, high-first, reordered, xorInto}
+use Rattle.standard.specs.Bits.{high-first, reordered, xorInto}
 use Rattle.standard.specs.Rounds.{backward}
 use Rattle.standard.specs.Sponge.{Variant, order, permutation, startState, messageBlocks, run, unrun}
 use Rattle.standard.proofs.BitLaws.{length-xorInto}

@@ -3,19 +3,18 @@
 use mathlib.Core.Path.{_≡_, refl, sym, ap, ap₂, _∙_, subst}
 use mathlib.Core.Bool.{Bool, true, false, cond, not, _&&_}
 use mathlib.Core.List.{List, [], _∷_, _++_, headD}
-use mathlib.Core.Logic.{_⊎_, inl, inr, ⊎-elim}
-use Prim.Native.Nat.{ℕ, zero, suc, _+_, _-_, _*_, _/_, _%_, _≤_, _<_}
+use Prim.Native.Nat.{ℕ, zero, suc, _+_, _-_, _*_, _≤_, _<_}
 use native.Mathlib.Nat.{not-suc-le-zero, le-of-suc-le-suc}
 use native.Mathlib.Omega.{arith}
 use lib.Dec.{ltb}
 use lib.ListN.{length, take, drop, getD, replicate, length-drop}
 use lib.Seq.{length-take-le, take-add, drop-append-le}
 use borrow.Author.Tests.{ltb-true, ltb-false, not-false}
-use Rattle.standard.specs.Bits.{Order, high-first, bitsIn, pack, unpack, bytesFor, reordered, xorInto}
+use Rattle.standard.specs.Bits.{high-first, bitsIn, pack, unpack, reordered, xorInto}
 use Rattle.standard.specs.Rounds.{backward}
 use Rattle.standard.specs.Sponge.{Variant, order, permutation, startState, messageBlocks, run, unrun, stateIn}
 use Rattle.standard.specs.Variants.{variant, known}
-use Rattle.standard.proofs.BitLaws.{length-bitsIn, length-pack, bitsIn-take, image-eq, length-unpack, pack-bytes}
+use Rattle.standard.proofs.BitLaws.{length-bitsIn, length-pack, bitsIn-take, image-eq, pack-bytes}
 use Rattle.standard.proofs.OneBlock.{Lawful}
 use Rattle.standard.proofs.Variants.{Bounds, bounds, lawful}
 use Rattle.sponge.specs.declared.Status.{Status}

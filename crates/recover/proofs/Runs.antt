@@ -1,10 +1,9 @@
 -- Running over a message's blocks one by one, forward and back, on the bytes that hold states and blocks.
 -- Assumes nothing.
-use mathlib.Core.Path.{_≡_, refl, sym, ap, ap₂, _∙_, subst}
+use mathlib.Core.Path.{_≡_, sym, ap, ap₂, _∙_}
 use mathlib.Core.Bool.{Bool, false}
 use mathlib.Core.List.{List, [], _∷_, _++_}
-use mathlib.Core.Logic.{_⊎_}
-use Prim.Native.Nat.{ℕ, suc, _+_, _-_, _*_, _%_, _≤_, _<_}
+use Prim.Native.Nat.{ℕ, _+_, _-_, _≤_, _<_}
 use native.Mathlib.Numerals.{add-one}
 use native.Mathlib.Omega.{arith}
 use lib.ListN.{length, take, drop, getD, replicate}
@@ -12,7 +11,7 @@ use lib.Seq.{take-suc, drop-cons, drop-length}
 use Rattle.standard.specs.Bits.{Order, high-first, bitsIn, pack, unpack, xorInto}
 use Rattle.standard.specs.Sponge.{Variant, order, startState, messageBlocks, step, unstep, run, unrun, stateIn}
 use Rattle.standard.specs.Variants.{variant}
-use Rattle.standard.proofs.BitLaws.{unpack-pack, length-xorInto, xorInto-append, xorInto-zeros, length-pack}
+use Rattle.standard.proofs.BitLaws.{unpack-pack, length-xorInto, xorInto-append, xorInto-zeros}
 use Rattle.standard.proofs.OneBlock.{Lawful, run-append, run-one, run-none, run-length, block-length}
 use Rattle.standard.proofs.TakenBack.{unrun-one, unrun-none, unrun-length}
 use Rattle.standard.proofs.Padding.{message-blocks}

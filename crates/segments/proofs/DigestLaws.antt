@@ -3,11 +3,11 @@
 use mathlib.Core.Path.{_≡_, refl, sym, ap, ap₂, _∙_}
 use mathlib.Core.Bool.{Bool, true, false, cond, not}
 use mathlib.Core.List.{List}
-use Prim.Native.Nat.{ℕ, _≤_, _<_}
+use Prim.Native.Nat.{ℕ, _≤_}
 use native.Mathlib.Omega.{arith}
 use lib.Dec.{ltb}
 use lib.ListN.{length}
-use borrow.Author.Tests.{not-false, ltb-false, lt-ltb, le-ltb}
+use borrow.Author.Tests.{not-false, ltb-false}
 use Rattle.standard.specs.Sponge.{endState}
 use Rattle.standard.specs.Variants.{variant, known}
 use Rattle.sponge.specs.declared.Status.{Status}
@@ -21,10 +21,9 @@ use Rattle.hasher.specs.Reading.{resultBytes, resultOf, readStatus, written, re
 use Rattle.hasher.proofs.WellFormed.{well-formed}
 use Rattle.hasher.proofs.Ladders.{start-done}
 use Rattle.hasher.proofs.Message.{begun-facts, all-calls, ended-status, ended-into}
-use Rattle.segments.specs.Entries.{isList, entriesStatus, messageOf, totalOf}
+use Rattle.segments.specs.Entries.{isList, entriesStatus, messageOf}
 use Rattle.segments.specs.Digests.{listStatus, listInto}
 use Rattle.sponge.proofs.Answers.{not-done, kept, passed, row-done}
-use Rattle.segments.proofs.ListLaws.{message-length}
 
 -- ---- the checks in order
 

@@ -1,17 +1,17 @@
 -- When no bit of bytes is set, from a place on: byte by byte, and in either order of a byte's bits.
 -- Assumes nothing.
-use mathlib.Core.Path.{_≡_, refl, sym, ap, ap₂, _∙_, subst}
+use mathlib.Core.Path.{_≡_, refl, sym, ap, ap₂, _∙_}
 use mathlib.Core.Bool.{Bool, true, false, not, _&&_}
 use mathlib.Core.List.{List, [], _∷_, _++_, reverse, reverse-append, reverse-cons}
 use mathlib.Core.Logic.{_⊎_, ⊎-elim}
-use Prim.Native.Nat.{ℕ, zero, suc, _+_, _-_, _*_, _/_, _%_, _^_, _≤_, _<_}
-use native.Mathlib.Nat.{div-add-mod', mod-eq-of-lt}
+use Prim.Native.Nat.{ℕ, zero, suc, _+_, _*_, _/_, _%_, _^_, _≤_, _<_}
+use native.Mathlib.Nat.{mod-eq-of-lt}
 use native.Mathlib.Omega.{arith}
 use native.Mathlib.Numerals.{add-one}
 use lib.ListN.{length, drop, getD, replicate, drop-of-length-le}
 use lib.Seq.{drop-cons, drop-at, drop-drop, drop-append-le}
-use Rattle.standard.specs.Bits.{Order, low-first, high-first, bit, digit, lowBits, lowValue, ordered, bitsOf, valueOf, bitsIn}
-use Rattle.standard.proofs.BitLaws.{length-bitsOf, length-bitsIn, length-lowBits, bitsIn-drop, bitsOf-valueOf, ordered-ordered, lowValue-of, lowBits-add, zeros-of, reverse-replicate}
+use Rattle.standard.specs.Bits.{Order, low-first, high-first, lowBits, lowValue, ordered, bitsOf, valueOf, bitsIn}
+use Rattle.standard.proofs.BitLaws.{length-bitsOf, length-bitsIn, bitsIn-drop, bitsOf-valueOf, ordered-ordered, lowValue-of, lowBits-add, zeros-of, reverse-replicate}
 use Rattle.sponge.specs.Layout.{clear}
 
 pub clear-append : (xs ys : List Bool) → clear (xs ++ ys) ≡ (clear xs && clear ys)

@@ -2,16 +2,16 @@
 -- Assumes nothing.
 use mathlib.Core.Path.{_≡_, refl, sym, ap, ap₂, _∙_, subst}
 use mathlib.Core.Bool.{Bool, true, false, cond, not, _&&_}
-use mathlib.Core.List.{List, [], _++_, append-nil}
-use mathlib.Core.Logic.{_⊎_, inl, inr, ⊎-elim}
-use Prim.Native.Nat.{ℕ, _+_, _-_, _*_, _/_, _%_, _≤_, _<_}
+use mathlib.Core.List.{List, _++_, append-nil}
+use mathlib.Core.Logic.{inl, inr, ⊎-elim}
+use Prim.Native.Nat.{ℕ, _-_, _≤_, _<_}
 use native.Mathlib.Omega.{arith}
 use lib.Dec.{eqb, leb}
 use lib.ListN.{length, take, drop, getD, replicate, drop-of-length-le}
 use borrow.Author.Tests.{eq-eqb, ne-eqb, eqb-true, leb-true}
-use Rattle.standard.specs.Bits.{Order, high-first, bitsIn, pack, unpack, bytesFor}
+use Rattle.standard.specs.Bits.{high-first, bitsIn, pack}
 use Rattle.standard.specs.Rounds.{Direction}
-use Rattle.standard.specs.Sponge.{Variant, order, permutation, imageBytes, imageOf, stateIn}
+use Rattle.standard.specs.Sponge.{order, permutation, imageBytes, imageOf, stateIn}
 use Rattle.standard.specs.Variants.{variant, known}
 use Rattle.standard.proofs.BitLaws.{take-pack, length-unpack}
 use Rattle.standard.proofs.Variants.{Bounds, bounds, WholeBytes, layouts}

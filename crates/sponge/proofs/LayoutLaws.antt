@@ -1,15 +1,15 @@
 -- A state at the front of 36 bytes and a block at the front of 5: reading, writing, and the block xored in.
 -- Assumes nothing.
-use mathlib.Core.Path.{_≡_, refl, sym, ap, ap₂, _∙_, subst}
+use mathlib.Core.Path.{_≡_, sym, ap, ap₂, _∙_, subst}
 use mathlib.Core.Bool.{Bool, true, false}
-use mathlib.Core.List.{List, [], _∷_, _++_, append-assoc, append-nil}
-use mathlib.Core.Logic.{_⊎_, inl, inr, ⊎-elim}
-use Prim.Native.Nat.{ℕ, _+_, _-_, _*_, _/_, _%_, _≤_, _<_}
+use mathlib.Core.List.{List, _++_, append-assoc}
+use mathlib.Core.Logic.{_⊎_, ⊎-elim}
+use Prim.Native.Nat.{ℕ, _+_, _-_, _*_, _%_, _≤_, _<_}
 use native.Mathlib.Omega.{arith}
-use lib.ListN.{length, take, drop, getD, replicate, length-take, take-append-drop, length-append, length-drop, length-replicate, replicate-append-replicate}
-use lib.Seq.{take-at, drop-at, take-all, take-append-le}
-use Rattle.standard.specs.Bits.{Order, low-first, high-first, bitsIn, pack, unpack, bytesFor, reordered, xorInto}
-use Rattle.standard.proofs.BitLaws.{length-bitsIn, length-unpack, length-pack, unpack-pack, bitsIn-pack, bitsIn-append, bitsIn-zeros, filled-short, image-eq, pack-whole, take-pack, xorInto-behind, xorInto-front, length-xorInto}
+use lib.ListN.{length, take, drop, getD, replicate, take-append-drop, length-append, length-drop, length-replicate, replicate-append-replicate}
+use lib.Seq.{take-at, drop-at, take-all}
+use Rattle.standard.specs.Bits.{Order, high-first, bitsIn, pack, unpack, bytesFor, reordered, xorInto}
+use Rattle.standard.proofs.BitLaws.{length-bitsIn, length-unpack, length-pack, unpack-pack, bitsIn-pack, bitsIn-append, bitsIn-zeros, filled-short, image-eq, pack-whole, xorInto-behind, xorInto-front, length-xorInto}
 use Rattle.standard.proofs.Reordered.{length-reordered, reordered-same}
 use Rattle.sponge.specs.Layout.{clear}
 use Rattle.sponge.proofs.Clear.{clear-zeros}

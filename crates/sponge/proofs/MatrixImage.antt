@@ -3,14 +3,13 @@
 use mathlib.Core.Path.{_≡_, refl, sym, ap, ap₂, _∙_, subst}
 use mathlib.Core.Bool.{Bool, false}
 use mathlib.Core.List.{List, [], _∷_, _++_, reverse, reverse-append}
-use mathlib.Core.Logic.{_⊎_, ⊎-elim}
-use Prim.Native.Nat.{ℕ, zero, suc, _+_, _-_, _*_, _/_, _%_, _^_, _≤_, _<_}
-use native.Mathlib.Nat.{not-suc-le-zero, le-of-suc-le-suc, div-add-mod', div-lt-iff-lt-mul, le-div-iff-mul-le, zero-lt-suc, mod-lt, mul-le-mul-left, mul-le-mul-right, mul-assoc, add-mul, mul-comm, suc-mul}
+use mathlib.Core.Logic.{⊎-elim}
+use Prim.Native.Nat.{ℕ, zero, suc, _+_, _*_, _/_, _%_, _^_, _≤_, _<_}
+use native.Mathlib.Nat.{not-suc-le-zero, le-of-suc-le-suc, div-add-mod', div-lt-iff-lt-mul, le-div-iff-mul-le, zero-lt-suc, mod-lt, mul-le-mul-left, mul-le-mul-right, mul-assoc, suc-mul}
 use native.Mathlib.Omega.{arith}
-use lib.Pow.{pow-pos}
 use lib.ListN.{length, take, drop, getD, replicate, drop-of-length-le, List·getD-eq-default, length-reverse, length-drop}
-use lib.Seq.{drop-drop, take-append-seam}
-use Rattle.standard.specs.Bits.{high-first, ordered, valueOf, lowValue, bitsIn, filled, pack, unpack}
+use lib.Seq.{drop-drop}
+use Rattle.standard.specs.Bits.{high-first, ordered, valueOf, lowValue, filled, pack}
 use Rattle.standard.specs.Grid.{Grid, at, window, Square, Small}
 use Rattle.standard.specs.Photon.{matrixOf, bitsOfMatrix}
 use Rattle.standard.proofs.Tests.{lt-or-le}

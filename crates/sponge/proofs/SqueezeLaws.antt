@@ -1,16 +1,16 @@
 -- Output blocks appended to the digest: half byte by half byte, block by block.
 -- Assumes nothing.
 use mathlib.Core.Path.{_≡_, refl, sym, ap, ap₂, _∙_, subst}
-use mathlib.Core.Bool.{Bool, false}
+use mathlib.Core.Bool.{Bool}
 use mathlib.Core.List.{List, [], _∷_, _++_, append-assoc, append-nil, flatMap}
 use mathlib.Core.Logic.{_⊎_, inl, inr, ⊎-elim}
-use Prim.Native.Nat.{ℕ, zero, suc, _+_, _-_, _*_, _/_, _%_, _^_, _≤_, _<_}
+use Prim.Native.Nat.{ℕ, zero, suc, _+_, _-_, _*_, _/_, _%_, _≤_, _<_}
 use native.Mathlib.Nat.{not-suc-le-zero, add-mul-div-right, div-eq-of-lt, le-div-iff-mul-le, min-le-left, sub-zero}
 use native.Mathlib.Numerals.{add-one}
 use native.Mathlib.Omega.{arith}
 use lib.ListN.{length, take, drop, length-append, length-drop, length-take, replicate}
 use lib.Seq.{length-take-le, take-add, take-all, take-take, take-append-le}
-use Rattle.standard.specs.Bits.{Order, high-first, bitsOf, valueOf, bitsIn, pack, unpack, bytesFor, reordered}
+use Rattle.standard.specs.Bits.{Order, high-first, bitsOf, bitsIn, pack, unpack, bytesFor, reordered}
 use Rattle.standard.specs.Rounds.{forward}
 use Rattle.standard.specs.Sponge.{Variant, order, permutation, outputs, outputBlocks, squeezed, stateIn}
 use Rattle.standard.specs.Variants.{variant}

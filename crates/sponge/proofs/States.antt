@@ -4,23 +4,23 @@ use mathlib.Core.Path.{_≡_, refl, sym, ap, ap₂, _∙_, subst}
 use mathlib.Core.Bool.{Bool}
 use mathlib.Core.List.{List}
 use mathlib.Core.Logic.{_⊎_, inl, inr, ⊎-elim}
-use Prim.Native.Nat.{ℕ, _+_, _*_, _%_, _^_, _≤_, _<_}
+use Prim.Native.Nat.{ℕ, _*_, _%_, _^_, _≤_, _<_}
 use native.Mathlib.Omega.{arith}
 use lib.Dec.{lit≤}
 use lib.ListN.{length, take, getD}
 use Rattle.standard.specs.Bits.{Order, low-first, high-first, bitsIn, pack, unpack, reordered, xorInto}
-use Rattle.standard.specs.Rounds.{Direction, forward}
+use Rattle.standard.specs.Rounds.{Direction}
 use Rattle.standard.specs.Grid.{Grid, window, Small}
-use Rattle.standard.specs.Photon.{PhotonParameters, photonRounds, matrixOf, bitsOfMatrix, photonPermutation}
-use Rattle.standard.specs.Spongent.{SpongentParameters, spongentPermutation}
-use Rattle.standard.specs.Sponge.{Family, photon, spongent, Variant, orderOf, order, permutationOf, permutation, step, stateIn}
+use Rattle.standard.specs.Photon.{photonRounds, matrixOf, bitsOfMatrix, photonPermutation}
+use Rattle.standard.specs.Spongent.{spongentPermutation}
+use Rattle.standard.specs.Sponge.{Family, photon, spongent, Variant, orderOf, order, permutationOf, permutation, stateIn}
 use Rattle.standard.specs.Variants.{variant}
 use Rattle.standard.proofs.Tests.{one-to-five}
 use Rattle.standard.proofs.Tab.{small-window}
 use Rattle.standard.proofs.BitLaws.{length-unpack}
-use Rattle.standard.proofs.PhotonLaws.{State, photonRounds-state}
+use Rattle.standard.proofs.PhotonLaws.{photonRounds-state}
 use Rattle.standard.proofs.MatrixLaws.{matrixOf-square, matrixOf-small}
-use Rattle.standard.proofs.Variants.{Bounds, bounds, WholeBytes, layouts, lawful}
+use Rattle.standard.proofs.Variants.{Bounds, bounds, lawful}
 use Rattle.photon.specs.Parameters.{photonOf}
 use Rattle.photon.proofs.ParametersOf.{photon-variant, sound}
 use Rattle.spongent.specs.Parameters.{spongentOf}

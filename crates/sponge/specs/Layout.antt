@@ -1,6 +1,6 @@
 -- How the code holds a state and a block: an image at the front of 36 bytes, and a block's bits at the front of 5 bytes.
 -- Assumes nothing.
-use mathlib.Core.Bool.{Bool, true, false, not, _&&_}
+use mathlib.Core.Bool.{Bool, true, not, _&&_}
 use mathlib.Core.List.{List, [], _∷_}
 use Prim.Native.Nat.{ℕ}
 use Rattle.standard.specs.Bits.{high-first, pack, unpack}

@@ -3,16 +3,16 @@
 use mathlib.Core.Path.{_≡_, refl, sym, ap, ap₂, _∙_, subst}
 use mathlib.Core.Bool.{Bool, true, false, xor}
 use mathlib.Core.List.{List, [], _∷_, _++_, reverse, reverse-reverse, reverse-cons, reverse-append, append-assoc, append-nil}
-use Prim.Native.Nat.{ℕ, zero, suc, _+_, _-_, _*_, _/_, _%_, _^_, _≤_, _<_, zero-le, suc-le-suc}
-use native.Mathlib.Nat.{le-of-suc-le-suc, not-suc-le-zero, zero-add, add-zero, suc-add, add-suc, pow-suc, mod-lt, div-add-mod', suc-inj, div-lt-iff-lt-mul, zero-lt-suc, suc-mul, div-one, div-div-eq-div-mul, add-assoc, pow-succ', le-trans, mod-eq-of-lt, suc-ne-zero, mul-one, one-mul, div-eq-of-lt, mul-right-comm, mod-one, sub-zero, suc-sub-suc}
+use Prim.Native.Nat.{ℕ, zero, suc, _+_, _-_, _*_, _/_, _%_, _^_, _≤_, _<_}
+use native.Mathlib.Nat.{le-of-suc-le-suc, not-suc-le-zero, zero-add, suc-add, pow-suc, mod-lt, div-add-mod', suc-inj, div-lt-iff-lt-mul, zero-lt-suc, div-one, div-div-eq-div-mul, pow-succ', mod-eq-of-lt, suc-ne-zero, mul-one, one-mul, div-eq-of-lt, mul-right-comm, mod-one, sub-zero, suc-sub-suc}
 use native.Mathlib.Omega.{arith}
 use native.Mathlib.Numerals.{add-one}
-use lib.ListN.{length, getD, take, drop, set, replicate, length-append, length-reverse, length-take, length-drop, length-replicate, List·getD-append, replicate-append-replicate, take-append-drop}
-use lib.Seq.{take-all, take-append-le, drop-append-le, take-at, drop-at, take-append-add, getD-append-add, set-append-left, getD-take, ext-getD, take-append-seam, drop-append-seam, drop-nil, take-nil, drop-append-add, drop-drop, drop-length}
+use lib.ListN.{length, getD, take, drop, set, replicate, length-append, length-reverse, length-take, List·getD-append, replicate-append-replicate, take-append-drop}
+use lib.Seq.{take-at, drop-at, take-append-add, getD-append-add, set-append-left, getD-take, drop-nil, take-nil, drop-append-add, drop-drop, drop-length}
 use lib.Arith.{lt-one, digits-div, digits-mod, digits-lt, mod-mul}
 use lib.Bits.{bitXor, xor-step, differ, shifted-half, shifted-even}
 use lib.Pow.{shl-exact, pow-pos}
-use Rattle.standard.specs.Bits.{Order, low-first, high-first, bit, digit, lowBits, lowValue, ordered, bitsOf, valueOf, bitsIn, unpack, filled, pack, xorInto, cut, bytesFor, reordered}
+use Rattle.standard.specs.Bits.{Order, low-first, high-first, bit, digit, lowBits, lowValue, ordered, bitsOf, valueOf, bitsIn, unpack, filled, pack, xorInto}
 
 pub length-lowBits : (w n : ℕ) → length (lowBits w n) ≡ w
 unfolding lowBits

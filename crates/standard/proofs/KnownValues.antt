@@ -2,8 +2,7 @@
 -- Assumes nothing.
 use mathlib.Core.Path.{_≡_, refl}
 use mathlib.Core.Bool.{xor}
-use mathlib.Core.List.{List, [], _∷_, map, flatMap}
-use Prim.Native.Nat.{ℕ}
+use mathlib.Core.List.{map, flatMap}
 use Rattle.standard.specs.Bits.{lowBits, lowValue, ordered, bitsOf, valueOf, bitsIn, unpack, filled, pack, cut}
 use Rattle.standard.specs.Rounds.{rounds}
 use Rattle.standard.specs.Grid.{transpose}

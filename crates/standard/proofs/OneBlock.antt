@@ -1,17 +1,17 @@
 -- The block step loses nothing: from different states, or with different blocks, it leads to different states.
 -- So two rows of blocks that differ at exactly one place give different states from that block on, and equal ones before.
 -- Assumes nothing.
-use mathlib.Core.Path.{_≡_, refl, sym, ap, ap₂, _∙_, subst}
-use mathlib.Core.Bool.{Bool, true, false, xor}
-use mathlib.Core.List.{List, [], _∷_, _++_, foldl, foldl-append}
-use mathlib.Core.Logic.{_↔_, _⊎_, inl, inr, ⊎-elim}
+use mathlib.Core.Path.{_≡_, refl, sym, ap, ap₂, _∙_}
+use mathlib.Core.Bool.{Bool, xor}
+use mathlib.Core.List.{List, [], _∷_, _++_, foldl-append}
+use mathlib.Core.Logic.{_↔_, _⊎_, ⊎-elim}
 use Prim.Native.Nat.{ℕ, zero, suc, _+_, _%_, _≤_, _<_}
 use native.Mathlib.Nat.{not-suc-le-zero, le-of-suc-le-suc, suc-inj, suc-ne-zero, le-refl}
 use native.Mathlib.Omega.{arith}
-use lib.ListN.{length, take, drop, getD, length-take, length-drop, take-append-drop}
+use lib.ListN.{length, take, drop, getD, length-drop}
 use lib.Seq.{ext-getD, getD-take, getD-drop, length-take-le, split-at, take-take}
-use Rattle.standard.specs.Bits.{Order, high-first, reordered, xorInto}
-use Rattle.standard.specs.Rounds.{Direction, forward, backward, opposite}
+use Rattle.standard.specs.Bits.{high-first, reordered, xorInto}
+use Rattle.standard.specs.Rounds.{Direction, forward, opposite}
 use Rattle.standard.specs.Sponge.{Variant, order, permutation, startState, step, run, Blocks, DifferAt}
 use Rattle.standard.proofs.BitLaws.{length-xorInto, xorInto-twice, xor-back}
 use Rattle.standard.proofs.Tests.{lt-or-le}

@@ -1,13 +1,13 @@
 -- Padding and blocks: L bytes give floor(8 L / r) + 1 blocks of r bits, and whole blocks may be cut off in two parts.
 -- Assumes nothing.
-use mathlib.Core.Path.{_≡_, refl, sym, ap, ap₂, _∙_, subst}
+use mathlib.Core.Path.{_≡_, sym, ap, _∙_}
 use mathlib.Core.Bool.{Bool, true, false}
-use mathlib.Core.List.{List, [], _∷_, _++_}
+use mathlib.Core.List.{List, _∷_}
 use Prim.Native.Nat.{ℕ, zero, suc, _+_, _-_, _*_, _/_, _%_, _≤_, _<_}
-use native.Mathlib.Nat.{div-add-mod', mod-lt, add-mul, one-mul, mul-comm}
+use native.Mathlib.Nat.{div-add-mod', mod-lt, add-mul, one-mul}
 use native.Mathlib.Omega.{arith}
-use lib.Arith.{digits-div, digits-mod}
-use lib.ListN.{length, take, drop, replicate, length-append, length-replicate, length-take, length-drop}
+use lib.Arith.{digits-div}
+use lib.ListN.{length, drop, replicate, length-append, length-replicate, length-drop}
 use lib.Seq.{length-take-le}
 use Rattle.standard.specs.Bits.{high-first, bitsIn, cut}
 use Rattle.standard.specs.Sponge.{Variant, padded, wholeBlocks, messageBlocks, Blocks}

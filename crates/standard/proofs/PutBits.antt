@@ -2,7 +2,7 @@
 -- Assumes nothing.
 use mathlib.Core.Path.{_≡_, refl, sym, ap, ap₂, _∙_, subst}
 use mathlib.Core.Bool.{Bool, true, false, xor}
-use mathlib.Core.List.{List, [], _∷_, _++_, append-assoc, append-nil, reverse, reverse-append}
+use mathlib.Core.List.{List, [], _∷_, _++_, append-assoc, reverse, reverse-append}
 use mathlib.Core.Logic.{⊎-elim}
 use Prim.Native.Nat.{ℕ, zero, suc, _+_, _-_, _*_, _/_, _%_, _^_, _≤_, _<_}
 use native.Mathlib.Nat.{le-of-suc-le-suc, not-suc-le-zero, sub-zero, suc-sub-suc, div-add-mod'}
@@ -11,9 +11,9 @@ use lib.Arith.{digits-div, digits-mod}
 use lib.Bits.{bitXor, xor-lt}
 use lib.ListN.{length, getD, set, replicate, length-append, length-set, length-replicate, replicate-append-replicate}
 use lib.Seq.{getD-set-same, getD-set-other}
-use Rattle.standard.specs.Bits.{Order, low-first, high-first, bit, lowBits, ordered, bitsOf, bitsIn, pack, xorInto}
+use Rattle.standard.specs.Bits.{high-first, lowBits, ordered, bitsOf, bitsIn, pack, xorInto}
 use Rattle.standard.proofs.Tests.{lt-or-le}
-use Rattle.standard.proofs.BitLaws.{length-pack, pack-bytes, bitsIn-pack, filled-short, image-eq, bitsIn-xor, length-bitsIn, length-lowBits, length-bitsOf, xorInto-append, xorInto-zeros, xorInto-behind, lowBits-add, lowBits-lowValue, lowValue-of, zeros-of, reverse-replicate}
+use Rattle.standard.proofs.BitLaws.{length-pack, pack-bytes, bitsIn-pack, filled-short, image-eq, bitsIn-xor, length-lowBits, xorInto-append, xorInto-zeros, xorInto-behind, lowBits-add, lowBits-lowValue, lowValue-of, zeros-of, reverse-replicate}
 
 zeros-with : (m : ℕ) (Y : List Bool) → length Y ≤ m → xorInto (replicate m false) Y ≡ Y ++ replicate (m - length Y) false
 unfolding xorInto xor

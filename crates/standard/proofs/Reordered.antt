@@ -1,14 +1,14 @@
 -- Bits read from the same bytes in another order: nothing is lost, and the way back is the same.
 -- Assumes nothing.
-use mathlib.Core.Path.{_≡_, refl, sym, ap, ap₂, _∙_, subst}
+use mathlib.Core.Path.{_≡_, sym, ap, _∙_, subst}
 use mathlib.Core.Bool.{Bool}
 use mathlib.Core.List.{List}
 use mathlib.Core.Logic.{_⊎_, inl, inr, ⊎-elim}
-use Prim.Native.Nat.{ℕ, _+_, _*_, _/_, _%_, _≤_}
+use Prim.Native.Nat.{ℕ, _*_, _%_, _≤_}
 use native.Mathlib.Omega.{arith}
-use lib.ListN.{length, take}
+use lib.ListN.{length}
 use lib.Seq.{take-all}
-use Rattle.standard.specs.Bits.{Order, low-first, high-first, bitsIn, pack, unpack, bytesFor, reordered}
+use Rattle.standard.specs.Bits.{Order, bitsIn, pack, unpack, bytesFor, reordered}
 use Rattle.standard.proofs.BitLaws.{length-pack, length-bitsIn, length-unpack, unpack-pack, pack-bitsIn, pack-bytes}
 
 enough : (n : ℕ) → n ≤ bytesFor n * 8

@@ -1,12 +1,12 @@
 -- Bits taken in parts: the whole blocks of a string, and the rest, do not depend on where it was cut.
 -- Assumes nothing.
-use mathlib.Core.Path.{_≡_, refl, sym, ap, ap₂, _∙_, subst}
+use mathlib.Core.Path.{_≡_, refl, sym, ap, ap₂, _∙_}
 use mathlib.Core.Bool.{Bool, true, false}
 use mathlib.Core.List.{List, [], _∷_, _++_}
-use Prim.Native.Nat.{ℕ, zero, suc, _+_, _-_, _*_, _/_, _%_, _≤_, _<_}
+use Prim.Native.Nat.{ℕ, _+_, _-_, _*_, _/_, _%_, _≤_, _<_}
 use native.Mathlib.Nat.{div-add-mod', mod-lt, add-mul, add-comm, add-mul-div-right, mod-eq-of-lt, div-eq-of-lt, zero-mul}
 use native.Mathlib.Omega.{arith}
-use lib.ListN.{length, take, drop, replicate, length-append, length-drop}
+use lib.ListN.{length, drop, replicate, length-append, length-drop}
 use lib.Seq.{drop-append-le, drop-drop}
 use Rattle.standard.specs.Bits.{cut}
 use Rattle.standard.specs.Sponge.{padded, wholeBlocks, restOf}

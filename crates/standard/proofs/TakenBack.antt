@@ -1,14 +1,13 @@
 -- Block steps taken back, and the one block that leads from a state to another.
 -- Assumes nothing.
-use mathlib.Core.Path.{_≡_, refl, sym, ap, ap₂, _∙_, subst}
+use mathlib.Core.Path.{_≡_, refl, sym, ap, ap₂, _∙_}
 use mathlib.Core.Bool.{Bool, true, false, xor}
 use mathlib.Core.List.{List, [], _∷_, _++_, foldl, foldl-append, reverse, reverse-cons, append-nil}
-use mathlib.Core.Logic.{_↔_}
-use Prim.Native.Nat.{ℕ, zero, suc, _+_, _-_, _≤_, _<_}
-use native.Mathlib.Nat.{not-suc-le-zero, le-of-suc-le-suc, suc-inj, suc-ne-zero, suc-sub-suc}
+use Prim.Native.Nat.{ℕ, suc, _-_, _≤_, _<_}
+use native.Mathlib.Nat.{not-suc-le-zero, le-of-suc-le-suc, suc-sub-suc}
 use native.Mathlib.Omega.{arith}
-use lib.ListN.{length, take, drop, set, getD, replicate, length-take, length-drop, take-append-drop}
-use lib.Seq.{set-split, take-at, drop-at, length-take-le}
+use lib.ListN.{length, take, drop, set, replicate}
+use lib.Seq.{set-split}
 use Rattle.standard.specs.Bits.{high-first, reordered, xorInto}
 use Rattle.standard.specs.Rounds.{forward, backward}
 use Rattle.standard.specs.Sponge.{Variant, order, permutation, step, unstep, run, unrun}

@@ -4,11 +4,11 @@ use mathlib.Core.Bool.{Bool, true, false}
 use mathlib.Core.List.{List, [], _∷_, map, flatMap}
 use Prim.Native.Nat.{ℕ, suc, _-_, _/_}
 use lib.ListN.{length, getD, take, drop}
-use Rattle.standard.specs.Bits.{low-first, high-first, bitsOf, valueOf, bitsIn, pack, bytesFor}
+use Rattle.standard.specs.Bits.{high-first, bitsOf, valueOf}
 use Rattle.standard.specs.Field.{mul}
 use Rattle.standard.specs.Photon.{serial, aes}
 use Rattle.standard.specs.Spongent.{lCounters, goesTo}
-use Rattle.standard.specs.Sponge.{Variant, startState, messageBlocks, outputBlocks}
+use Rattle.standard.specs.Sponge.{startState, messageBlocks, outputBlocks}
 use Rattle.standard.specs.Variants.{variant, photon100, spongent88}
 use Rattle.standard.specs.LowestFreeBit.{lowestFreeBit}
 

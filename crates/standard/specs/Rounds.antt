@@ -1,7 +1,7 @@
 -- A permutation made of rounds, and the rounds taken back: one statement for both directions and both families.
 -- Assumes nothing.
 use mathlib.Core.Bool.{Bool, true, false}
-use mathlib.Core.List.{List, [], _∷_, foldl, reverse}
+use mathlib.Core.List.{List, foldl, reverse}
 use Prim.Native.Nat.{ℕ, zero, suc}
 
 -- the permutation itself, or its inverse

@@ -1,6 +1,6 @@
 -- The internal permutation of SPONGENT (5.3.4), for any state of t bits. Bit 0, the standard's rightmost, comes first.
 -- Assumes nothing.
-use mathlib.Core.Bool.{Bool, true, false, xor, cond}
+use mathlib.Core.Bool.{Bool, false, xor, cond}
 use mathlib.Core.List.{List, [], _∷_, _++_}
 use Prim.Native.Nat.{ℕ, zero, suc, _+_, _-_, _*_, _/_, _%_, _^_}
 use lib.ListN.{getD, set, replicate}

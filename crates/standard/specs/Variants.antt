@@ -8,7 +8,7 @@ use lib.Dec.{leb}
 use lib.ListN.{getD}
 use Rattle.standard.specs.Photon.{PhotonParameters, present, unpresent, aes, unaes}
 use Rattle.standard.specs.Spongent.{SpongentParameters}
-use Rattle.standard.specs.Sponge.{Family, photon, spongent, Variant}
+use Rattle.standard.specs.Sponge.{photon, spongent, Variant}
 
 -- Table 1; `unz` is no part of it (docs/DECISIONS.md, D-5)
 

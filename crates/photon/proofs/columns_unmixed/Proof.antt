@@ -2,7 +2,7 @@
 -- Assumes nothing.
 use mathlib.Core.Path.{ap, _∙_}
 use mathlib.Core.List.{reverse}
-use Prim.Native.Nat.{_-_, _^_}
+use Prim.Native.Nat.{_^_}
 use borrow.Author.Needs.{needs}
 use Rattle.standard.specs.Photon.{mixColumns, unmixColumns}
 use Rattle.photon.specs.Parameters.{photonOf}

@@ -1,6 +1,5 @@
 -- `photon::row_constants` meets its contract: its table holds the row constants of each variant.
 -- Assumes nothing.
-use Prim.Native.Nat.{_-_}
 use native.Mathlib.Omega.{arith}
 use borrow.Author.Needs.{needs}
 use Rattle.photon.proofs.ParametersOf.{ic-of}

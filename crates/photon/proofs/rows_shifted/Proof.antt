@@ -1,6 +1,5 @@
 -- `photon::rows_shifted` meets its contract.
 -- Assumes nothing.
-use Prim.Native.Nat.{_-_}
 use native.Mathlib.Omega.{arith}
 use borrow.Author.Needs.{needs}
 use Rattle.photon.specs.Parameters.{photonOf}

@@ -1,6 +1,5 @@
 -- `photon::size_of` meets its contract: its table holds the size of each variant.
 -- Assumes nothing.
-use Prim.Native.Nat.{_-_}
 use native.Mathlib.Omega.{arith}
 use borrow.Author.Needs.{needs}
 use Rattle.photon.proofs.ParametersOf.{number-of}

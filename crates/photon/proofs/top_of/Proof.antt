@@ -1,6 +1,6 @@
 -- `photon::top_of` meets its contract: its table holds the bound of a cell of each variant.
 -- Assumes nothing.
-use Prim.Native.Nat.{_-_, _^_}
+use Prim.Native.Nat.{_^_}
 use native.Mathlib.Omega.{arith}
 use borrow.Author.Needs.{needs}
 use Rattle.photon.proofs.ParametersOf.{number-of}

@@ -1,6 +1,5 @@
 -- `photon::turned` meets its contract.
 -- Assumes nothing.
-use Prim.Native.Nat.{_-_}
 use native.Mathlib.Omega.{arith}
 use borrow.Author.Needs.{needs}
 use Rattle.photon.proofs.Lanes.{lane-turned}

@@ -1,10 +1,10 @@
 -- `recover::between` meets its contract: the state before the place, and the one wanted there, xored. Assumes nothing.
-use mathlib.Core.Path.{_≡_, sym, ap, _∙_}
+use mathlib.Core.Path.{ap, _∙_}
 use mathlib.Core.Bool.{Bool}
 use mathlib.Core.List.{List}
-use Prim.Native.Nat.{ℕ, suc}
+use Prim.Native.Nat.{suc}
 use native.Mathlib.Omega.{arith}
-use lib.ListN.{length, take, drop}
+use lib.ListN.{take, drop}
 use Rattle.standard.specs.Rounds.{backward}
 use Rattle.standard.specs.Sponge.{startState, permutation, messageBlocks, run, unrun, stateIn}
 use Rattle.standard.specs.Variants.{variant}
@@ -14,7 +14,6 @@ use Rattle.arrays.proofs.Elements.{bytes-lt}
 use Rattle.sponge.specs.Layout.{stateBytes}
 use Rattle.sponge.proofs.States.{state-length, stored}
 use Rattle.recover.proofs.Runs.{unrun-ready, states-xored}
-use borrow.Author.Needs.{needs}
 use borrow.Author.Needs.{needs}
 use Rattle.recover.proofs.between.Statement.{statement}
 use Rattle.recover.proofs.between.Tie as tie

@@ -1,19 +1,18 @@
 -- `recover::block_at` meets its contract: the half bytes passed are those of the block. Assumes nothing.
-use mathlib.Core.Path.{_≡_, refl, sym, ap, ap₂, _∙_}
+use mathlib.Core.Path.{_≡_, sym, ap, ap₂, _∙_}
 use mathlib.Core.Bool.{Bool}
 use mathlib.Core.List.{List, [], _++_}
-use Prim.Native.Nat.{ℕ, _+_, _-_, _*_, _/_, _%_, _≤_, _<_}
-use native.Mathlib.Nat.{mul-le-mul-right, mul-le-mul-left, div-le-self}
+use Prim.Native.Nat.{ℕ, _+_, _-_, _*_, _/_, _≤_}
 use native.Mathlib.Omega.{arith}
 use lib.ListN.{length, take, getD}
 use lib.Seq.{length-take-le, take-all}
-use Rattle.standard.specs.Bits.{high-first, bitsOf, pack, unpack}
+use Rattle.standard.specs.Bits.{high-first, bitsOf, pack}
 use Rattle.standard.specs.Sponge.{messageBlocks}
 use Rattle.standard.specs.Variants.{variant}
 use Rattle.standard.proofs.BitLaws.{pack-none, take-pack}
-use Rattle.standard.proofs.Variants.{Bounds, bounds, lawful, message-block-count}
+use Rattle.standard.proofs.Variants.{bounds, lawful, message-block-count}
 use Rattle.sponge.proofs.SqueezeLaws.{held-again}
-use Rattle.recover.proofs.BlockHalves.{place-le, halfAt, half-lt, block-size, block-more, quarters}
+use Rattle.recover.proofs.BlockHalves.{place-le, half-lt, block-size, block-more, quarters}
 use Rattle.recover.proofs.block_at.Statement.{statement}
 use Rattle.recover.proofs.block_at.Tie as tie
 

@@ -1,11 +1,10 @@
 -- `recover::block_count` meets its contract: floor(8 L / r) + 1. Assumes nothing.
-use mathlib.Core.Path.{_≡_, sym, ap, _∙_}
+use mathlib.Core.Path.{sym, ap, _∙_}
 use Prim.Native.Nat.{ℕ, _+_, _*_, _/_}
 use native.Mathlib.Nat.{div-le-self}
 use native.Mathlib.Omega.{arith}
 use lib.ListN.{length}
 use Rattle.standard.proofs.Variants.{bounds, message-block-count}
-use borrow.Author.Needs.{needs}
 use borrow.Author.Needs.{needs}
 use Rattle.recover.proofs.block_count.Statement.{statement}
 use Rattle.recover.proofs.block_count.Tie as tie

@@ -1,6 +1,5 @@
 -- `recover::check` meets its contract: the checks in order. Assumes nothing.
 use mathlib.Core.Path.{sym, _∙_}
-use native.Mathlib.Omega.{arith}
 use borrow.Author.Tests.{lt-ltb, le-ltb, not-false}
 use borrow.Author.Needs.{needs}
 use Rattle.sponge.proofs.ImageLaws.{known-low, known-high}

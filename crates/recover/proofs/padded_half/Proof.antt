@@ -1,9 +1,6 @@
 -- `recover::padded_half` meets its contract: a half of a byte, the added bit, or nothing. Assumes nothing.
-use mathlib.Core.Path.{_≡_, sym, ap, _∙_}
-use Prim.Native.Nat.{ℕ, _*_, _/_, _%_}
 use native.Mathlib.Omega.{arith}
 use Rattle.recover.proofs.BlockHalves.{half-even, half-odd, half-one, half-past}
-use borrow.Author.Needs.{needs}
 use borrow.Author.Needs.{needs}
 use Rattle.recover.proofs.padded_half.Statement.{statement}
 use Rattle.recover.proofs.padded_half.Tie as tie

@@ -1,8 +1,8 @@
 -- `recover::run_to` meets its contract: the blocks passed have run through the state. Assumes nothing.
-use mathlib.Core.Path.{_≡_, sym, ap, _∙_}
-use Prim.Native.Nat.{ℕ, _+_, _-_, _≤_, _<_}
+use mathlib.Core.Path.{_≡_, ap, _∙_}
+use Prim.Native.Nat.{ℕ, _-_, _≤_}
 use native.Mathlib.Omega.{arith}
-use lib.ListN.{length, take}
+use lib.ListN.{take}
 use Rattle.standard.specs.Sponge.{startState, messageBlocks, run}
 use Rattle.standard.specs.Variants.{variant}
 use Rattle.sponge.specs.Layout.{stateBytes}

@@ -1,10 +1,9 @@
 -- `sponge::byte_of` meets its contract: one cell, or two. Assumes nothing.
-use mathlib.Core.Path.{_≡_, sym, ap, ap₂, _∙_, subst}
-use Prim.Native.Nat.{ℕ, _+_, _*_, _^_, _<_}
+use mathlib.Core.Path.{ap₂, _∙_}
+use Prim.Native.Nat.{ℕ, _+_, _*_, _^_}
 use native.Mathlib.Omega.{arith}
-use Rattle.standard.specs.Grid.{window, Small}
+use Rattle.standard.specs.Grid.{window}
 use Rattle.standard.proofs.Tab.{window-square, window-small}
-use Rattle.sponge.specs.Cells.{nth}
 use Rattle.sponge.proofs.CellLaws.{narrow}
 use Rattle.sponge.proofs.MatrixImage.{nth-lt-narrow, byte-narrow, byte-wide}
 use borrow.Author.Needs.{needs}

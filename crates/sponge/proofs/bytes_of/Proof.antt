@@ -1,9 +1,8 @@
 -- `sponge::bytes_of` meets its contract: the bytes passed are the packed ones. Assumes nothing.
 use mathlib.Core.Path.{_≡_, refl, sym, _∙_}
-use mathlib.Core.List.{List}
-use Prim.Native.Nat.{ℕ, _-_, _≤_, _<_}
+use Prim.Native.Nat.{_-_, _≤_}
 use native.Mathlib.Omega.{arith}
-use lib.ListN.{getD, length}
+use lib.ListN.{getD}
 use lib.Seq.{ext-getD}
 use Rattle.standard.specs.Bits.{high-first, pack}
 use Rattle.standard.specs.Grid.{window}

@@ -1,5 +1,5 @@
 -- `sponge::cell_at` meets its contract: row n / d, column n % d. Assumes nothing.
-use mathlib.Core.Path.{_≡_, sym, _∙_}
+use mathlib.Core.Path.{sym}
 use native.Mathlib.Omega.{arith}
 use Rattle.standard.proofs.Tab.{at-window, window-square}
 use Rattle.sponge.proofs.MatrixImage.{square-le, row-lt, col-lt, past}

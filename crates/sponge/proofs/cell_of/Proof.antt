@@ -1,7 +1,6 @@
 -- `sponge::cell_of` meets its contract: a byte, or one of its halves. Assumes nothing.
-use mathlib.Core.Path.{_≡_, sym, ap, _∙_, subst}
-use mathlib.Core.Logic.{⊎-elim}
-use Prim.Native.Nat.{ℕ, _/_, _%_}
+use mathlib.Core.Path.{sym, ap, _∙_}
+use Prim.Native.Nat.{ℕ}
 use native.Mathlib.Omega.{arith}
 use Rattle.arrays.proofs.Elements.{bytes-lt}
 use Rattle.sponge.specs.Cells.{cellIn}

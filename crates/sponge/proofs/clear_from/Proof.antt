@@ -1,8 +1,8 @@
 -- `sponge::clear_from` meets its contract: past the end, from a whole byte on, or from the middle of a byte on. Assumes nothing.
-use mathlib.Core.Path.{_≡_, sym, ap, _∙_}
+use mathlib.Core.Path.{sym, ap, _∙_}
 use mathlib.Core.Bool.{Bool, _&&_}
 use native.Mathlib.Omega.{arith}
-use Prim.Native.Nat.{_+_, _/_, _%_}
+use Prim.Native.Nat.{_+_, _/_}
 use lib.ListN.{drop, getD}
 use borrow.Author.Needs.{needs}
 use Rattle.standard.specs.Bits.{high-first, bitsIn}

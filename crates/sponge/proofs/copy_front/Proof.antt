@@ -1,11 +1,9 @@
 use Rattle.sponge.proofs.Front.{front-more}
-use mathlib.Core.Path.{_≡_, refl, sym, ap, _∙_}
-use mathlib.Core.List.{List, _++_, append-assoc}
-use Prim.Native.Nat.{ℕ, _+_, _-_, _≤_, _<_}
+use mathlib.Core.Path.{_≡_, refl, _∙_}
+use mathlib.Core.List.{_++_}
+use Prim.Native.Nat.{_-_, _≤_}
 use native.Mathlib.Omega.{arith}
-use native.Mathlib.Numerals.{add-one}
-use lib.ListN.{length, take, drop, set, getD, length-set}
-use lib.Seq.{paste-suc}
+use lib.ListN.{length, take, drop, length-set}
 use Rattle.sponge.proofs.copy_front.Statement.{statement}
 use Rattle.sponge.proofs.copy_front.Tie as tie
 

@@ -1,5 +1,5 @@
 -- `sponge::is_image` meets its contract: the length, then the spare bits. Assumes nothing.
-use mathlib.Core.Path.{_≡_, sym, ap, _∙_}
+use mathlib.Core.Path.{sym, ap, _∙_}
 use Prim.Native.Nat.{ℕ, _%_}
 use native.Mathlib.Omega.{arith}
 use lib.ListN.{drop}
@@ -7,7 +7,6 @@ use Rattle.standard.specs.Bits.{high-first, bitsIn}
 use Rattle.standard.proofs.Variants.{bounds}
 use Rattle.sponge.specs.Layout.{clear}
 use Rattle.sponge.proofs.ImageLaws.{not-length, by-spare}
-use borrow.Author.Needs.{needs}
 use borrow.Author.Needs.{needs}
 use Rattle.sponge.proofs.is_image.Statement.{statement}
 use Rattle.sponge.proofs.is_image.Tie as tie

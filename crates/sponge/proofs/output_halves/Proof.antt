@@ -1,6 +1,6 @@
 -- `sponge::output_halves` meets its contract: the table has the field of each variant, and 0 past the last.
 -- Assumes nothing.
-use mathlib.Core.Path.{_≡_, sym, ap}
+use mathlib.Core.Path.{sym, ap}
 use Prim.Native.Nat.{ℕ, _/_}
 use native.Mathlib.Omega.{arith}
 use lib.ListN.{List·getD-eq-default, List·getD-map}

@@ -1,12 +1,11 @@
 -- `sponge::permute_image` meets its contract: the checks in order, and the permuted state's image. Assumes nothing.
-use mathlib.Core.Path.{_≡_, sym, ap, _∙_}
+use mathlib.Core.Path.{sym, _∙_}
 use native.Mathlib.Omega.{arith}
 use borrow.Author.Tests.{not-true, not-false}
 use Rattle.standard.specs.Rounds.{direction}
 use Rattle.standard.proofs.Variants.{bounds}
 use Rattle.arrays.proofs.Elements.{bytes-lt}
 use Rattle.sponge.proofs.ImageLaws.{known-low, known-high, image-length, image-ready, left-unknown, left-bad, left-permuted}
-use borrow.Author.Needs.{needs}
 use borrow.Author.Needs.{needs}
 use Rattle.sponge.proofs.permute_image.Statement.{statement}
 use Rattle.sponge.proofs.permute_image.Tie as tie

@@ -3,7 +3,6 @@ use native.Mathlib.Omega.{arith}
 use Rattle.standard.specs.Rounds.{direction}
 use Rattle.sponge.proofs.States.{spongent-ready, spongent-state}
 use borrow.Author.Needs.{needs}
-use borrow.Author.Needs.{needs}
 use Rattle.sponge.proofs.permuted.Statement.{statement}
 use Rattle.sponge.proofs.permuted.Tie as tie
 

@@ -1,14 +1,12 @@
 -- `sponge::photon_permuted` meets its contract: read as a matrix, permuted, and written back. Assumes nothing.
-use mathlib.Core.Path.{_≡_, sym, ap, ap₂, _∙_, subst}
+use mathlib.Core.Path.{_≡_, sym, subst}
 use mathlib.Core.Logic.{_⊎_}
-use Prim.Native.Nat.{ℕ, _^_, _≤_, _<_}
+use Prim.Native.Nat.{ℕ, _^_}
 use native.Mathlib.Omega.{arith}
 use Rattle.standard.specs.Bits.{high-first, bitsIn, pack}
 use Rattle.standard.specs.Rounds.{direction}
 use Rattle.standard.specs.Grid.{window, Small}
-use Rattle.standard.specs.Photon.{photonRounds, matrixOf, bitsOfMatrix}
-use Rattle.standard.proofs.PhotonLaws.{Sound}
-use Rattle.photon.specs.Parameters.{photonOf}
+use Rattle.standard.specs.Photon.{matrixOf, bitsOfMatrix}
 use Rattle.photon.proofs.ParametersOf.{sound}
 use Rattle.sponge.proofs.States.{at-sizes, cell-widths, matrix-ready, rounds-ready, photon-state}
 use borrow.Author.Needs.{needs}

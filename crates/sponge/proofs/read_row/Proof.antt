@@ -1,8 +1,7 @@
 -- `sponge::read_row` meets its contract: the cells passed are read. Assumes nothing.
 use mathlib.Core.Path.{_≡_, refl}
-use Prim.Native.Nat.{ℕ, _+_, _-_, _≤_, _<_}
+use Prim.Native.Nat.{_+_, _-_, _≤_}
 use native.Mathlib.Omega.{arith}
-use lib.ListN.{getD}
 use Rattle.arrays.proofs.Upto.{Upto, upto-none, upto-more}
 use Rattle.sponge.specs.Cells.{cellIn}
 use Rattle.sponge.proofs.read_row.Statement.{statement}

@@ -1,10 +1,9 @@
 -- `sponge::squeezed_bytes` meets its contract: what is out and what the state still gives make the digest. Assumes nothing.
-use mathlib.Core.Path.{_≡_, refl, sym, ap, _∙_}
-use Prim.Native.Nat.{ℕ, _+_, _-_, _*_, _/_, _%_, _≤_, _<_}
+use mathlib.Core.Path.{_≡_, ap}
+use Prim.Native.Nat.{ℕ, _-_, _*_, _/_, _<_}
 use native.Mathlib.Omega.{arith}
-use lib.ListN.{length}
 use Rattle.standard.specs.Variants.{variant}
-use Rattle.standard.proofs.Variants.{Bounds, bounds}
+use Rattle.standard.proofs.Variants.{bounds}
 use Rattle.sponge.proofs.SqueezeLaws.{Squeezing, squeezing-start, squeezing-more, squeezing-last}
 use Rattle.sponge.proofs.squeezed_bytes.Statement.{statement}
 use Rattle.sponge.proofs.squeezed_bytes.Tie as tie

@@ -1,18 +1,15 @@
 -- `sponge::stepped` meets its contract: the block is xored in, and the permutation runs. Assumes nothing.
-use mathlib.Core.Path.{_≡_, sym, ap, _∙_}
+use mathlib.Core.Path.{ap, _∙_}
 use mathlib.Core.Bool.{Bool}
 use mathlib.Core.List.{List}
 use native.Mathlib.Omega.{arith}
-use lib.ListN.{length}
-use Rattle.standard.specs.Bits.{high-first, reordered, xorInto}
 use Rattle.standard.specs.Rounds.{forward}
-use Rattle.standard.specs.Sponge.{order, permutation, step, stateIn}
+use Rattle.standard.specs.Sponge.{permutation, step}
 use Rattle.standard.specs.Variants.{variant}
 use Rattle.standard.proofs.BitLaws.{length-xorInto}
 use Rattle.arrays.proofs.Elements.{bytes-lt}
-use Rattle.sponge.specs.Layout.{stateBytes, blockIn}
+use Rattle.sponge.specs.Layout.{stateBytes}
 use Rattle.sponge.proofs.States.{state-length, stored, stored-ready, taken}
-use borrow.Author.Needs.{needs}
 use borrow.Author.Needs.{needs}
 use Rattle.sponge.proofs.stepped.Statement.{statement}
 use Rattle.sponge.proofs.stepped.Tie as tie

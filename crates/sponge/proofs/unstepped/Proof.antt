@@ -1,5 +1,5 @@
 -- `sponge::unstepped` meets its contract: the permutation is taken back, and the block xored out. Assumes nothing.
-use mathlib.Core.Path.{_≡_, sym, ap, _∙_}
+use mathlib.Core.Path.{ap, _∙_}
 use mathlib.Core.Bool.{Bool}
 use mathlib.Core.List.{List}
 use native.Mathlib.Omega.{arith}
@@ -11,7 +11,6 @@ use Rattle.standard.proofs.Variants.{permutation-length}
 use Rattle.arrays.proofs.Elements.{bytes-lt}
 use Rattle.sponge.specs.Layout.{stateBytes, blockIn}
 use Rattle.sponge.proofs.States.{state-length, stored, stored-ready, taken}
-use borrow.Author.Needs.{needs}
 use borrow.Author.Needs.{needs}
 use Rattle.sponge.proofs.unstepped.Statement.{statement}
 use Rattle.sponge.proofs.unstepped.Tie as tie

@@ -3,13 +3,10 @@ use mathlib.Core.Path.{_≡_, refl, sym, ap, _∙_}
 use mathlib.Core.Bool.{Bool}
 use mathlib.Core.List.{List, _++_, append-nil}
 use mathlib.Core.Logic.{inl}
-use Prim.Native.Nat.{ℕ, _+_, _-_, _*_, _≤_, _<_}
+use Prim.Native.Nat.{ℕ, _+_, _-_, _*_, _≤_}
 use native.Mathlib.Omega.{arith}
-use lib.ListN.{length, take, length-append}
-use lib.Seq.{length-take-le}
+use lib.ListN.{take}
 use Rattle.standard.specs.Bits.{high-first, bitsOf, bitsIn, pack, unpack}
-use Rattle.standard.proofs.BitLaws.{length-unpack, length-bitsIn}
-use Rattle.sponge.specs.Cells.{cellIn}
 use Rattle.sponge.proofs.SqueezeLaws.{held-again, half-lt, front-half, fronted-length}
 use Rattle.sponge.proofs.with_front.Statement.{statement}
 use Rattle.sponge.proofs.with_front.Tie as tie

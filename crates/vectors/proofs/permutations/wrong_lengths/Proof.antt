@@ -2,7 +2,6 @@
 use native.Mathlib.Omega.{arith}
 use Rattle.standard.proofs.Variants.{bounds}
 use borrow.Author.Needs.{needs}
-use borrow.Author.Needs.{needs}
 use Rattle.vectors.proofs.permutations.wrong_lengths.Statement.{statement}
 use Rattle.vectors.proofs.permutations.wrong_lengths.Tie as tie
 
