@@ -1,7 +1,7 @@
 -- What owning an array by value tells: its length, and that each element is a value of its type.
 -- `c .good .N` of a parameter, and `.ok` of a call's result, are such facts.
 -- Assumes nothing.
-use mathlib.Core.Path.{_≡_, subst, sym}
+use mathlib.Core.Path.{subst, sym}
 use mathlib.Core.List.{List, [], _∷_}
 use Prim.Native.Nat.{ℕ, zero, suc, _<_}
 use native.Mathlib.Nat.{not-suc-le-zero, le-of-suc-le-suc}
@@ -23,9 +23,6 @@ each-at R z (x ∷ xs) (u ∷ us) s zero h = (u ∷ [], s .0)
 each-at R z (x ∷ xs) (u ∷ us) s (suc k) h = each-at R z xs us (s .1) k (le-of-suc-le-suc h)
 
 module _ (R : RattleType) (z : R .Denot) (n : ℕ) (xs : List (R .Denot)) (vs : List Val) (p : Is (Array R n) xs vs) where
-  pub array-length : length xs ≡ n
-  array-length = p .1 .0 .1
-
   pub element : (k : ℕ) → k < n → (us : List Val) × Is R (getD xs k z) us
   element k h = each-at R z xs (p .0) (p .1 .1) k (subst (λ (m : ℕ). k < m) (sym (p .1 .0 .1)) h)
 
@@ -38,11 +35,3 @@ each-bytes (x ∷ xs) (u ∷ us) h (suc i) = each-bytes xs us (h .1) i
 
 pub bytes-lt : (n : ℕ) (xs : List ℕ) (vs : List Val) → Is (Array (UInt w8) n) xs vs → (i : ℕ) → getD xs i 0 < 256
 bytes-lt n xs vs p i = each-bytes xs (p .0) (p .1 .1) i
-
--- [[u8; m]; n]
-module _ (n m : ℕ) (g : List (List ℕ)) (vs : List Val) (p : Is (Array (Array (UInt w8) m) n) g vs) where
-  pub row-length : (i : ℕ) → i < n → length (getD g i []) ≡ m
-  row-length i h = let q = element (Array (UInt w8) m) [] n g vs p i h in array-length (UInt w8) 0 m (getD g i []) (q .0) (q .1)
-
-  pub cell-lt : (i j : ℕ) → i < n → getD (getD g i []) j 0 < 256
-  cell-lt i j h = let q = element (Array (UInt w8) m) [] n g vs p i h in bytes-lt m (getD g i []) (q .0) (q .1) j

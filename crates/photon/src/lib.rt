@@ -24,8 +24,6 @@ use boxes::UNPRESENT;
 // The tables below have an entry for each variant, 1 to 5. A row of fewer than eight cells is filled with zeros.
 const SIZE: [usize; 5] = [5, 6, 7, 8, 6];
 
-const TOP: [u16; 5] = [16, 16, 16, 16, 256];
-
 const ROW: [[u8; 8]; 5] = [
     [0, 1, 3, 6, 4, 0, 0, 0],
     [0, 1, 3, 7, 6, 4, 0, 0],
@@ -54,14 +52,6 @@ pub fn size_of(v: usize) -> usize
     ensures { λ r. ⌜ r ≡ photonOf v .d ⌝ }
 {
     SIZE[v - 1]
-}
-
-// The bound of a cell: 2 to the number of its bits.
-pub fn top_of(v: usize) -> u16
-    requires { ⌜ (1 ≤ v) × (v ≤ 5) ⌝ }
-    ensures { λ r. ⌜ r ≡ 2 ^ photonOf v .s ⌝ }
-{
-    TOP[v - 1]
 }
 
 // The entries of a nibble's table, and zeros behind them: a table that any byte can index.
@@ -405,36 +395,8 @@ fn mixed_back(v: usize, g: [[u8; 8]; 8]) -> [[u8; 8]; 8]
     mix_columns(g, 6, 8, 0x11b, UNZ[1])
 }
 
-// AddConstants of a variant.
-pub fn constants_added(v: usize, g: [[u8; 8]; 8], rc: u8) -> [[u8; 8]; 8]
-    requires { ⌜ (1 ≤ v) × (v ≤ 5) ⌝ }
-    ensures { λ r. ⌜ window (photonOf v .d) r ≡ addConstants (photonOf v .d) rc (photonOf v .ic) (window (photonOf v .d) g) ⌝ }
-{
-    let ic = row_constants(v);
-    add_constants(g, rc, ic)
-}
-
-// SubCells of a variant, or its inverse.
-pub fn cells_substituted(v: usize, g: [[u8; 8]; 8], back: bool) -> [[u8; 8]; 8]
-    requires { ⌜ (1 ≤ v) × (v ≤ 5) ⌝ }
-    requires { ⌜ Small (photonOf v .d) (2 ^ photonOf v .s) g ⌝ }
-    ensures { λ r. ⌜ window (photonOf v .d) r ≡ subCells (photonOf v .d) (cond back (photonOf v .unbox) (photonOf v .box)) (window (photonOf v .d) g) ⌝ }
-{
-    let table = box_of(v, back);
-    sub_rows(&table, g)
-}
-
-// ShiftRows of a variant, or its inverse.
-pub fn rows_shifted(v: usize, g: [[u8; 8]; 8], back: bool) -> [[u8; 8]; 8]
-    requires { ⌜ (1 ≤ v) × (v ≤ 5) ⌝ }
-    ensures { λ r. ⌜ window (photonOf v .d) r ≡ shiftRows (photonOf v .d) (cond back (photonOf v .d - 1) 1) (window (photonOf v .d) g) ⌝ }
-{
-    let d = size_of(v);
-    shift_rows(g, d, back)
-}
-
 // MixColumnsSerial of a variant.
-pub fn columns_mixed(v: usize, g: [[u8; 8]; 8], back: bool) -> [[u8; 8]; 8]
+fn columns_mixed(v: usize, g: [[u8; 8]; 8], back: bool) -> [[u8; 8]; 8]
     requires { ⌜ (1 ≤ v) × (v ≤ 5) ⌝ }
     requires { ⌜ Small (photonOf v .d) (2 ^ photonOf v .s) g ⌝ }
     ensures { λ r. ⌜ window (photonOf v .d) r ≡ mixColumns (2 ^ photonOf v .s) (photonOf v .poly) (photonOf v .d) (cond back (photonOf v .unz) (photonOf v .z)) (window (photonOf v .d) g) ⌝ }
@@ -446,7 +408,7 @@ pub fn columns_mixed(v: usize, g: [[u8; 8]; 8], back: bool) -> [[u8; 8]; 8]
 }
 
 // The inverse of MixColumnsSerial: the same on the rows from the bottom up, with its own coefficients.
-pub fn columns_unmixed(v: usize, g: [[u8; 8]; 8]) -> [[u8; 8]; 8]
+fn columns_unmixed(v: usize, g: [[u8; 8]; 8]) -> [[u8; 8]; 8]
     requires { ⌜ (1 ≤ v) × (v ≤ 5) ⌝ }
     requires { ⌜ Small (photonOf v .d) (2 ^ photonOf v .s) g ⌝ }
     ensures { λ r. ⌜ window (photonOf v .d) r ≡ unmixColumns (2 ^ photonOf v .s) (photonOf v .poly) (photonOf v .d) (photonOf v .unz) (window (photonOf v .d) g) ⌝ }
@@ -485,19 +447,6 @@ fn round_with(
     let b = sub_rows(table, a);
     let s = shift_rows(b, d, false);
     columns_mixed(v, s, false)
-}
-
-// One round of a variant, or that round taken back.
-pub fn round_of(v: usize, g: [[u8; 8]; 8], rc: u8, back: bool) -> [[u8; 8]; 8]
-    requires { ⌜ (1 ≤ v) × (v ≤ 5) ⌝ }
-    requires { ⌜ Small (photonOf v .d) (2 ^ photonOf v .s) g ⌝ }
-    requires { ⌜ rc < 16 ⌝ }
-    ensures { λ r. ⌜ window (photonOf v .d) r ≡ photonRound (photonOf v) (direction back) (window (photonOf v .d) g) rc ⌝ }
-{
-    let d = size_of(v);
-    let ic = row_constants(v);
-    let table = box_of(v, back);
-    round_with(v, d, ic, &table, g, rc, back)
 }
 
 // The twelve rounds of a variant, or all of them taken back.

@@ -7,10 +7,10 @@ use Prim.Native.Nat.{ℕ, _-_, _≤_, _<_}
 use native.Mathlib.Omega.{arith}
 use lib.ListN.{length, getD, take, replicate}
 use Rattle.standard.specs.Bits.{low-first, bitsIn, pack, unpack}
-use Rattle.standard.specs.Rounds.{Direction, opposite, rounds}
+use Rattle.standard.specs.Rounds.{Direction, rounds}
 use Rattle.standard.specs.Spongent.{SpongentParameters, counters, lCounters, spongentRound, spongentPermutation}
-use Rattle.standard.proofs.BitLaws.{image-eq, length-unpack, unpack-pack}
-use Rattle.standard.proofs.SpongentLaws.{length-spongentPermutation, spongentPermutation-undo}
+use Rattle.standard.proofs.BitLaws.{image-eq, length-unpack}
+use Rattle.standard.proofs.SpongentLaws.{length-spongentPermutation}
 use Rattle.standard.proofs.SpongentVariants.{Sizes, quarters}
 use Rattle.spongent.specs.Parameters.{tapsOf}
 use Rattle.spongent.proofs.ParametersOf.{Tabled, stateBits, roundCounts, widths, firsts}
@@ -36,19 +36,3 @@ module _ (p : SpongentParameters) (i : ℕ) (z : Sizes p) (e : Tabled p i) where
       (er
       ∙ ap₂ (λ (t : ℕ) (ds : List ℕ). rounds (spongentRound t) w ds (take t (bitsIn low-first s)) ++ replicate (288 - t) false) (e .bits) ec
       ∙ ap (λ (m : ℕ). P ++ replicate (288 - m) false) (sym lp))
-
-module _ (p : SpongentParameters) (z : Sizes p) (w : Direction) (x : List Bool) (lx : length x ≡ p .t) where
-  pub unpack-permuted : unpack low-first (p .t) (pack low-first 36 (spongentPermutation p w x)) ≡ spongentPermutation p w x
-  unpack-permuted =
-      let most : p .t ≤ 288 = z .most in
-      let P : List Bool = spongentPermutation p w x in
-      let lp : length P ≡ p .t = length-spongentPermutation p (quarters z) w x lx in
-      ap (λ (m : ℕ). unpack low-first m (pack low-first 36 P)) (sym lp) ∙ unpack-pack low-first 36 P (omega arith)
-
-  pub permuted-image : pack low-first 36 (spongentPermutation p w x) ≡ pack low-first 36 (unpack low-first (p .t) (pack low-first 36 (spongentPermutation p w x)))
-  permuted-image = ap (pack low-first 36) (sym unpack-permuted)
-
-  pub permuted-undo : pack low-first 36 (spongentPermutation p (opposite w) (unpack low-first (p .t) (pack low-first 36 (spongentPermutation p w x)))) ≡ pack low-first 36 x
-  permuted-undo =
-      ap (λ (y : List Bool). pack low-first 36 (spongentPermutation p (opposite w) y)) unpack-permuted
-      ∙ ap (pack low-first 36) (spongentPermutation-undo p (quarters z) w x lx)

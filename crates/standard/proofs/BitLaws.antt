@@ -4,14 +4,14 @@ use mathlib.Core.Path.{_≡_, refl, sym, ap, ap₂, _∙_, subst}
 use mathlib.Core.Bool.{Bool, true, false, xor}
 use mathlib.Core.List.{List, [], _∷_, _++_, reverse, reverse-reverse, reverse-cons, reverse-append, append-assoc, append-nil}
 use Prim.Native.Nat.{ℕ, zero, suc, _+_, _-_, _*_, _/_, _%_, _^_, _≤_, _<_}
-use native.Mathlib.Nat.{le-of-suc-le-suc, not-suc-le-zero, zero-add, suc-add, pow-suc, mod-lt, div-add-mod', suc-inj, div-lt-iff-lt-mul, zero-lt-suc, div-one, div-div-eq-div-mul, pow-succ', mod-eq-of-lt, suc-ne-zero, mul-one, one-mul, div-eq-of-lt, mul-right-comm, mod-one, sub-zero, suc-sub-suc}
+use native.Mathlib.Nat.{le-of-suc-le-suc, not-suc-le-zero, zero-add, suc-add, pow-suc, div-add-mod', suc-inj, div-lt-iff-lt-mul, zero-lt-suc, div-one, div-div-eq-div-mul, pow-succ', mod-eq-of-lt, suc-ne-zero, mul-one, one-mul, div-eq-of-lt, mul-right-comm, mod-one, sub-zero, suc-sub-suc}
 use native.Mathlib.Omega.{arith}
 use native.Mathlib.Numerals.{add-one}
 use lib.ListN.{length, getD, take, drop, set, replicate, length-append, length-reverse, length-take, List·getD-append, replicate-append-replicate, take-append-drop}
-use lib.Seq.{take-at, drop-at, take-append-add, getD-append-add, set-append-left, getD-take, drop-nil, take-nil, drop-append-add, drop-drop, drop-length}
+use lib.Seq.{take-at, drop-at, take-append-add, getD-append-add, set-append-left, drop-nil, take-nil, drop-append-add, drop-drop, drop-length}
 use lib.Arith.{lt-one, digits-div, digits-mod, digits-lt, mod-mul}
 use lib.Bits.{bitXor, xor-step, differ, shifted-half, shifted-even}
-use lib.Pow.{shl-exact, pow-pos}
+use lib.Pow.{pow-pos}
 use Rattle.standard.specs.Bits.{Order, low-first, high-first, bit, digit, lowBits, lowValue, ordered, bitsOf, valueOf, bitsIn, unpack, filled, pack, xorInto}
 
 pub length-lowBits : (w n : ℕ) → length (lowBits w n) ≡ w
@@ -170,14 +170,6 @@ bitsIn-at o (b ∷ bs) (suc i) r hr hi =
     ap (λ (m : ℕ). getD (bitsOf o 8 b ++ bitsIn o bs) m false) (omega (arith, length-bitsOf o 8 b))
     ∙ getD-append-add (bitsOf o 8 b) (bitsIn o bs) (i * 8 + r) false
     ∙ bitsIn-at o bs i r hr (le-of-suc-le-suc hi)
-
-pub unpack-at : (o : Order) (t : ℕ) (bytes : List ℕ) (k : ℕ) → k < t → k < 8 * length bytes
-    → getD (unpack o t bytes) k false ≡ getD (bitsOf o 8 (getD bytes (k / 8) 0)) (k % 8) false
-unfolding unpack
-unpack-at o t bytes k ht hl =
-    getD-take t (bitsIn o bytes) k false ht
-    ∙ ap (λ (m : ℕ). getD (bitsIn o bytes) m false) (sym (div-add-mod' k 8))
-    ∙ bitsIn-at o bytes (k / 8) (k % 8) (omega arith) (omega arith)
 
 pub lowBits-at : (w n k : ℕ) → k < w → getD (lowBits w n) k false ≡ bit (n / 2 ^ k % 2)
 unfolding lowBits
@@ -349,29 +341,6 @@ xor-back true true = refl
 xor-back true false = refl
 xor-back false true = refl
 xor-back false false = refl
-
--- the byte n with bit r set to b: xor with the difference, shifted there
-pub lowBits-put : (n r b : ℕ) → r < 8 → b < 2
-    → lowBits 8 (bitXor n (bitXor (n / 2 ^ r) b % 2 * 2 ^ r % 256)) ≡ set (lowBits 8 n) r (bit b)
-lowBits-put n r b hr hb =
-    let d : ℕ = bitXor (n / 2 ^ r) b % 2 in
-    let hd : d < 2 = mod-lt (bitXor (n / 2 ^ r) b) (zero-lt-suc 1) in
-    ap (λ (x : ℕ). lowBits 8 (bitXor n x)) (shl-exact 1 r 8 hd (omega arith))
-    ∙ lowBits-xor 8 n (d * 2 ^ r)
-    ∙ ap (λ (m : ℕ). xorInto (lowBits 8 n) (lowBits m (d * 2 ^ r))) (sym (length-lowBits 8 n))
-    ∙ xorInto-one (lowBits 8 n) r d (rw (length-lowBits 8 n) hr) hd
-    ∙ ap (set (lowBits 8 n) r)
-    (ap₂ xor (lowBits-at 8 n r hr) (bit-xor (n / 2 ^ r) b ∙ ap (λ (x : ℕ). xor (bit (n / 2 ^ r % 2)) (bit x)) (mod-eq-of-lt hb))
-    ∙ xor-back (bit (n / 2 ^ r % 2)) (bit b))
-
-pub bitsIn-put : (bytes : List ℕ) (k b : ℕ) → b < 2
-    → bitsIn low-first (set bytes (k / 8) (bitXor (getD bytes (k / 8) 0) (bitXor (getD bytes (k / 8) 0 / 2 ^ (k % 8)) b % 2 * 2 ^ (k % 8) % 256)))
-    ≡ set (bitsIn low-first bytes) k (bit b)
-unfolding bitsOf ordered
-bitsIn-put bytes k b hb =
-    bitsIn-set low-first bytes (k / 8) (k % 8) (bitXor (getD bytes (k / 8) 0) (bitXor (getD bytes (k / 8) 0 / 2 ^ (k % 8)) b % 2 * 2 ^ (k % 8) % 256)) (bit b)
-    (omega arith) (lowBits-put (getD bytes (k / 8) 0) (k % 8) b (omega arith) hb)
-    ∙ ap (λ (m : ℕ). set (bitsIn low-first bytes) m (bit b)) (div-add-mod' k 8)
 
 -- ---- runs of bits
 
@@ -569,11 +538,6 @@ bitsIn-zeros o zero = refl
 bitsIn-zeros o (suc n) =
     ap₂ (λ (k l : List Bool). k ++ l) (zeros-byte o) (bitsIn-zeros o n)
     ∙ replicate-append-replicate 8 (8 * n) false ∙ ap (λ (k : ℕ). replicate k false) (suc-eight n)
-
-pub zeros-split : (n m : ℕ) → n ≤ m → replicate m false ≡ replicate n false ++ replicate (m - n) false
-zeros-split n m h =
-    let e : m ≡ n + (m - n) = omega arith in
-    ap (λ (k : ℕ). replicate k false) e ∙ sym (replicate-append-replicate n (m - n) false)
 
 zeros-packed : (o : Order) → valueOf o (filled 8 []) ≡ 0
 unfolding valueOf ordered lowValue filled

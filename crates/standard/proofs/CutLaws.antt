@@ -30,11 +30,6 @@ cut-at w (suc n) bs (suc k) h =
 pub cut-fits : (w n k m : ℕ) → k < n → n * w ≤ m → k * w + w ≤ m
 cut-fits w n k m h l = omega (arith, mul-le-mul-right {m = suc k} {n = n} w h, suc-mul k w)
 
-pub length-piece : (w n : ℕ) (bs : List Bool) (k : ℕ) → k < n → n * w ≤ length bs → length (getD (cut w n bs) k []) ≡ w
-length-piece w n bs k h l =
-    ap length (cut-at w n bs k h)
-    ∙ length-take-le w (drop (k * w) bs) (omega (arith, length-drop (k * w) bs, cut-fits w n k (length bs) h l))
-
 pub cut-add : (w m n : ℕ) (bs : List Bool) → cut w (m + n) bs ≡ cut w m bs ++ cut w n (drop (m * w) bs)
 unfolding cut
 cut-add w zero n bs = ap₂ (λ (k l : ℕ). cut w k (drop l bs)) (zero-add n) (sym (zero-mul w))

@@ -100,13 +100,6 @@ difference-back S B Z n l e =
 
 module _ (H : Variant) (h : Lawful H) (s : List Bool) (ls : length s ≡ H .t) (bs : List (List Bool)) (place : ℕ) (within : place < length bs)
     (e : List Bool) (le : length e ≡ H .t) where
-  -- the state just before the place, and the one that the block there has to make before the permutation runs
-  abbrev pub stateBefore : List Bool
-  stateBefore = run H s (take place bs)
-
-  abbrev pub stateWanted : List Bool
-  stateWanted = permutation H backward (unrun H e (drop (suc place) bs))
-
   pub before-length : length (run H s (take place bs)) ≡ H .t
   before-length = run-length H h (take place bs) s ls
 
