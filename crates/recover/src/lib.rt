@@ -123,16 +123,11 @@ fn between(v: u8, message: &[u8], place: usize, end: [u8; 36]) -> [u8; 36]
     sponge::xored(before, &wanted)
 }
 
-const BLOCK_BYTES: [usize; 11] = [0, 3, 2, 5, 4, 4, 1, 1, 2, 2, 2];
-
 // The bytes of a block.
 pub fn block_bytes(v: u8) -> usize
     ensures { λ r. ⌜ r ≡ blockSize (variant v) ⌝ }
 {
-    if 10 < v {
-        return 0;
-    }
-    BLOCK_BYTES[v as usize]
+    (sponge::block_bits(v) as usize + 7) / 8
 }
 
 // Refusals 1, 4, 7, 6, 5, for an output of n bytes.
