@@ -8,24 +8,32 @@ use Prim.Native.Nat.{ℕ, _+_, _≤_, _<_}
 use lib.ListN.{length}
 use borrow.Author.Tests.{lt-ltb, le-ltb}
 use Rattle.standard.specs.Bits.{high-first, bitsIn}
-use Rattle.standard.specs.Sponge.{startState, padded, wholeBlocks, run}
+use Rattle.standard.specs.Sponge.{padded, wholeBlocks, run}
 use Rattle.standard.specs.Variants.{variant, known}
 use Rattle.standard.proofs.Tests.{lt-or-le}
 use Rattle.sponge.specs.declared.Status.the-variants.{UnknownVariant, Malformed, WrongStage, TooLong}
 use Rattle.hasher.specs.declared.Hasher.{Hasher}
 use Rattle.hasher.specs.declared.Advanced.{Advanced}
 use Rattle.hasher.proofs.WellFormed.{either}
-use Rattle.hasher.specs.Running.{most, variantOf, closed, heldIn, stateOf, wellFormed, holding, refused, done, nothing, grown, started, updated, finished}
+use Rattle.hasher.specs.Running.{most, variantOf, closed, heldIn, stateOf, wellFormed, holding, refused, done, nothing, fresh, grown, startedOver, started, updated, finished}
 
 -- ---- start
 
+pub over-unknown : (h : Hasher) (v : ℕ) → known v ≡ false → startedOver h v ≡ refused UnknownVariant h
+unfolding startedOver
+over-unknown h v e = rw e
+
+pub over-known : (h : Hasher) (v : ℕ) → known v ≡ true → startedOver h v ≡ done (fresh v)
+unfolding startedOver
+over-known h v e = rw e
+
 pub start-unknown : (v : ℕ) → known v ≡ false → started v ≡ refused UnknownVariant nothing
 unfolding started
-start-unknown v e = rw e
+start-unknown v e = over-unknown nothing v e
 
-pub start-done : (v : ℕ) → known v ≡ true → started v ≡ done (holding v 0 0 (startState (variant v)) [])
+pub start-done : (v : ℕ) → known v ≡ true → started v ≡ done (fresh v)
 unfolding started
-start-done v e = rw e
+start-done v e = over-known nothing v e
 
 -- ---- finish and update
 

@@ -56,17 +56,21 @@ refused s h = record { status = s; hasher = h }
 abbrev pub done : Hasher → Advanced
 done h = record { status = Done; hasher = h }
 
--- what a refused start yields: variant 0, open, all else zero
-abbrev pub nothing : Hasher
-nothing = record { variant = 0; stage = 0; total = 0; state = replicate 36 0; held = replicate 5 0 }
-
 -- the running hash of no bytes yet
 abbrev pub fresh : ℕ → Hasher
 fresh v = holding v 0 0 (startState (variant v)) []
 
+-- Start over a running hash that is there: 1
+unfoldable pub startedOver : Hasher → ℕ → Advanced
+startedOver h v = cond (not (known v)) (refused UnknownVariant h) (done (fresh v))
+
+-- what a refused start yields where none is there: variant 0, open, all else zero
+abbrev pub nothing : Hasher
+nothing = record { variant = 0; stage = 0; total = 0; state = replicate 36 0; held = replicate 5 0 }
+
 -- Start: 1
 unfoldable pub started : ℕ → Advanced
-started v = cond (not (known v)) (refused UnknownVariant nothing) (done (fresh v))
+started = startedOver nothing
 
 -- the message goes on with these bits: the held bits and they together, their whole blocks run through the state, the rest held
 unfoldable pub grown : Hasher → ℕ → List Bool → Hasher

@@ -8,7 +8,7 @@ ghost use Rattle.standard.specs.Bits.{high-first, bitsOf, bitsIn, unpack};
 ghost use Rattle.standard.specs.Sponge.{stateIn};
 ghost use Rattle.standard.specs.Variants.{variant};
 ghost use Rattle.sponge.specs.Layout.{stateBytes, blockBytes};
-ghost use Rattle.hasher.specs.Running.{most, closed, heldCount, wellFormed, grown, started, updated, finished};
+ghost use Rattle.hasher.specs.Running.{most, closed, heldCount, wellFormed, grown, startedOver, started, updated, finished};
 ghost use Rattle.hasher.specs.Reading.{resultBytes, resultOf, readStatus, readInto, wholeStatus, wholeInto};
 use sponge::Status;
 
@@ -65,27 +65,19 @@ pub fn is_well_formed(h: Hasher) -> bool
     sponge::clear_from(&held, held_count(h))
 }
 
-// Refusal 1.
-pub fn start(variant: u8) -> Advanced
-    ensures { λ r. ⌜ r ≡ started variant ⌝ }
+// A start over a running hash that is there, which a refusal leaves: refusal 1.
+pub fn started_over(h: Hasher, variant: u8) -> Advanced
+    ensures { λ r. ⌜ r ≡ startedOver h variant ⌝ }
 {
-    let held = [0u8; 5];
     if !sponge::is_known(variant) {
-        let none = [0u8; 36];
-        let h = Hasher {
-            variant: 0,
-            stage: 0,
-            total: 0,
-            state: none,
-            held: held,
-        };
         return Advanced {
             status: Status::UnknownVariant,
             hasher: h,
         };
     }
     let state = sponge::start_bytes(variant);
-    let h = Hasher {
+    let held = [0u8; 5];
+    let fresh = Hasher {
         variant: variant,
         stage: 0,
         total: 0,
@@ -94,8 +86,24 @@ pub fn start(variant: u8) -> Advanced
     };
     Advanced {
         status: Status::Done,
-        hasher: h,
+        hasher: fresh,
     }
+}
+
+// Refusal 1, which yields variant 0.
+pub fn start(variant: u8) -> Advanced
+    ensures { λ r. ⌜ r ≡ started variant ⌝ }
+{
+    let state = [0u8; 36];
+    let none = [0u8; 5];
+    let nothing = Hasher {
+        variant: 0,
+        stage: 0,
+        total: 0,
+        state: state,
+        held: none,
+    };
+    started_over(nothing, variant)
 }
 
 // The byte x behind c held bits: at a whole byte, or from the middle of one on.

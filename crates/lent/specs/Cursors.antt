@@ -23,7 +23,7 @@ stepNumber (Refused s) = number s
 abbrev pub stays : Status → ℕ → Found
 stays s k = record { step = Refused s; next = k }
 
--- Step of the walker, at entry k: 9, 7. An entry is given, and the one behind it is next.
+-- A step at entry k: 9, 7. An entry is given, and the one behind it is next.
 unfoldable pub foundAt : List ℕ → ℕ → Found
 foundAt list k =
     cond (not (isList list)) (stays BadList k)

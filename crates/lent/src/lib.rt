@@ -2,32 +2,17 @@
 ghost use mathlib.Core.Path.{_≡_};
 ghost use mathlib.Core.Bool.{true, false};
 ghost use lib.ListN.{length};
-ghost use Rattle.hasher.specs.Running.{updated, finished};
+ghost use Rattle.hasher.specs.Running.{startedOver, updated, finished};
 ghost use Rattle.hasher.specs.Reading.{readStatus, readInto};
-ghost use Rattle.lent.specs.Starts.{startedOver};
 ghost use Rattle.lent.specs.Cursors.{stepNumber, foundAt, movedOn};
-use hasher::Advanced;
 use hasher::Hasher;
 use sponge::Status;
-
-// Refusal 1, which leaves the running hash that was there.
-fn started_over(h: Hasher, variant: u8) -> Advanced
-    ensures { λ r. ⌜ r ≡ startedOver h variant ⌝ }
-{
-    if !sponge::is_known(variant) {
-        return Advanced {
-            status: Status::UnknownVariant,
-            hasher: h,
-        };
-    }
-    hasher::start(variant)
-}
 
 // Refusal 1.
 pub fn start(h: &mut Hasher, variant: u8) -> Status
     ensures { λ r. ⌜ (r ≡ startedOver (now (h .entry)) variant .status) × (now (h .exit) ≡ startedOver (now (h .entry)) variant .hasher) ⌝ }
 {
-    let a = started_over(*h, variant);
+    let a = hasher::started_over(*h, variant);
     *h = a.hasher;
     a.status
 }

@@ -1,14 +1,16 @@
--- The parameters of PHOTON by a variant's number, 1 to 5.
+-- The parameters of PHOTON by a variant's number.
 -- Assumes nothing.
-use mathlib.Core.List.{List, [], _∷_}
-use Prim.Native.Nat.{ℕ, _-_}
-use lib.ListN.{getD}
+use mathlib.Core.List.{[]}
+use Prim.Native.Nat.{ℕ}
 use Rattle.standard.specs.Photon.{PhotonParameters}
-use Rattle.standard.specs.Variants.{photon100, photon144, photon196, photon256, photon288}
+use Rattle.standard.specs.Sponge.{Family, photon, spongent}
+use Rattle.standard.specs.Variants.{variant}
 
--- variants 1 to 5
-abbrev pub photons : List PhotonParameters
-photons = photon100 ∷ photon144 ∷ photon196 ∷ photon256 ∷ photon288 ∷ []
+-- the parameters of a family that is PHOTON; none of the other
+abbrev pub parametersIn : Family → PhotonParameters
+parametersIn (photon p) = p
+parametersIn (spongent p) = record { d = 0; s = 0; poly = 0; box = []; unbox = []; ic = []; z = []; unz = [] }
 
+-- the parameters of the variant v, 1 to 5
 unfoldable pub photonOf : ℕ → PhotonParameters
-photonOf v = getD photons (v - 1) photon100
+photonOf v = parametersIn (variant v .family)

@@ -14,7 +14,7 @@ use Rattle.hasher.specs.Running.{most}
 use Rattle.hasher.specs.Reading.{resultBytes, resultOf, written}
 use Rattle.segments.specs.Entries.{isList, entriesStatus, messageOf}
 
--- Mark of a sheet: 1; 9; entry by entry 10, then 11; 4; 5
+-- 1; 9; entry by entry 10, then 11; 4; 5
 unfoldable pub listStatus : ℕ → List ℕ → List ℕ → Bool → ℕ → Status
 listStatus v list buffer image n =
     cond (not (known v)) UnknownVariant

@@ -41,7 +41,7 @@ family-order v F e = ap orderOf e
 
 -- a cell of PHOTON has 4 or 8 bits, and the cells are the state
 pub cell-widths : (v : ℕ) → 1 ≤ v → v ≤ 5 → (photonOf v .s ≡ 4) ⊎ (photonOf v .s ≡ 8)
-unfolding photonOf
+unfolding photonOf variant
 cell-widths = one-to-five (λ v. (photonOf v .s ≡ 4) ⊎ (photonOf v .s ≡ 8)) (inl refl) (inl refl) (inl refl) (inl refl) (inr refl)
 
 state-cells : (v : ℕ) → 1 ≤ v → v ≤ 5 → photonOf v .d * photonOf v .d * photonOf v .s ≤ variant v .t

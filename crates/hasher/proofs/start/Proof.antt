@@ -1,33 +1,15 @@
--- `hasher::start` meets its contract: the start state's bytes, and none held. Assumes nothing.
-use mathlib.Core.Path.{sym, ap₂, _∙_}
-use mathlib.Core.List.{List}
-use Prim.Native.Nat.{ℕ}
+-- `hasher::start` meets its contract: a start over nothing. Assumes nothing.
 use borrow.Author.Needs.{needs}
-use borrow.Author.Tests.{not-true, not-false}
-use Rattle.standard.specs.Bits.{high-first}
-use Rattle.standard.proofs.BitLaws.{pack-none}
-use Rattle.sponge.proofs.ImageLaws.{known-low, known-high}
-use Rattle.hasher.specs.Running.{done}
-use Rattle.hasher.proofs.Ladders.{start-unknown, start-done}
+use Rattle.hasher.specs.Running.{started}
 use Rattle.hasher.proofs.start.Statement.{statement}
 use Rattle.hasher.proofs.start.Tie as tie
 
-is-known-requires : tie.Need-is-known-requires
-is-known-requires c κs = search needs
+started-over-requires : tie.Need-started-over-requires
+started-over-requires c κs = search needs
 
 returns : tie.Need-returns
-returns c = sym (start-unknown (c .before .before .args .variant) (sym (c .before .is-known .ensures) ∙ not-true _ (c .if1 .taken)))
-
-start-bytes-requires : tie.Need-start-bytes-requires
-start-bytes-requires c κs =
-    let k = sym (c .before .is-known .ensures) ∙ not-false _ (c .if1 .left) in
-    (known-low (c .before .before .args .variant) k, known-high (c .before .before .args .variant) k)
-
-returns-2 : tie.Need-returns-2
-returns-2 c =
-    let v = c .before .before .before .args .variant in
-    ap₂ (λ (s b : List ℕ). done (record { variant = v; stage = 0; total = 0; state = s; held = b })) (c .start-bytes .ensures) (sym (pack-none high-first 5))
-    ∙ sym (start-done v (sym (c .before .before .is-known .ensures) ∙ not-false _ (c .before .if1 .left)))
+unfolding started
+returns c = c .started-over .ensures
 
 pub start-spec : {M : Type 1} → statement M
-start-spec = tie.close (tie.spec is-known-requires returns start-bytes-requires returns-2)
+start-spec = tie.close (tie.spec started-over-requires returns)

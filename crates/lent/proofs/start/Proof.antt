@@ -1,11 +1,11 @@
--- `lent::start` meets its contract: `started_over` on what is lent. Assumes nothing.
+-- `lent::start` meets its contract: `hasher::started_over` on what is lent. Assumes nothing.
 use contract.Running.{givenOf, tables, tablesOf}
 use denote.Triple.Spec.{tripleOf}
 use denote.Triple.Table.{entered, cited}
-use Rattle.lent.specs.Starts.{startedOver}
-use Rattle.lent.proofs.started_over.Symbol as callee-def
-use Rattle.lent.proofs.started_over.Symbol.{name as #lent·started-over}
-use Rattle.lent.proofs.started_over.Met as callee-thm
+use Rattle.hasher.specs.Running.{startedOver}
+use Rattle.hasher.proofs.started_over.Symbol as callee-def
+use Rattle.hasher.proofs.started_over.Symbol.{name as #hasher·started-over}
+use Rattle.hasher.proofs.started_over.Met as callee-thm
 use Rattle.lent.proofs.Beside.{byte}
 use Rattle.lent.proofs.Advances.{ByValue, advance-meets}
 use Rattle.lent.proofs.start.Key.{name as #lent·start}
@@ -18,5 +18,5 @@ unfolding code.routine tablesOf
 start-spec 𝓤 H 𝓜 𝓖 𝓡 =
     entered 𝓤 H (tripleOf 𝓤 H (𝓖 .A) self.signature (self.spec 𝓤 H (𝓖 .A) (𝓜 .mem) (𝓡 .run)))
     (tables 𝓤 H 𝓜 𝓡 code.env .C) (tables 𝓤 H 𝓜 𝓡 code.env .Λ) #lent·start code.function (code.unfolded 𝓤 H 𝓜 𝓡)
-    (advance-meets byte startedOver #lent·started-over 𝓤 H (𝓖 .A) (givenOf 𝓤 H 𝓜 𝓖) (tablesOf 𝓤 H 𝓜 (tables 𝓤 H 𝓜 𝓡 code.env))
-    (λ κ. cited 𝓤 H (ByValue byte startedOver 𝓤 H (𝓖 .A) κ) 𝓜 𝓡 code.env #lent·started-over callee-def.routine code.calls-lent·started-over (callee-thm.met 𝓤 H 𝓜 𝓖 𝓡)))
+    (advance-meets byte startedOver #hasher·started-over 𝓤 H (𝓖 .A) (givenOf 𝓤 H 𝓜 𝓖) (tablesOf 𝓤 H 𝓜 (tables 𝓤 H 𝓜 𝓡 code.env))
+    (λ κ. cited 𝓤 H (ByValue byte startedOver 𝓤 H (𝓖 .A) κ) 𝓜 𝓡 code.env #hasher·started-over callee-def.routine code.calls-hasher·started-over (callee-thm.met 𝓤 H 𝓜 𝓖 𝓡)))

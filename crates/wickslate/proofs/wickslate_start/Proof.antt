@@ -5,7 +5,7 @@ use denote.Triple.Table.{entered, cited}
 use Rattle.sponge.proofs.number_of.Symbol as number-def
 use Rattle.sponge.proofs.number_of.Symbol.{name as #sponge·number-of}
 use Rattle.sponge.proofs.number_of.Met as number-thm
-use Rattle.lent.specs.Starts.{startedOver}
+use Rattle.hasher.specs.Running.{startedOver}
 use Rattle.lent.proofs.start.Symbol as callee-def
 use Rattle.lent.proofs.start.Symbol.{name as #lent·start}
 use Rattle.lent.proofs.start.Met as callee-thm
