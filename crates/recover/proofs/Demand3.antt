@@ -26,7 +26,7 @@ use Rattle.sponge.proofs.ImageLaws.{image-length}
 use Rattle.recover.specs.Leading.{endStateWith, leading, NoneLeads, OnlyLeads}
 use Rattle.recover.specs.Recovering.{isEmpty, blockSize, askedStatus, recoverStatus, recoveredBlock}
 use Rattle.recover.proofs.LeadingLaws.{difference-length, leading-none, leading-one, leads-same, leads-short, only}
-use Rattle.recover.proofs.RecoverLaws.{Asked, passing, decided}
+use Rattle.recover.proofs.RecoverLaws.{Asked, checks-passed, decided}
 
 apart : true ≡ false → ⊥
 apart w = let n : _≡_ {A = ℕ} 0 1 = cc in omega arith
@@ -93,7 +93,7 @@ module _ (v : ℕ) (m : List ℕ) (place : ℕ) (image : List ℕ) (n : ℕ) (as
   S = stateIn (variant v) image
 
   a : Asked v m place image n
-  a = passing v m place image n asked
+  a = checks-passed v m place image n asked
 
   lS : length S ≡ K .t
   unfolding stateIn

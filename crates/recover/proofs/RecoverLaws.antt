@@ -44,9 +44,9 @@ pub record Asked (v : ℕ) (m : List ℕ) (place : ℕ) (image : List ℕ) (n : 
   pub good : isImage (variant v) image ≡ true
   pub long : blockSize (variant v) ≤ n
 
-pub passing : (v : ℕ) (m : List ℕ) (place : ℕ) (image : List ℕ) (n : ℕ) → askedStatus v m place image n ≡ Done → Asked v m place image n
+pub checks-passed : (v : ℕ) (m : List ℕ) (place : ℕ) (image : List ℕ) (n : ℕ) → askedStatus v m place image n ≡ Done → Asked v m place image n
 unfolding askedStatus
-passing v m place image n e =
+checks-passed v m place image n e =
     let a = passed (not (known v)) UnknownVariant _ (not-done _ (λ z. omega arith)) e in
     let b = passed (ltb most (length m)) TooLong _ (not-done _ (λ z. omega arith)) (a .1) in
     let c = passed (not (ltb place (length (messageBlocks (variant v) m)))) OutOfRange _ (not-done _ (λ z. omega arith)) (b .1) in
@@ -166,7 +166,7 @@ module _ (v : ℕ) (m : List ℕ) (place : ℕ) (image out : List ℕ) where
   -- from what the code has read and found: x is the image at the front of 36 bytes, y the difference of the two states
   module _ (e : askedStatus v m place image (length out) ≡ Done) (x : List ℕ) (hx : (i : ℕ) → getD x i 0 < 256) (ex : x ≡ image ++ replicate (36 - length image) 0) where
     facts : Asked v m place image (length out)
-    facts = passing v m place image (length out) e
+    facts = checks-passed v m place image (length out) e
 
     abbrev K : Variant
     K = variant v

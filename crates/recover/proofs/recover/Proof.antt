@@ -12,7 +12,7 @@ use Rattle.arrays.proofs.Elements.{bytes-lt}
 use Rattle.sponge.specs.Layout.{clear}
 use Rattle.sponge.proofs.Answers.{tag-refused}
 use Rattle.sponge.proofs.ImageLaws.{image-length}
-use Rattle.recover.proofs.RecoverLaws.{passing, ready, left-refused, left-none, left-found}
+use Rattle.recover.proofs.RecoverLaws.{checks-passed, ready, left-refused, left-none, left-found}
 use Rattle.recover.proofs.recover.Statement.{statement}
 use Rattle.recover.proofs.recover.Tie as tie
 
@@ -31,14 +31,14 @@ returns c =
 at-front-requires : tie.Need-at-front-requires
 at-front-requires c κs =
     let a = c .before .before .before .before .before .before .args in
-    let w = passing (a .variant) (a .message .now) (a .place) (a .image .now) (length (a .out .now)) (sym (c .before .before .check .ensures) ∙ c .enum-told .given .1) in
+    let w = checks-passed (a .variant) (a .message .now) (a .place) (a .image .now) (length (a .out .now)) (sym (c .before .before .check .ensures) ∙ c .enum-told .given .1) in
     omega (arith, image-length (a .variant) (w .low) (w .high) (a .image .now) (w .good), bounds (a .variant) (w .low) (w .high) .image-most)
 
 between-requires : tie.Need-between-requires
 between-requires c κs =
     let a = c .before .before .before .before .before .before .before .args in
     let told = sym (c .before .before .before .check .ensures) ∙ c .before .enum-told .given .1 in
-    let w = passing (a .variant) (a .message .now) (a .place) (a .image .now) (length (a .out .now)) told in
+    let w = checks-passed (a .variant) (a .message .now) (a .place) (a .image .now) (length (a .out .now)) told in
     let x = c .at-front in
     ((w .low, w .high), (w .short, (w .within, ready (a .variant) (a .message .now) (a .place) (a .image .now) (a .out .now) told (x .result) (bytes-lt 36 (x .result) _ (x .ok)) (x .ensures))))
 
@@ -54,7 +54,7 @@ cast-clear-from c = search needs
 clear-from-requires : tie.Need-clear-from-requires
 clear-from-requires c κs =
     let a = c .before .before .before .before .before .before .before .before .before .before .args in
-    let w = passing (a .variant) (a .message .now) (a .place) (a .image .now) (length (a .out .now)) (sym (c .before .before .before .before .before .before .check .ensures) ∙ c .before .before .before .before .enum-told .given .1) in
+    let w = checks-passed (a .variant) (a .message .now) (a .place) (a .image .now) (length (a .out .now)) (sym (c .before .before .before .before .before .before .check .ensures) ∙ c .before .before .before .before .enum-told .given .1) in
     ap (λ (n : ℕ). n % 4) (c .block-bits .ensures) ∙ bounds (a .variant) (w .low) (w .high) .rate-quarters
 
 returns-2 : tie.Need-returns-2
@@ -75,7 +75,7 @@ block-bytes-requires c κs = search needs
 copy-front-requires : tie.Need-copy-front-requires
 copy-front-requires c κs =
     let a = c .before .before .before .before .before .before .before .before .before .before .before .before .before .before .before .args in
-    let w = passing (a .variant) (a .message .now) (a .place) (a .image .now) (length (a .out .now)) (sym (c .before .before .before .before .before .before .before .before .before .before .before .check .ensures) ∙ c .before .before .before .before .before .before .before .before .before .enum-told .given .1) in
+    let w = checks-passed (a .variant) (a .message .now) (a .place) (a .image .now) (length (a .out .now)) (sym (c .before .before .before .before .before .before .before .before .before .before .before .check .ensures) ∙ c .before .before .before .before .before .before .before .before .before .enum-told .given .1) in
     (omega (arith, c .before .block-bytes .ensures, bounds (a .variant) (w .low) (w .high) .rate-most), omega (arith, c .before .block-bytes .ensures, w .long))
 
 same-length : tie.Need-same-length
