@@ -1,0 +1,5 @@
+-- The definitions that the contracts of all crates cite for what a call answers.
+pub mod Refusals
+pub mod Checks
+pub mod Outputs
+pub mod Numbers

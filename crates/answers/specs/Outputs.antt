@@ -1,0 +1,20 @@
+-- What a call leaves behind: the new value where it is Done, the old one where it is refused; and the limit of a message.
+-- Assumes nothing.
+use mathlib.Core.List.{List, _++_}
+use Prim.Native.Nat.{ℕ}
+use lib.ListN.{length, drop}
+use Rattle.answers.specs.declared.Status.{Status}
+use Rattle.answers.specs.declared.Status.the-variants.{Done, Refused}
+
+-- the new value where the answer is Done, and the old one where it is a refusal
+abbrev pub whenDone : {A : Type 0} → Status → A → A → A
+whenDone Done new old = new
+whenDone (Refused r) new old = old
+
+-- the result over the front of the caller's output; bytes past it stay, and all of them where the call is refused
+abbrev pub written : Status → List ℕ → List ℕ → List ℕ
+written s result out = whenDone s (result ++ drop (length result) out) out
+
+-- the most bytes that a message may have
+abbrev pub most : ℕ
+most = 16777215

@@ -1,0 +1,99 @@
+// What a call answers: Done, or the one refusal whose condition holds and whose earlier checks passed; and numbers in bytes.
+ghost use mathlib.Core.Path.{_≡_};
+ghost use Prim.Native.Nat.{_+_, _*_, _<_, _≤_};
+ghost use lib.ListN.{length, take, drop};
+ghost use Rattle.answers.specs.Refusals.{number, entry, answer};
+ghost use Rattle.answers.specs.Numbers.{bigEndian};
+
+// The most bytes that a message may have.
+pub const MOST: usize = 16777215;
+
+// Why a call was refused. The last two name the entry of a list that they are about.
+pub enum Refusal {
+    UnknownVariant,
+    Malformed,
+    WrongStage,
+    TooLong,
+    OutputTooShort,
+    BadImage,
+    OutOfRange,
+    NoBlock,
+    BadList,
+    Misordered(u16),
+    PastEnd(u16),
+}
+
+pub enum Status {
+    Done,
+    Refused(Refusal),
+}
+
+// The number of a refusal, from 1 on.
+pub fn number_of(r: Refusal) -> u8
+    ensures { λ n. ⌜ n ≡ number r ⌝ }
+{
+    match r {
+        Refusal::UnknownVariant => 1,
+        Refusal::Malformed => 2,
+        Refusal::WrongStage => 3,
+        Refusal::TooLong => 4,
+        Refusal::OutputTooShort => 5,
+        Refusal::BadImage => 6,
+        Refusal::OutOfRange => 7,
+        Refusal::NoBlock => 8,
+        Refusal::BadList => 9,
+        Refusal::Misordered(_) => 10,
+        Refusal::PastEnd(_) => 11,
+    }
+}
+
+// The entry that a refusal names, 0 where it names none.
+pub fn entry_of(r: Refusal) -> u16
+    ensures { λ k. ⌜ k ≡ entry r ⌝ }
+{
+    match r {
+        Refusal::UnknownVariant => 0,
+        Refusal::Malformed => 0,
+        Refusal::WrongStage => 0,
+        Refusal::TooLong => 0,
+        Refusal::OutputTooShort => 0,
+        Refusal::BadImage => 0,
+        Refusal::OutOfRange => 0,
+        Refusal::NoBlock => 0,
+        Refusal::BadList => 0,
+        Refusal::Misordered(k) => k,
+        Refusal::PastEnd(k) => k,
+    }
+}
+
+// The number of a refusal in the low byte, and the entry that it names above it.
+fn refusal_answer(r: Refusal) -> u32
+    ensures { λ n. ⌜ n ≡ number r + 256 * entry r ⌝ }
+{
+    (number_of(r) as u32) + 256 * (entry_of(r) as u32)
+}
+
+// The answer as one number, 0 for Done.
+pub fn answer_of(s: Status) -> u32
+    ensures { λ n. ⌜ n ≡ answer s ⌝ }
+{
+    match s {
+        Status::Done => 0,
+        Status::Refused(r) => refusal_answer(r),
+    }
+}
+
+fn wide(b: u8) -> u32
+    ensures { λ r. ⌜ (r ≡ b) × (r < 256) ⌝ }
+{
+    b as u32
+}
+
+// The number that the four bytes from i on stand for, the first the most significant.
+pub fn u32_at(bytes: &[u8], i: usize) -> u32
+    requires { ⌜ i + 4 ≤ length (now bytes) ⌝ }
+    ensures { λ r. ⌜ r ≡ bigEndian (take 4 (drop i (now (bytes .entry)))) ⌝ }
+{
+    ((wide(bytes[i]) * 256 + wide(bytes[i + 1])) * 256 + wide(bytes[i + 2])) * 256
+        + wide(bytes[i + 3])
+}
