@@ -1,15 +1,16 @@
 -- The field's laws: its products are cells, and are linear in the second factor; so is a sum of products.
 -- Assumes nothing.
-use mathlib.Core.Path.{_≡_, refl, sym, ap, ap₂, _∙_, subst}
+use mathlib.Core.Path.{_≡_, refl, sym, ap, _∙_}
 use mathlib.Core.Bool.{Bool, true, false, not, cond}
 use mathlib.Core.List.{List, [], _∷_, _++_, reverse, reverse-cons, reverse-reverse}
 use Prim.Native.Nat.{ℕ, zero, suc, _+_, _-_, _*_, _/_, _%_, _^_, _≤_, _<_}
-use native.Mathlib.Nat.{zero-mul, zero-add, suc-ne-zero, suc-inj, pow-suc, div-lt-iff-lt-mul, zero-lt-suc}
+use native.Mathlib.Nat.{zero-mul, zero-add, suc-ne-zero, suc-inj}
 use native.Mathlib.Omega.{arith}
+use native.Mathlib.Numerals.{add-one}
 use lib.Arith.{lt-one}
 use lib.Dec.{ltb, eqb}
 use lib.Bits.{bitXor, xor-lt, xor-block, xor-zero-l, xor-zero-r, xor-self, xor-comm}
-use lib.Pow.{pow-pos}
+use lib.Pow.{pow-pos, shr-lt}
 use lib.ListN.{length, length-reverse}
 use borrow.Author.Tests.{ltb-true, ltb-false, lt-ltb, le-ltb}
 use Rattle.standard.specs.Field.{double, times, mul, dot}
@@ -34,17 +35,13 @@ module _ (s poly : ℕ) (low : 2 ^ s ≤ poly) (high : poly < 2 ^ s * 2) where
 
   both-over : (x y : ℕ) → 2 ^ s ≤ x → x < 2 ^ s * 2 → 2 ^ s ≤ y → y < 2 ^ s * 2 → bitXor x y < 2 ^ s
   both-over x y lx hx ly hy =
-      subst (λ (v : ℕ). v < 2 ^ s)
-      (sym
-      (ap₂ bitXor (top-bit x lx) (top-bit y ly) ∙ xor-block s 1 1 (x - 2 ^ s) (y - 2 ^ s) (omega arith) (omega arith)
-      ∙ ap (λ (v : ℕ). v + bitXor (x - 2 ^ s) (y - 2 ^ s)) (zero-mul (2 ^ s)) ∙ zero-add (bitXor (x - 2 ^ s) (y - 2 ^ s))))
-      (xor-lt s (x - 2 ^ s) (y - 2 ^ s) (omega arith) (omega arith))
+      let block = xor-block s 1 1 (x - 2 ^ s) (y - 2 ^ s) (omega arith) (omega arith) in
+      rw (top-bit x lx, top-bit y ly, block, zero-mul, zero-add) (xor-lt s (x - 2 ^ s) (y - 2 ^ s) (omega arith) (omega arith))
 
   one-over : (x y : ℕ) → x < 2 ^ s → 2 ^ s ≤ y → y < 2 ^ s * 2 → 2 ^ s ≤ bitXor x y
   one-over x y hx ly hy =
-      let below : x ≡ 0 * 2 ^ s + x = sym (ap (λ (v : ℕ). v + x) (zero-mul (2 ^ s)) ∙ zero-add x) in
-      let e : bitXor x y ≡ 1 * 2 ^ s + bitXor x (y - 2 ^ s) = ap₂ bitXor below (top-bit y ly) ∙ xor-block s 0 1 x (y - 2 ^ s) hx (omega arith) in
-      omega arith
+      let e : bitXor (0 * 2 ^ s + x) (1 * 2 ^ s + (y - 2 ^ s)) ≡ 1 * 2 ^ s + bitXor x (y - 2 ^ s) = xor-block s 0 1 x (y - 2 ^ s) hx (omega arith) in
+      omega (arith, rw (← top-bit y ly, zero-mul, zero-add) at e)
 
   fits-xor : (x y : ℕ) → x < 2 ^ s * 2 → y < 2 ^ s * 2 → (a b : Bool) → ltb x (2 ^ s) ≡ a → ltb y (2 ^ s) ≡ b → ltb (bitXor x y) (2 ^ s) ≡ agree a b
   fits-xor x y hx hy true true e f = lt-ltb (bitXor x y) (2 ^ s) (xor-lt s x y (ltb-true x (2 ^ s) e) (ltb-true y (2 ^ s) f))
@@ -76,12 +73,7 @@ module _ (s poly : ℕ) (low : 2 ^ s ≤ poly) (high : poly < 2 ^ s * 2) where
   double-xor x y hx hy =
       let a : Bool = ltb (x * 2) (2 ^ s) in
       let b : Bool = ltb (y * 2) (2 ^ s) in
-      double-carry (bitXor x y)
-      ∙ ap (λ (v : ℕ). bitXor v (carry (ltb v (2 ^ s)))) (xor-double x y)
-      ∙ ap (λ (v : ℕ). bitXor (bitXor (x * 2) (y * 2)) v)
-      (ap carry (fits-xor (x * 2) (y * 2) (omega arith) (omega arith) a b refl refl) ∙ carry-xor a b)
-      ∙ xor-exchange (x * 2) (y * 2) (carry a) (carry b)
-      ∙ ap₂ bitXor (sym (double-carry x)) (sym (double-carry y))
+      rw (double-carry (bitXor x y), xor-double, fits-xor (x * 2) (y * 2) (omega arith) (omega arith) a b refl refl, carry-xor a b, xor-exchange, ← double-carry x, ← double-carry y)
 
   pub double-lt : (x : ℕ) → x < 2 ^ s → double (2 ^ s) poly x < 2 ^ s
   unfolding double
@@ -112,12 +104,7 @@ module _ (s poly : ℕ) (low : 2 ^ s ≤ poly) (high : poly < 2 ^ s * 2) where
   unfolding times
   times-xor zero a x y hx hy = refl
   times-xor (suc n) a x y hx hy =
-      let b : Bool = eqb (a % 2) 1 in
-      let u : ℕ = double (2 ^ s) poly x in
-      let v : ℕ = double (2 ^ s) poly y in
-      ap₂ bitXor (cond-xor b x y)
-      (ap (times (2 ^ s) poly n (a / 2)) (double-xor x y hx hy) ∙ times-xor n (a / 2) u v (double-lt x hx) (double-lt y hy))
-      ∙ xor-exchange (cond b x 0) (cond b y 0) (times (2 ^ s) poly n (a / 2) u) (times (2 ^ s) poly n (a / 2) v)
+      rw (cond-xor (eqb (a % 2) 1) x y, double-xor x y hx hy, times-xor n (a / 2) _ _ (double-lt x hx) (double-lt y hy), xor-exchange (cond (eqb (a % 2) 1) x 0) (cond (eqb (a % 2) 1) y 0))
 
   pub mul-xor : (a x y : ℕ) → x < 2 ^ s → y < 2 ^ s → mul (2 ^ s) poly a (bitXor x y) ≡ bitXor (mul (2 ^ s) poly a x) (mul (2 ^ s) poly a y)
   unfolding mul
@@ -142,8 +129,7 @@ module _ (s poly : ℕ) (low : 2 ^ s ≤ poly) (high : poly < 2 ^ s * 2) where
   times-double (suc n) a x h =
       let b : Bool = eqb (a % 2) 1 in
       let y : ℕ = double (2 ^ s) poly x in
-      ap₂ bitXor (sym (double-cond b x)) (times-double n (a / 2) y (double-lt x h))
-      ∙ sym (double-xor (cond b x 0) (times (2 ^ s) poly n (a / 2) y) (cond-lt b x 0 (2 ^ s) h (pow-pos s)) (times-lt n (a / 2) y (double-lt x h)))
+      rw (← double-cond b x, times-double n (a / 2) y (double-lt x h), double-xor (cond b x 0) _ (cond-lt b x 0 (2 ^ s) h (pow-pos s)) (times-lt n (a / 2) y (double-lt x h)))
 
   pub mul-double : (a x : ℕ) → x < 2 ^ s → mul (2 ^ s) poly a (double (2 ^ s) poly x) ≡ double (2 ^ s) poly (mul (2 ^ s) poly a x)
   unfolding mul
@@ -174,8 +160,8 @@ module _ (s poly : ℕ) (low : 2 ^ s ≤ poly) (high : poly < 2 ^ s * 2) where
   dot-scaled u (z ∷ zs) [] xs h a = absurd h
   dot-scaled u (z ∷ zs) (b ∷ us) [] h a = sym (mul-zero s poly low high u)
   dot-scaled u (z ∷ zs) (b ∷ us) (x ∷ xs) h a =
-      ap₂ bitXor (h .0 x (a .0)) (dot-scaled u zs us xs (h .1) (a .1))
-      ∙ sym (mul-xor s poly low high u (mul (2 ^ s) poly z x) (dot (2 ^ s) poly zs xs) (mul-lt s poly low high z x (a .0)) (dot-lt s poly low high zs xs (a .1)))
+      let small = mul-lt s poly low high z x (a .0) in
+      rw (h .0 x (a .0), dot-scaled u zs us xs (h .1) (a .1), mul-xor s poly low high u _ _ small (dot-lt s poly low high zs xs (a .1)))
 
 module _ (top poly : ℕ) where
   pub dot-snoc : (zs xs : List ℕ) (z x : ℕ) → length zs ≡ length xs → dot top poly (zs ++ (z ∷ [])) (xs ++ (x ∷ [])) ≡ bitXor (dot top poly zs xs) (mul top poly z x)
@@ -183,9 +169,7 @@ module _ (top poly : ℕ) where
   dot-snoc [] [] z x e = xor-zero-r (mul top poly z x)
   dot-snoc [] (y ∷ xs) z x e = absurd (suc-ne-zero (length xs) (sym e))
   dot-snoc (w ∷ zs) [] z x e = absurd (suc-ne-zero (length zs) e)
-  dot-snoc (w ∷ zs) (y ∷ xs) z x e =
-      ap (λ (v : ℕ). bitXor (mul top poly w y) v) (dot-snoc zs xs z x (suc-inj e))
-      ∙ sym (xor-assoc (mul top poly w y) (dot top poly zs xs) (mul top poly z x))
+  dot-snoc (w ∷ zs) (y ∷ xs) z x e = rw (dot-snoc zs xs z x (suc-inj e), xor-assoc)
 
   dot-reverses : (zs xs : List ℕ) → length zs ≡ length xs → dot top poly (reverse zs) (reverse xs) ≡ dot top poly zs xs
   unfolding dot
@@ -193,20 +177,13 @@ module _ (top poly : ℕ) where
   dot-reverses [] (x ∷ xs) e = absurd (suc-ne-zero (length xs) (sym e))
   dot-reverses (z ∷ zs) [] e = absurd (suc-ne-zero (length zs) e)
   dot-reverses (z ∷ zs) (x ∷ xs) e =
-      ap₂ (dot top poly) (reverse-cons z zs) (reverse-cons x xs)
-      ∙ dot-snoc (reverse zs) (reverse xs) z x (length-reverse zs ∙ suc-inj e ∙ sym (length-reverse xs))
-      ∙ ap (λ (v : ℕ). bitXor v (mul top poly z x)) (dot-reverses zs xs (suc-inj e))
-      ∙ xor-comm (dot top poly zs xs) (mul top poly z x)
+      let l : length (reverse zs) ≡ length (reverse xs) = length-reverse zs ∙ suc-inj e ∙ sym (length-reverse xs) in
+      rw (reverse-cons z zs, reverse-cons x xs, dot-snoc, dot-reverses zs xs (suc-inj e)) (xor-comm (dot top poly zs xs) (mul top poly z x))
 
   pub dot-reverse : (zs xs : List ℕ) → length zs ≡ length xs → dot top poly zs (reverse xs) ≡ dot top poly (reverse zs) xs
-  dot-reverse zs xs e =
-      ap (λ (l : List ℕ). dot top poly l (reverse xs)) (sym (reverse-reverse zs))
-      ∙ dot-reverses (reverse zs) xs (length-reverse zs ∙ e)
+  dot-reverse zs xs e = rw (← dot-reverses (reverse zs) xs (length-reverse zs ∙ e), reverse-reverse)
 
   -- ---- the bits of the first factor, one by one
-
-  half-lt : (n a : ℕ) → a < 2 ^ suc n → a / 2 < 2 ^ n
-  half-lt n a h = div-lt-iff-lt-mul (zero-lt-suc 1) .1 (rw (pow-suc 2 n) at h)
 
   times-none : (n x : ℕ) → times top poly n 0 x ≡ 0
   unfolding times
@@ -217,7 +194,7 @@ module _ (top poly : ℕ) where
   times-enough : (n a x : ℕ) → a < 2 ^ n → times top poly (suc n) a x ≡ times top poly n a x
   unfolding times
   times-enough zero a x h = ap (λ (b : ℕ). times top poly 1 b x) (lt-one h)
-  times-enough (suc n) a x h = ap (bitXor (cond (eqb (a % 2) 1) x 0)) (times-enough n (a / 2) (double top poly x) (half-lt n a h))
+  times-enough (suc n) a x h = rw (times-enough n (a / 2) (double top poly x) (shr-lt n 1 (rw (← add-one n) at h)))
 
   pub mul-none : (x : ℕ) → mul top poly 0 x ≡ 0
   unfolding mul
@@ -226,4 +203,4 @@ module _ (top poly : ℕ) where
   -- one bit of the first factor taken off
   pub mul-step : (a x : ℕ) → a < 256 → mul top poly a x ≡ bitXor (cond (eqb (a % 2) 1) x 0) (mul top poly (a / 2) (double top poly x))
   unfolding mul times
-  mul-step a x h = ap (bitXor (cond (eqb (a % 2) 1) x 0)) (sym (times-enough 7 (a / 2) (double top poly x) (half-lt 7 a h)))
+  mul-step a x h = rw (times-enough 7 (a / 2) (double top poly x) (omega arith))

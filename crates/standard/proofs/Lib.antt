@@ -12,11 +12,12 @@ pub mod PhotonLaws
 pub mod PhotonVariants
 pub mod MatrixLaws
 pub mod SpongentLaws
-pub mod SpongentVariants
+pub mod Streaming
+pub mod Sponge
 pub mod OneBlock
 pub mod TakenBack
 pub mod PutBits
-pub mod Padding
-pub mod Streaming
 pub mod Variants
+pub mod OneValue
+pub mod ImageStates
 pub mod KnownValues

@@ -1,10 +1,10 @@
 -- The state's bits as a matrix of cells, and back: shape, the cell in a row and column, both round trips; so PHOTON's permutation of bits is undone.
 -- Assumes nothing.
-use mathlib.Core.Path.{_≡_, refl, sym, ap, _∙_, subst}
+use mathlib.Core.Path.{_≡_, refl, sym, _∙_}
 use mathlib.Core.Bool.{Bool}
-use mathlib.Core.List.{List, [], _∷_, map, flatMap}
-use Prim.Native.Nat.{ℕ, zero, suc, _+_, _*_, _^_, _≤_, _<_}
-use native.Mathlib.Nat.{le-trans, min-le-left, add-mul, mul-assoc, not-suc-le-zero, le-of-suc-le-suc}
+use mathlib.Core.List.{List, [], map, flatMap}
+use Prim.Native.Nat.{ℕ, _+_, _*_, _^_, _≤_, _<_}
+use native.Mathlib.Nat.{le-trans, min-le-left, add-mul, mul-assoc}
 use native.Mathlib.Omega.{arith}
 use lib.Pow.{pow-mono}
 use lib.ListN.{length, getD, take, drop, length-map, length-take}
@@ -15,12 +15,8 @@ use Rattle.standard.specs.Grid.{Grid, at, Square, Small}
 use Rattle.standard.specs.Photon.{PhotonParameters, matrixOf, bitsOfMatrix, photonRounds, photonPermutation}
 use Rattle.standard.proofs.BitLaws.{length-bitsOf, valueOf-bitsOf, bitsOf-valueOf, valueOf-lt}
 use Rattle.standard.proofs.CutLaws.{length-cut, cut-at, cut-fits, flatMap-cut, flatMap-map, length-flatMap, map-cut, take-drop-take}
+use Rattle.standard.proofs.Undo.{getD-map}
 use Rattle.standard.proofs.PhotonLaws.{Sound, State, photonRounds-state, photonRounds-undo}
-
-map-at : {A B : Type 0} (f : A → B) (xs : List A) (k : ℕ) (y : B) (z : A) → k < length xs → getD (map f xs) k y ≡ f (getD xs k z)
-map-at f [] k y z h = absurd (not-suc-le-zero h)
-map-at f (x ∷ xs) zero y z h = refl
-map-at f (x ∷ xs) (suc k) y z h = map-at f xs k y z (le-of-suc-le-suc h)
 
 -- ---- bits to cells
 
@@ -28,37 +24,26 @@ module _ (d s : ℕ) (bs : List Bool) where
   matrixOf-row : (i : ℕ) → i < d → getD (matrixOf d s bs) i [] ≡ map (valueOf high-first) (cut s d (take (d * s) (drop (i * (d * s)) bs)))
   unfolding matrixOf
   matrixOf-row i hi =
-      map-at (λ row. map (valueOf high-first) (cut s d row)) (cut (d * s) d bs) i [] [] (omega (arith, length-cut (d * s) d bs))
-      ∙ ap (λ (row : List Bool). map (valueOf high-first) (cut s d row)) (cut-at (d * s) d bs i hi)
+      rw (getD-map (λ row. map (valueOf high-first) (cut s d row)) (cut (d * s) d bs) i [] [] (rw length-cut hi), cut-at (d * s) d bs i hi)
 
   pub matrixOf-square : Square d (matrixOf d s bs)
   unfolding matrixOf
-  matrixOf-square =
-      record {
-        rows = length-map (cut (d * s) d bs) (λ row. map (valueOf high-first) (cut s d row)) ∙ length-cut (d * s) d bs;
-        cols = λ i hi. ap length (matrixOf-row i hi) ∙ length-map (cut s d (take (d * s) (drop (i * (d * s)) bs))) (valueOf high-first) ∙ length-cut s d (take (d * s) (drop (i * (d * s)) bs));
-      }
+  matrixOf-square = record { rows = simp (length-map, length-cut); cols = λ i hi. rw (matrixOf-row i hi) (simp (length-map, length-cut)) }
 
   -- cell (i, j) is made of the s bits from (i * d + j) * s on
   pub at-matrixOf : (i j : ℕ) → i < d → j < d → at (matrixOf d s bs) i j ≡ valueOf high-first (take s (drop ((i * d + j) * s) bs))
   at-matrixOf i j hi hj =
       let row : List Bool = take (d * s) (drop (i * (d * s)) bs) in
-      let place : i * (d * s) + j * s ≡ (i * d + j) * s = sym (add-mul (i * d) j s ∙ ap (λ (x : ℕ). x + j * s) (mul-assoc i d s)) in
-      ap (λ (r : List ℕ). getD r j 0) (matrixOf-row i hi)
-      ∙ map-at (valueOf high-first) (cut s d row) j 0 [] (omega (arith, length-cut s d row))
-      ∙ ap (valueOf high-first)
-      (cut-at s d row j hj
-      ∙ take-drop-take (j * s) s (d * s) (drop (i * (d * s)) bs) (cut-fits s d j (d * s) hj (omega arith))
-      ∙ ap (take s) (drop-drop (j * s) (i * (d * s)) bs ∙ ap (λ (m : ℕ). drop m bs) place))
+      let place : i * (d * s) + j * s ≡ (i * d + j) * s = sym (add-mul (i * d) j s ∙ rw mul-assoc) in
+      let room : j * s + s ≤ d * s = cut-fits s d j (d * s) hj (omega arith) in
+      rw (matrixOf-row i hi, getD-map (valueOf high-first) (cut s d row) j 0 [] (rw length-cut hj), cut-at s d row j hj, take-drop-take, drop-drop, place)
 
   pub matrixOf-small : Small d (2 ^ s) (matrixOf d s bs)
   matrixOf-small =
       record {
         cell = λ i j hi hj.
             let piece : List Bool = take s (drop ((i * d + j) * s) bs) in
-            subst (λ (x : ℕ). x < 2 ^ s) (sym (at-matrixOf i j hi hj))
-            (le-trans (valueOf-lt high-first (length piece) piece refl)
-            (pow-mono (subst (λ (n : ℕ). n ≤ s) (sym (length-take s (drop ((i * d + j) * s) bs))) (min-le-left s _))));
+            rw (at-matrixOf i j hi hj) (le-trans (valueOf-lt high-first (length piece) piece refl) (pow-mono (rw length-take (min-le-left s _))));
       }
 
   pub bits-matrix : length bs ≡ d * (d * s) → bitsOfMatrix s (matrixOf d s bs) ≡ bs
@@ -74,15 +59,11 @@ module _ (d s : ℕ) (bs : List Bool) where
 
 module _ (d s : ℕ) (g : Grid) (q : Square d g) where
   row-bits : (i : ℕ) → i < d → length (flatMap (bitsOf high-first s) (getD g i [])) ≡ d * s
-  row-bits i hi =
-      length-flatMap s (bitsOf high-first s) 0 (getD g i []) (λ k l. length-bitsOf high-first s (getD (getD g i []) k 0))
-      ∙ ap (λ (n : ℕ). n * s) (q .cols i hi)
+  row-bits i hi = rw (length-flatMap s (bitsOf high-first s) 0 (getD g i []) (λ k l. length-bitsOf high-first s _), q .cols i hi)
 
   pub length-bitsOfMatrix : length (bitsOfMatrix s g) ≡ d * (d * s)
   unfolding bitsOfMatrix
-  length-bitsOfMatrix =
-      length-flatMap (d * s) (λ row. flatMap (bitsOf high-first s) row) [] g (λ i l. row-bits i (omega (arith, q .rows)))
-      ∙ ap (λ (n : ℕ). n * (d * s)) (q .rows)
+  length-bitsOfMatrix = rw (length-flatMap (d * s) (λ row. flatMap (bitsOf high-first s) row) [] g (λ i l. row-bits i (rw (q .rows) at l)), q .rows)
 
   pub matrix-bits : Small d (2 ^ s) g → matrixOf d s (bitsOfMatrix s g) ≡ g
   unfolding matrixOf bitsOfMatrix
@@ -107,7 +88,4 @@ module _ (p : PhotonParameters) (h : Sound p) (w : Direction) (bs : List Bool) w
   pub photonPermutation-undo : length bs ≡ p .d * (p .d * p .s) → photonPermutation p (opposite w) (photonPermutation p w bs) ≡ bs
   unfolding photonPermutation
   photonPermutation-undo e =
-      ap (λ (g : Grid). bitsOfMatrix (p .s) (photonRounds p (opposite w) g))
-      (matrix-bits (p .d) (p .s) (photonRounds p w (matrixOf (p .d) (p .s) bs)) (rounds-state .square) (rounds-state .small))
-      ∙ ap (bitsOfMatrix (p .s)) (photonRounds-undo p h w (matrixOf (p .d) (p .s) bs) matrix-state)
-      ∙ bits-matrix (p .d) (p .s) bs e
+      rw (matrix-bits (p .d) (p .s) _ (rounds-state .square) (rounds-state .small), photonRounds-undo p h w _ matrix-state) (bits-matrix (p .d) (p .s) bs e)

@@ -3,39 +3,19 @@
 use mathlib.Core.Path.{refl}
 use mathlib.Core.Bool.{Bool, true, false, _&&_}
 use mathlib.Core.List.{List, [], _∷_, reverse}
-use Prim.Native.Nat.{ℕ, zero, suc, _*_, _^_}
+use Prim.Native.Nat.{ℕ, suc, _*_, _^_}
 use lib.Dec.{T, leb, ltb, eqb, leb→le, ltb→lt, eqb→eq}
 use lib.ListN.{length, getD}
 use Rattle.standard.specs.Rounds.{Direction, forward, backward, opposite}
 use Rattle.standard.specs.Field.{double, times, mul}
 use Rattle.standard.specs.Photon.{PhotonParameters, aes, unaes}
 use Rattle.standard.specs.Variants.{photon100, photon144, photon196, photon256, photon288}
-use Rattle.standard.proofs.Tests.{and-left, and-right, below, same-below, bound-below}
+use Rattle.standard.proofs.Tests.{and-left, and-right, below, every, every-at, same-below, bound-below, Back, entry, tableTests, tables-back}
 use Rattle.standard.proofs.FieldLaws.{Scaled}
 use Rattle.standard.proofs.SerialLaws.{Undoes}
-use Rattle.standard.proofs.PhotonLaws.{Boxes, boxFor, coefficientsFor, Sound}
-
--- each test of a list, passed where all are
-abbrev every : List Bool → Bool
-every [] = true
-every (b ∷ bs) = b && every bs
-
-every-at : (bs : List Bool) → T (every bs) → (k : ℕ) → T (getD bs k true)
-every-at [] t k = tt
-every-at (b ∷ bs) t zero = and-left b (every bs) t
-every-at (b ∷ bs) t (suc k) = every-at bs (and-right b (every bs) t) k
+use Rattle.standard.proofs.PhotonLaws.{boxFor, coefficientsFor, Sound}
 
 -- ---- tests of tables and coefficients
-
-abbrev boxTests : ℕ → List ℕ → List ℕ → List Bool
-boxTests top box unbox = below (λ x. ltb (getD box x 0) top) top ∷ below (λ x. eqb (getD unbox (getD box x 0) 0) x) top ∷ []
-
-boxes-of : (top : ℕ) (box unbox : List ℕ) → T (every (boxTests top box unbox)) → Boxes top box unbox
-boxes-of top box unbox t =
-    record {
-      small = bound-below (λ x. getD box x 0) top top (every-at (boxTests top box unbox) t 0);
-      back = same-below (λ x. getD unbox (getD box x 0) 0) (λ x. x) top (every-at (boxTests top box unbox) t 1);
-    }
 
 -- the product by b is u times the product by a
 abbrev scales : ℕ → ℕ → ℕ → ℕ → ℕ → Bool
@@ -66,6 +46,7 @@ undoes-of : (d top poly : ℕ) (z unz : List ℕ) → T (every (undoTests d top 
 undoes-of d top poly [] unz t = absurd t
 undoes-of d top poly (z₀ ∷ zs) [] t = absurd t
 undoes-of d top poly (z₀ ∷ zs) (u₀ ∷ us) t =
+    let passed = every-at (undoTests d top poly (z₀ ∷ zs) (u₀ ∷ us)) t in
     record {
       z₀ = z₀;
       zs = zs;
@@ -77,45 +58,37 @@ undoes-of d top poly (z₀ ∷ zs) (u₀ ∷ us) t =
       first = same-below (λ x. mul top poly u₀ (mul top poly z₀ x)) (λ x. x) top (passed 1);
       others = scaled-of top poly u₀ zs (reverse us) (passed 2);
     }
-  where
-    passed : (k : ℕ) → T (getD (undoTests d top poly (z₀ ∷ zs) (u₀ ∷ us)) k true)
-    passed = every-at (undoTests d top poly (z₀ ∷ zs) (u₀ ∷ us)) t
 
 -- ---- all of a variant's parameters
 
 abbrev tests : PhotonParameters → List Bool
 tests p =
-    ltb 0 (p .d) ∷ leb (p .d) 8
-    ∷ leb 16 (2 ^ p .s) ∷ leb (2 ^ p .s) 256
+    ltb 0 (p .d) ∷ leb 4 (p .s)
     ∷ leb (2 ^ p .s) (p .poly) ∷ ltb (p .poly) (2 ^ p .s * 2)
     ∷ below (λ i. ltb (getD (p .ic) i 0) (2 ^ p .s)) (p .d)
-    ∷ every (boxTests (2 ^ p .s) (p .box) (p .unbox)) ∷ every (boxTests (2 ^ p .s) (p .unbox) (p .box))
+    ∷ every (tableTests (2 ^ p .s) (p .box) (p .unbox)) ∷ every (tableTests (2 ^ p .s) (p .unbox) (p .box))
     ∷ every (undoTests (p .d) (2 ^ p .s) (p .poly) (p .z) (p .unz)) ∷ every (undoTests (p .d) (2 ^ p .s) (p .poly) (p .unz) (p .z)) ∷ []
+
+both : (P : Direction → Type 0) → P forward → P backward → (w : Direction) → P w
+both P a b forward = a
+both P a b backward = b
 
 sound-of : (p : PhotonParameters) → T (every (tests p)) → Sound p
 sound-of p t =
+    let passed = every-at (tests p) t in
     record {
       pos = ltb→lt 0 (p .d) (passed 0);
-      most = leb→le (p .d) 8 (passed 1);
-      nibble = leb→le 16 (2 ^ p .s) (passed 2);
-      narrow = leb→le (2 ^ p .s) 256 (passed 3);
-      poly-low = leb→le (2 ^ p .s) (p .poly) (passed 4);
-      poly-high = ltb→lt (p .poly) (2 ^ p .s * 2) (passed 5);
-      ic-small = bound-below (λ i. getD (p .ic) i 0) (2 ^ p .s) (p .d) (passed 6);
-      boxes = boxes;
-      undoes = undoes;
+      nibble = leb→le 4 (p .s) (passed 1);
+      poly-low = leb→le (2 ^ p .s) (p .poly) (passed 2);
+      poly-high = ltb→lt (p .poly) (2 ^ p .s * 2) (passed 3);
+      ic-small = bound-below (λ i. getD (p .ic) i 0) (2 ^ p .s) (p .d) (passed 4);
+      boxes =
+          both (λ w. Back (2 ^ p .s) (entry (boxFor p w)) (entry (boxFor p (opposite w))))
+          (tables-back (2 ^ p .s) (p .box) (p .unbox) (passed 5)) (tables-back (2 ^ p .s) (p .unbox) (p .box) (passed 6));
+      undoes =
+          both (λ w. Undoes (p .d) (2 ^ p .s) (p .poly) (coefficientsFor p w) (coefficientsFor p (opposite w)))
+          (undoes-of (p .d) (2 ^ p .s) (p .poly) (p .z) (p .unz) (passed 7)) (undoes-of (p .d) (2 ^ p .s) (p .poly) (p .unz) (p .z) (passed 8));
     }
-  where
-    passed : (k : ℕ) → T (getD (tests p) k true)
-    passed = every-at (tests p) t
-
-    boxes : (w : Direction) → Boxes (2 ^ p .s) (boxFor p w) (boxFor p (opposite w))
-    boxes forward = boxes-of (2 ^ p .s) (p .box) (p .unbox) (passed 7)
-    boxes backward = boxes-of (2 ^ p .s) (p .unbox) (p .box) (passed 8)
-
-    undoes : (w : Direction) → Undoes (p .d) (2 ^ p .s) (p .poly) (coefficientsFor p w) (coefficientsFor p (opposite w))
-    undoes forward = undoes-of (p .d) (2 ^ p .s) (p .poly) (p .z) (p .unz) (passed 9)
-    undoes backward = undoes-of (p .d) (2 ^ p .s) (p .poly) (p .unz) (p .z) (passed 10)
 
 pub sound100 : Sound photon100
 unfolding mul times double

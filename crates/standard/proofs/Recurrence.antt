@@ -1,11 +1,11 @@
 -- MixColumnsSerial row by row: in a sequence of rows that begins with those of the matrix, and in which each later row is the sum of products
 -- of the d rows before it, the rows from the d-th on are those of the mixed matrix.
 -- Assumes nothing.
-use mathlib.Core.Path.{_≡_, sym, ap, _∙_, subst}
-use mathlib.Core.List.{List, [], _∷_, _++_}
+use mathlib.Core.Path.{_≡_, sym, ap, _∙_}
+use mathlib.Core.List.{List, []}
 use Prim.Native.Nat.{ℕ, zero, suc, _+_, _<_, suc-le-suc}
 use native.Mathlib.Nat.{zero-add, suc-add, zero-lt-suc, not-suc-le-zero}
-use lib.ListN.{getD}
+use native.Mathlib.Omega.{arith}
 use Rattle.standard.specs.Rounds.{iterate}
 use Rattle.standard.specs.Grid.{Grid, tab, at, window, transpose}
 use Rattle.standard.specs.Field.{dot}
@@ -18,8 +18,7 @@ module _ (top poly : ℕ) (z : List ℕ) where
   serial-next : (d : ℕ) (f : ℕ → ℕ) → 0 < d → f d ≡ dot top poly z (tab d f) → serial top poly z (tab d f) ≡ tab d (λ i. f (suc i))
   unfolding serial
   serial-next zero f h e = absurd (not-suc-le-zero h)
-  serial-next (suc m) f h e =
-      ap (λ (x : ℕ). tab m (λ i. f (suc i)) ++ (x ∷ [])) (sym e) ∙ sym (tab-snoc m (λ i. f (suc i)))
+  serial-next (suc m) f h e = rw (← e, tab-snoc m (λ i. f (suc i)))
 
   steps-next : (d n : ℕ) (f : ℕ → ℕ) → 0 < d → ((k : ℕ) → k < n → f (k + d) ≡ dot top poly z (tab d (λ i. f (k + i))))
       → iterate n (serial top poly z) (tab d f) ≡ tab d (λ i. f (n + i))
@@ -40,17 +39,9 @@ module _ (top poly : ℕ) (z : List ℕ) where
       window-is d r _
       (λ i j hi hj.
       let w : Grid = window d g in
-      let column : List ℕ = tab d (λ k. at w k j) in
-      let same : column ≡ tab d (λ k. rows k j) =
+      let columns : List (List ℕ) = tab d (λ b. tab d (λ a. at w a b)) in
+      let same : tab d (λ k. at w k j) ≡ tab d (λ k. rows k j) =
       tab-cong d (λ k. at w k j) (λ k. rows k j) (λ k hk. at-window d g k j hk hj ∙ sym (first k j hk hj)) in
-      last i j hi hj
-      ∙ sym
-      (ap (λ (c : List ℕ). getD c i 0)
-      (getD-map (iterate d (serial top poly z)) (tab d (λ b. tab d (λ a. at w a b))) j [] [] (subst (λ (m : ℕ). j < m) (sym (length-tab d (λ b. tab d (λ a. at w a b)))) hj)
-      ∙ ap (iterate d (serial top poly z)) (getD-tab d (λ b. tab d (λ a. at w a b)) j [] hj ∙ same)
-      ∙ steps-next d d (λ k. rows k j) (pos d i hi) (λ k hk. next k j hk hj))
-      ∙ getD-tab d (λ k. rows (d + k) j) i 0 hi))
-    where
-      pos : (n k : ℕ) → k < n → 0 < n
-      pos zero k h = absurd (not-suc-le-zero h)
-      pos (suc n) k h = zero-lt-suc n
+      let steps = steps-next d d (λ k. rows k j) (omega arith) (λ k hk. next k j hk hj) in
+      rw (getD-map (iterate d (serial top poly z)) columns j [] [] (rw length-tab hj), getD-tab d (λ b. tab d (λ a. at w a b)) j [] hj)
+      (rw (same, steps, getD-tab d (λ k. rows (d + k) j) i 0 hi) (last i j hi hj)))

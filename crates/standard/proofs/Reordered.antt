@@ -1,6 +1,6 @@
 -- Bits read from the same bytes in another order: nothing is lost, and the way back is the same.
 -- Assumes nothing.
-use mathlib.Core.Path.{_≡_, sym, ap, _∙_, subst}
+use mathlib.Core.Path.{_≡_, sym, ap, _∙_}
 use mathlib.Core.Bool.{Bool}
 use mathlib.Core.List.{List}
 use mathlib.Core.Logic.{_⊎_, inl, inr, ⊎-elim}
@@ -14,14 +14,9 @@ use Rattle.standard.proofs.BitLaws.{length-pack, length-bitsIn, length-
 enough : (n : ℕ) → n ≤ bytesFor n * 8
 enough n = omega arith
 
-enough′ : (n : ℕ) → n ≤ 8 * bytesFor n
-enough′ n = omega arith
-
 pub length-reordered : (a b : Order) (bs : List Bool) → length (reordered a b bs) ≡ length bs
 unfolding reordered
-length-reordered a b bs =
-    length-unpack b (length bs) (pack a (bytesFor (length bs)) bs)
-    (subst (λ (m : ℕ). length bs ≤ 8 * m) (sym (length-pack a (bytesFor (length bs)) bs)) (enough′ (length bs)))
+length-reordered a b bs = length-unpack b (length bs) (pack a (bytesFor (length bs)) bs) (rw length-pack (omega arith))
 
 pub reordered-same : (a : Order) (bs : List Bool) → reordered a a bs ≡ bs
 unfolding reordered
@@ -33,28 +28,17 @@ unfolding unpack
 bytes-again a b n bs e =
     let bytes : List ℕ = pack a n bs in
     let len : length bytes ≡ n = length-pack a n bs in
-    ap (pack b n) (take-all (length bs) (bitsIn b bytes) (omega (arith, length-bitsIn b bytes)))
-    ∙ ap (λ (m : ℕ). pack b m (bitsIn b bytes)) (sym len)
-    ∙ pack-bitsIn b bytes (pack-bytes a n bs)
+    rw (take-all (length bs) (bitsIn b bytes) (omega (arith, length-bitsIn b bytes))) (rw len at (pack-bitsIn b bytes (pack-bytes a n bs)))
 
 pub reordered-back : (a b : Order) (bs : List Bool) → length bs % 8 ≡ 0 → reordered b a (reordered a b bs) ≡ bs
 unfolding reordered
 reordered-back a b bs e =
-    let n : ℕ = bytesFor (length bs) in
-    let whole : length bs ≡ 8 * n = omega arith in
-    let again : List Bool = unpack b (length bs) (pack a n bs) in
-    let len : length again ≡ length bs = length-reordered a b bs in
-    ap (λ (m : ℕ). unpack a m (pack b (bytesFor m) again)) len
-    ∙ ap (unpack a (length bs)) (bytes-again a b n bs whole)
-    ∙ unpack-pack a n bs (enough (length bs))
+    let whole : length bs ≡ 8 * bytesFor (length bs) = omega arith in
+    rw (length-reordered a b bs, bytes-again a b (bytesFor (length bs)) bs whole) (unpack-pack a (bytesFor (length bs)) bs (enough (length bs)))
 
 -- Bits may be reordered and put back where the two orders are one, or the bits fill whole bytes.
 pub reordered-undo : (a b : Order) (bs : List Bool) → (a ≡ b) ⊎ (length bs % 8 ≡ 0) → reordered b a (reordered a b bs) ≡ bs
-reordered-undo a b bs w =
-    ⊎-elim
-    (λ e. subst (λ (c : Order). reordered c a (reordered a c bs) ≡ bs) e (ap (reordered a a) (reordered-same a bs) ∙ reordered-same a bs))
-    (λ e. reordered-back a b bs e)
-    w
+reordered-undo a b bs w = ⊎-elim (λ e. rw (← e, reordered-same a bs, reordered-same a bs)) (λ e. reordered-back a b bs e) w
 
 pub reordered-injective : (a b : Order) (r : ℕ) → (a ≡ b) ⊎ (r % 8 ≡ 0) → (x y : List Bool) → length x ≡ r → length y ≡ r
     → reordered a b x ≡ reordered a b y → x ≡ y

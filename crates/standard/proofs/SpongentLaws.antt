@@ -1,21 +1,20 @@
 -- SPONGENT for any state of t bits: what each layer keeps, and that the layers, a round and the permutation are undone by their opposites.
 -- Assumes nothing.
-use mathlib.Core.Path.{_≡_, refl, sym, ap, ap₂, _∙_, subst}
+use mathlib.Core.Path.{_≡_, refl, sym, ap, _∙_}
 use mathlib.Core.Bool.{Bool, true, false, xor}
 use mathlib.Core.List.{List, [], _∷_, _++_}
 use mathlib.Core.Logic.{⊎-elim, _⊎_}
-use Prim.Native.Nat.{ℕ, zero, suc, _+_, _-_, _*_, _/_, _%_, _^_, _≤_, _<_}
+use Prim.Native.Nat.{ℕ, zero, suc, _+_, _-_, _*_, _/_, _%_, _≤_, _<_}
 use native.Mathlib.Nat.{le-of-suc-le-suc, not-suc-le-zero, mul-assoc, mul-comm, div-add-mod', add-mul, mul-add-mod-self-right, mod-eq-of-lt, mod-lt, eq-or-lt-of-le, mul-suc, mul-right-comm, div-lt-iff-lt-mul}
 use native.Mathlib.Omega.{arith}
-use lib.ListN.{length, getD, set, length-set, length-replicate}
+use lib.ListN.{length, getD, length-set, length-replicate}
 use lib.Seq.{getD-set-same, getD-set-other, ext-getD}
-use lib.Dec.{T, eqb, ltb}
 use borrow.Author.Tests.{eq-eqb, ne-eqb}
 use Rattle.standard.specs.Bits.{low-first, high-first, lowBits, lowValue, bitsOf, xorInto}
 use Rattle.standard.specs.Rounds.{Direction, forward, backward, opposite}
 use Rattle.standard.specs.Spongent.{cAddition, nibbles, unnibbles, sBoxLayer, goesTo, placed, pLayer, spongentRound, SpongentParameters, lCounters, spongentPermutation}
-use Rattle.standard.proofs.BitLaws.{length-xorInto, xorInto-twice, lowValue-lowBits, lowBits-lowValue, lowValue-lt}
-use Rattle.standard.proofs.Tests.{below, same-below, bound-below, zero-to-three}
+use Rattle.standard.proofs.BitLaws.{length-xorInto, xorInto-twice, lowValue-lowBits, lowBits-lowValue, lowValue-lt, xor-false}
+use Rattle.standard.proofs.Tests.{zero-to-three, Back, entry, tables-back}
 use Rattle.standard.proofs.Undo.{All, all-of, rounds-keep, rounds-undo}
 
 -- ---- pLayer
@@ -25,11 +24,6 @@ unfolding placed
 length-placed f t s zero = length-replicate t false
 length-placed f t s (suc j) = length-set (placed f t s j) (f j) (getD s j false) ∙ length-placed f t s j
 
--- f stays below t, and g takes it back
-pub record Back (t : ℕ) (f g : ℕ → ℕ) : Type 0 where
-  pub within : (j : ℕ) → j < t → f j < t
-  pub back : (j : ℕ) → j < t → g (f j) ≡ j
-
 module _ (f g : ℕ → ℕ) (t : ℕ) (u : Back t f g) (s : List Bool) where
   -- bit j stands where f says, and no later bit is put there
   placed-there : (n j : ℕ) → n ≤ t → j < n → getD (placed f t s n) (f j) false ≡ getD s j false
@@ -37,8 +31,7 @@ module _ (f g : ℕ → ℕ) (t : ℕ) (u : Back t f g) (s : List Bool) where
   placed-there zero j hn h = absurd (not-suc-le-zero h)
   placed-there (suc n) j hn h =
       ⊎-elim
-      (λ e. subst (λ (m : ℕ). getD (set (placed f t s n) (f n) (getD s n false)) (f m) false ≡ getD s m false) (sym e)
-      (getD-set-same (placed f t s n) (f n) (getD s n false) false (rw (length-placed f t s n) (u .within n hn))))
+      (λ e. rw e (getD-set-same (placed f t s n) (f n) (getD s n false) false (rw length-placed (u .within n hn))))
       (λ l. getD-set-other (placed f t s n) (f n) (f j) (getD s n false) false
       (λ e. let z : j ≡ n = sym (u .back j (omega arith)) ∙ ap g e ∙ u .back n hn in omega arith)
       ∙ placed-there n j (omega arith) l)
@@ -53,14 +46,13 @@ module _ (f g : ℕ → ℕ) (t : ℕ) (u : Back t f g) (v : Back t g f) where
 pub placed-undo : (f g : ℕ → ℕ) (t : ℕ) → Back t f g → Back t g f → (s : List Bool) → length s ≡ t → placed g t (placed f t s t) t ≡ s
 placed-undo f g t u v s e =
     ext-getD false (placed g t (placed f t s t) t) s (length-placed g t (placed f t s t) t ∙ sym e)
-    (λ k h. let h′ : k < t = subst (λ (m : ℕ). k < m) (length-placed g t (placed f t s t) t) h in
-    placed-at g f t v u (placed f t s t) k h′ ∙ placed-at f g t u v s (f k) (u .within k h′) ∙ ap (λ (m : ℕ). getD s m false) (u .back k h′))
+    (λ k h. let h′ : k < t = rw length-placed at h in
+    rw (placed-at g f t v u (placed f t s t) k h′, placed-at f g t u v s (f k) (u .within k h′), u .back k h′))
 
 mod-mul-mod : (a b n : ℕ) → a % n * b % n ≡ a * b % n
 mod-mul-mod a b n =
-    sym (ap (λ (x : ℕ). x * b % n) (sym (div-add-mod' a n))
-    ∙ ap (λ (x : ℕ). x % n) (add-mul (a / n * n) (a % n) b ∙ ap (λ (x : ℕ). x + a % n * b) (mul-right-comm (a / n) n b))
-    ∙ mul-add-mod-self-right (a / n * b) n (a % n * b))
+    let e : a * b ≡ a / n * b * n + a % n * b = rw mul-right-comm at (rw (div-add-mod' a n) at (add-mul (a / n * n) (a % n) b)) in
+    rw e (sym (mul-add-mod-self-right (a / n * b) n (a % n * b)))
 
 pub goesTo-last : (t m j : ℕ) → j ≡ t - 1 → goesTo t m j ≡ j
 unfolding goesTo
@@ -85,12 +77,9 @@ times-mod j u t e h = rw (e, mul-suc j u) (mul-add-mod-self-right j u j ∙ mod-
 goesTo-undo : (t a b : ℕ) → a * b ≡ t → (j : ℕ) → j < t → goesTo t b (goesTo t a j) ≡ j
 goesTo-undo t a b e j h =
     ⊎-elim
-    (λ l. ap (goesTo t b) (goesTo-last t a j l) ∙ goesTo-last t b j l)
-    (λ l. ap (goesTo t b) (goesTo-other t a j l)
-    ∙ goesTo-other t b (j * a % (t - 1)) (mod-lt (j * a) {m = t - 1} (omega arith))
-    ∙ mod-mul-mod (j * a) b (t - 1)
-    ∙ ap (λ (x : ℕ). x % (t - 1)) (mul-assoc j a b ∙ ap (λ (x : ℕ). j * x) e)
-    ∙ times-mod j (t - 1) t (omega arith) l)
+    (λ l. rw (goesTo-last t a j l) (goesTo-last t b j l))
+    (λ l. rw (goesTo-other t a j l, goesTo-other t b (j * a % (t - 1)) (mod-lt (j * a) {m = t - 1} (omega arith)), mod-mul-mod, mul-assoc, e)
+    (times-mod j (t - 1) t (omega arith) l))
     (last? t j h)
 
 pub goesTo-back : (t a b : ℕ) → a * b ≡ t → Back t (goesTo t a) (goesTo t b)
@@ -116,7 +105,7 @@ module _ (t q : ℕ) (et : t ≡ 4 * q) where
   goesTo-turned b i h e last other =
       ⊎-elim
       (λ z. goesTo-last t 4 (b * q + i) z ∙ sym (last z))
-      (λ l. goesTo-other t 4 (b * q + i) l ∙ ap (λ (x : ℕ). x % (t - 1)) e ∙ mul-add-mod-self-right b (t - 1) (4 * i + b) ∙ mod-eq-of-lt (other l))
+      (λ l. rw (goesTo-other t 4 (b * q + i) l, e, mul-add-mod-self-right) (mod-eq-of-lt (other l)))
       (last? t (b * q + i) h)
 
   goesTo-plane : (k : ℕ) → k < t → goesTo t 4 k ≡ 4 * (k % q) + k / q
@@ -145,17 +134,12 @@ length-sBoxLayer box (a ∷ b ∷ []) = refl
 length-sBoxLayer box (a ∷ b ∷ c ∷ []) = refl
 length-sBoxLayer box (a ∷ b ∷ c ∷ d ∷ s) = ap (λ (n : ℕ). suc (suc (suc (suc n)))) (length-sBoxLayer box s)
 
-abbrev pub entry : List ℕ → ℕ → ℕ
-entry box x = getD box x 0
-
 -- the second table takes back the nibbles of the first
 module _ (box unbox : List ℕ) (h : Back 16 (entry box) (entry unbox)) where
   nibble-undo : (bs : List Bool) → length bs ≡ 4 → lowBits 4 (entry unbox (lowValue (lowBits 4 (entry box (lowValue bs))))) ≡ bs
   nibble-undo bs e =
-      let lt : lowValue bs < 16 = subst (λ (m : ℕ). lowValue bs < 2 ^ m) e (lowValue-lt bs) in
-      ap (λ (x : ℕ). lowBits 4 (entry unbox x)) (lowValue-lowBits 4 (entry box (lowValue bs)) (h .within (lowValue bs) lt))
-      ∙ ap (lowBits 4) (h .back (lowValue bs) lt)
-      ∙ ap (λ (m : ℕ). lowBits m (lowValue bs)) (sym e) ∙ lowBits-lowValue bs
+      let lt : lowValue bs < 16 = rw e at (lowValue-lt bs) in
+      rw (lowValue-lowBits 4 (entry box (lowValue bs)) (h .within (lowValue bs) lt), h .back (lowValue bs) lt) (rw e at (lowBits-lowValue bs))
 
   first-nibble : (y : ℕ) (s : List Bool) → sBoxLayer unbox (lowBits 4 y ++ s) ≡ lowBits 4 (entry unbox (lowValue (lowBits 4 y))) ++ sBoxLayer unbox s
   unfolding sBoxLayer lowBits
@@ -168,37 +152,26 @@ module _ (box unbox : List ℕ) (h : Back 16 (entry box) (entry unbox)) where
   sBoxLayer-undo (a ∷ b ∷ []) = refl
   sBoxLayer-undo (a ∷ b ∷ c ∷ []) = refl
   sBoxLayer-undo (a ∷ b ∷ c ∷ d ∷ s) =
-      first-nibble (entry box (lowValue (a ∷ b ∷ c ∷ d ∷ []))) (sBoxLayer box s)
-      ∙ ap₂ (λ (k l : List Bool). k ++ l) (nibble-undo (a ∷ b ∷ c ∷ d ∷ []) refl) (sBoxLayer-undo s)
-
--- the rule of two tables, by one test that is computed at each of the 16 entries
-tables-back : (box unbox : List ℕ) → T (below (λ x. ltb (entry box x) 16) 16) → T (below (λ x. eqb (entry unbox (entry box x)) x) 16)
-    → Back 16 (entry box) (entry unbox)
-tables-back box unbox small same =
-    record { within = bound-below (entry box) 16 16 small; back = same-below (λ x. entry unbox (entry box x)) (λ x. x) 16 same }
+      first-nibble (entry box (lowValue (a ∷ b ∷ c ∷ d ∷ []))) (sBoxLayer box s) ∙ rw (nibble-undo (a ∷ b ∷ c ∷ d ∷ []) refl, sBoxLayer-undo s)
 
 pub nibbles-back : Back 16 (entry nibbles) (entry unnibbles)
-nibbles-back = tables-back nibbles unnibbles tt tt
+nibbles-back = tables-back 16 nibbles unnibbles tt
 
 pub unnibbles-back : Back 16 (entry unnibbles) (entry nibbles)
-unnibbles-back = tables-back unnibbles nibbles tt tt
+unnibbles-back = tables-back 16 unnibbles nibbles tt
 
 -- ---- cAddition
 
 pub length-cAddition : (t c : ℕ) (s : List Bool) → length (cAddition t c s) ≡ length s
 unfolding cAddition
-length-cAddition t c s = length-xorInto (xorInto s (bitsOf low-first t c)) (bitsOf high-first t c) ∙ length-xorInto s (bitsOf low-first t c)
+length-cAddition t c s = simp length-xorInto
 
 xor-swap : (x y z : Bool) → xor (xor x y) z ≡ xor (xor x z) y
 unfolding xor
-xor-swap true true true = refl
-xor-swap true true false = refl
-xor-swap true false true = refl
-xor-swap true false false = refl
-xor-swap false true true = refl
-xor-swap false true false = refl
-xor-swap false false true = refl
-xor-swap false false false = refl
+xor-swap x true true = refl
+xor-swap x true false = rw (xor-false (xor x true), xor-false x)
+xor-swap x false true = rw (xor-false (xor x true), xor-false x)
+xor-swap x false false = refl
 
 xorInto-swap : (s a b : List Bool) → xorInto (xorInto s a) b ≡ xorInto (xorInto s b) a
 unfolding xorInto
@@ -206,23 +179,20 @@ xorInto-swap [] a b = refl
 xorInto-swap (x ∷ s) [] [] = refl
 xorInto-swap (x ∷ s) (y ∷ a) [] = refl
 xorInto-swap (x ∷ s) [] (z ∷ b) = refl
-xorInto-swap (x ∷ s) (y ∷ a) (z ∷ b) = ap₂ (λ (u : Bool) (l : List Bool). u ∷ l) (xor-swap x y z) (xorInto-swap s a b)
+xorInto-swap (x ∷ s) (y ∷ a) (z ∷ b) = rw (xor-swap x y z, xorInto-swap s a b)
 
 pub cAddition-twice : (t c : ℕ) (s : List Bool) → cAddition t c (cAddition t c s) ≡ s
 unfolding cAddition
 cAddition-twice t c s =
     let a : List Bool = bitsOf low-first t c in
-    let b : List Bool = bitsOf high-first t c in
-    ap (λ (l : List Bool). xorInto l b) (xorInto-swap (xorInto s a) b a)
-    ∙ xorInto-twice (xorInto (xorInto s a) a) b ∙ xorInto-twice s a
+    rw (xorInto-swap (xorInto s a) (bitsOf high-first t c) a, xorInto-twice (xorInto (xorInto s a) a), xorInto-twice)
 
 -- ---- rounds
 
 pub length-spongentRound : (t : ℕ) (w : Direction) (s : List Bool) (c : ℕ) → length (spongentRound t w s c) ≡ t
 unfolding spongentRound
-length-spongentRound t forward s c = length-pLayer t (t / 4) (sBoxLayer nibbles (cAddition t c s))
-length-spongentRound t backward s c =
-    length-cAddition t c (sBoxLayer unnibbles (pLayer t 4 s)) ∙ length-sBoxLayer unnibbles (pLayer t 4 s) ∙ length-pLayer t 4 s
+length-spongentRound t forward s c = length-pLayer t (t / 4) _
+length-spongentRound t backward s c = simp (length-cAddition, length-sBoxLayer, length-pLayer)
 
 quarter : (t : ℕ) → t % 4 ≡ 0 → t / 4 * 4 ≡ t
 quarter t h = omega arith
@@ -231,38 +201,27 @@ pub spongentRound-undo : (t : ℕ) → t % 4 ≡ 0 → (w : Direction) (s : List
     → spongentRound t (opposite w) (spongentRound t w s c) c ≡ s
 unfolding spongentRound
 spongentRound-undo t h forward s c e =
-    ap (λ (l : List Bool). cAddition t c (sBoxLayer unnibbles l))
-    (pLayer-undo t (t / 4) 4 (quarter t h) (sBoxLayer nibbles (cAddition t c s)) (length-sBoxLayer nibbles (cAddition t c s) ∙ length-cAddition t c s ∙ e))
-    ∙ ap (cAddition t c) (sBoxLayer-undo nibbles unnibbles nibbles-back (cAddition t c s))
-    ∙ cAddition-twice t c s
+    rw (pLayer-undo t (t / 4) 4 (quarter t h) (sBoxLayer nibbles (cAddition t c s)) (simp (length-sBoxLayer, length-cAddition) e), sBoxLayer-undo nibbles unnibbles nibbles-back, cAddition-twice)
 spongentRound-undo t h backward s c e =
-    ap (λ (l : List Bool). pLayer t (t / 4) (sBoxLayer nibbles l)) (cAddition-twice t c (sBoxLayer unnibbles (pLayer t 4 s)))
-    ∙ ap (pLayer t (t / 4)) (sBoxLayer-undo unnibbles nibbles unnibbles-back (pLayer t 4 s))
-    ∙ pLayer-undo t 4 (t / 4) (mul-comm 4 (t / 4) ∙ quarter t h) s e
+    rw (cAddition-twice, sBoxLayer-undo unnibbles nibbles unnibbles-back) (pLayer-undo t 4 (t / 4) (mul-comm 4 (t / 4) ∙ quarter t h) s e)
 
 -- ---- the permutation
 
--- the rounds ask nothing of a counter
-abbrev AnyCounter : ℕ → Type 0
-AnyCounter c = Unit {0}
-
-any-counters : (cs : List ℕ) → All AnyCounter cs
-any-counters cs = all-of AnyCounter cs (λ k h. tt)
-
 module _ (p : SpongentParameters) (h : p .t % 4 ≡ 0) where
-  abbrev Sized : List Bool → Type 0
-  Sized s = length s ≡ p .t
-
-  keeps : (w : Direction) (s : List Bool) (c : ℕ) → Sized s → AnyCounter c → Sized (spongentRound (p .t) w s c)
+  keeps : (w : Direction) (s : List Bool) (c : ℕ) → length s ≡ p .t → Unit {0} → length (spongentRound (p .t) w s c) ≡ p .t
   keeps w s c e u = length-spongentRound (p .t) w s c
 
-  undo : (w : Direction) (s : List Bool) (c : ℕ) → Sized s → AnyCounter c → spongentRound (p .t) (opposite w) (spongentRound (p .t) w s c) c ≡ s
+  undo : (w : Direction) (s : List Bool) (c : ℕ) → length s ≡ p .t → Unit {0} → spongentRound (p .t) (opposite w) (spongentRound (p .t) w s c) c ≡ s
   undo w s c e u = spongentRound-undo (p .t) h w s c e
+
+  -- the rounds ask nothing of a counter
+  any : All (λ c. Unit {0}) (lCounters p)
+  any = all-of (λ c. Unit {0}) 0 (lCounters p) (λ k l. tt)
 
   pub length-spongentPermutation : (w : Direction) (s : List Bool) → length s ≡ p .t → length (spongentPermutation p w s) ≡ p .t
   unfolding spongentPermutation
-  length-spongentPermutation w s e = rounds-keep Sized AnyCounter (spongentRound (p .t)) keeps undo w (lCounters p) (any-counters (lCounters p)) s e
+  length-spongentPermutation w s e = rounds-keep (λ x. length x ≡ p .t) (λ c. Unit {0}) (spongentRound (p .t)) keeps undo w (lCounters p) any s e
 
   pub spongentPermutation-undo : (w : Direction) (s : List Bool) → length s ≡ p .t → spongentPermutation p (opposite w) (spongentPermutation p w s) ≡ s
   unfolding spongentPermutation
-  spongentPermutation-undo w s e = rounds-undo Sized AnyCounter (spongentRound (p .t)) keeps undo w (lCounters p) (any-counters (lCounters p)) s e
+  spongentPermutation-undo w s e = rounds-undo (λ x. length x ≡ p .t) (λ c. Unit {0}) (spongentRound (p .t)) keeps undo w (lCounters p) any s e

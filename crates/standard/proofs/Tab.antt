@@ -1,6 +1,6 @@
 -- Laws of `tab`, `grid` and `window`: two grids are equal where they agree at each row and column.
 -- Assumes nothing.
-use mathlib.Core.Path.{_≡_, refl, sym, ap, ap₂, _∙_, subst}
+use mathlib.Core.Path.{_≡_, refl, sym, ap, _∙_, subst}
 use mathlib.Core.List.{List, [], _∷_, _++_, reverse, reverse-cons}
 use mathlib.Core.Logic.{⊎-elim}
 use Prim.Native.Nat.{ℕ, zero, suc, _-_, _<_, suc-le-suc}
@@ -24,9 +24,7 @@ module _ {A : Type 0} where
 
   pub tab-cong : (n : ℕ) (f g : ℕ → A) → ((k : ℕ) → k < n → f k ≡ g k) → tab n f ≡ tab n g
   tab-cong zero f g h = refl
-  tab-cong (suc n) f g h =
-      ap₂ (λ (x : A) (xs : List A). x ∷ xs) (h 0 (zero-lt-suc n))
-      (tab-cong n (λ k. f (suc k)) (λ k. g (suc k)) (λ k l. h (suc k) (suc-le-suc l)))
+  tab-cong (suc n) f g h = rw (h 0 (zero-lt-suc n), tab-cong n (λ k. f (suc k)) (λ k. g (suc k)) (λ k l. h (suc k) (suc-le-suc l)))
 
   tab-length : (xs : List A) (z : A) → tab (length xs) (λ k. getD xs k z) ≡ xs
   tab-length [] z = refl
@@ -45,24 +43,21 @@ module _ {A : Type 0} where
       ap (λ (l : List A). getD l k z) (reverse-cons x xs)
       ∙ ⊎-elim
       (λ e. let last : suc (length xs) - 1 - k ≡ 0 = omega arith in
-      getD-at (reverse xs) x [] z k (length-reverse xs ∙ sym e) ∙ ap (λ (n : ℕ). getD (x ∷ xs) n z) (sym last))
+      rw last (getD-at (reverse xs) x [] z k (length-reverse xs ∙ sym e)))
       (λ l. let more : suc (length xs) - 1 - k ≡ suc (length xs - 1 - k) = omega arith in
-      List·getD-append (reverse xs) (x ∷ []) z k (omega (arith, length-reverse xs))
-      ∙ getD-reverse xs k z l ∙ ap (λ (n : ℕ). getD (x ∷ xs) n z) (sym more))
+      rw (more, List·getD-append (reverse xs) (x ∷ []) z k (rw length-reverse l)) (getD-reverse xs k z l))
       (eq-or-lt-of-le (le-of-suc-le-suc h))
 
   pub reverse-tab : (n : ℕ) (f : ℕ → A) → reverse (tab n f) ≡ tab n (λ k. f (n - 1 - k))
   reverse-tab n f =
       sym (tab-self n (reverse (tab n f)) (f 0) (length-reverse (tab n f) ∙ length-tab n f))
       ∙ tab-cong n (λ k. getD (reverse (tab n f)) k (f 0)) (λ k. f (n - 1 - k))
-      (λ k h. getD-reverse (tab n f) k (f 0) (subst (λ (m : ℕ). k < m) (sym (length-tab n f)) h)
-      ∙ ap (λ (m : ℕ). getD (tab n f) (m - 1 - k) (f 0)) (length-tab n f)
-      ∙ getD-tab n f (n - 1 - k) (f 0) (omega arith))
+      (λ k h. rw (getD-reverse (tab n f) k (f 0) (rw length-tab h), length-tab) (getD-tab n f (n - 1 - k) (f 0) (omega arith)))
 
 -- ---- grids made cell by cell
 
 pub at-grid : (d : ℕ) (f : ℕ → ℕ → ℕ) (i j : ℕ) → i < d → j < d → at (grid d f) i j ≡ f i j
-at-grid d f i j hi hj = ap (λ (r : List ℕ). getD r j 0) (getD-tab d (λ k. tab d (f k)) i [] hi) ∙ getD-tab d (f i) j 0 hj
+at-grid d f i j hi hj = rw (getD-tab d (λ k. tab d (f k)) i [] hi, getD-tab d (f i) j 0 hj)
 
 pub grid-cong : (d : ℕ) (f g : ℕ → ℕ → ℕ) → ((i j : ℕ) → i < d → j < d → f i j ≡ g i j) → grid d f ≡ grid d g
 grid-cong d f g h = tab-cong d (λ i. tab d (f i)) (λ i. tab d (g i)) (λ i hi. tab-cong d (f i) (g i) (λ j hj. h i j hi hj))
@@ -75,7 +70,7 @@ square-grid d f =
     }
 
 pub small-grid : (d top : ℕ) (f : ℕ → ℕ → ℕ) → ((i j : ℕ) → i < d → j < d → f i j < top) → Small d top (grid d f)
-small-grid d top f h = record { cell = λ i j hi hj. subst (λ (x : ℕ). x < top) (sym (at-grid d f i j hi hj)) (h i j hi hj) }
+small-grid d top f h = record { cell = λ i j hi hj. rw (at-grid d f i j hi hj) (h i j hi hj) }
 
 pub grid-self : (d : ℕ) (g : Grid) → Square d g → grid d (at g) ≡ g
 grid-self d g s =
@@ -109,7 +104,7 @@ unfolding window
 window-square d g = square-grid d (at g)
 
 pub window-small : (d top : ℕ) (g : Grid) → Small d top g → Small d top (window d g)
-window-small d top g m = record { cell = λ i j hi hj. subst (λ (x : ℕ). x < top) (sym (at-window d g i j hi hj)) (m .cell i j hi hj) }
+window-small d top g m = record { cell = λ i j hi hj. rw (at-window d g i j hi hj) (m .cell i j hi hj) }
 
 pub small-window : (d top : ℕ) (g : Grid) → Small d top (window d g) → Small d top g
-small-window d top g m = record { cell = λ i j hi hj. subst (λ (x : ℕ). x < top) (at-window d g i j hi hj) (m .cell i j hi hj) }
+small-window d top g m = record { cell = λ i j hi hj. rw (at-window d g i j hi hj) at (m .cell i j hi hj) }

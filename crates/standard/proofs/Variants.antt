@@ -1,146 +1,151 @@
--- The ten variants: what holds of each number's parameters, the permutation and its inverse, and the changed block.
+-- The variants by number: what holds of each number of the table, the permutation and its inverse, block counts, and the changed block.
 -- Assumes nothing.
-use mathlib.Core.Path.{_≡_, refl, sym, _∙_}
-use mathlib.Core.Bool.{Bool, false}
-use mathlib.Core.List.{List, _++_}
+use mathlib.Core.Path.{_≡_, sym, ap, _∙_}
+use mathlib.Core.Bool.{Bool, true, false, _&&_}
+use mathlib.Core.List.{List, tail}
 use mathlib.Core.Logic.{_↔_, _⊎_, inl, inr, ⊎-elim}
-use Prim.Native.Nat.{ℕ, _+_, _-_, _*_, _/_, _%_, _≤_, _<_}
+use Prim.Native.Nat.{ℕ, zero, suc, _+_, _-_, _*_, _/_, _%_, _≤_, _<_}
 use native.Mathlib.Omega.{arith}
-use lib.Dec.{lit≤, lit<}
-use lib.ListN.{length, take, replicate, length-append, length-replicate}
-use Rattle.standard.specs.Bits.{high-first, bitsOf}
+use lib.Dec.{T, leb, ltb, leb·suc-suc}
+use lib.ListN.{length, take, length-append, length-replicate}
+use borrow.Author.Tests.{ltb-true, lt-ltb}
+use Rattle.standard.specs.Bits.{high-first}
 use Rattle.standard.specs.Rounds.{Direction, opposite}
-use Rattle.standard.specs.Photon.{PhotonParameters}
-use Rattle.standard.specs.Spongent.{SpongentParameters}
-use Rattle.standard.specs.Sponge.{photon, spongent, Variant, order, permutation, startState, run, messageBlocks, imageBytes, Blocks, DifferAt}
-use Rattle.standard.specs.Variants.{variant, photon100, photon144, photon196, photon256, photon288, spongent88, spongent136, spongent176, spongent240, spongent272}
-use Rattle.standard.proofs.Tests.{lt-or-le, one-to-five, six-to-ten}
-use Rattle.standard.proofs.BitLaws.{length-bitsOf}
+use Rattle.standard.specs.Sponge.{Family, photon, spongent, Variant, order, permutationOf, permutation, startOf, startState, imageSize}
+use Rattle.standard.specs.Chain.{messageBits, blocksOf, Blocks, DifferAt, run}
+use Rattle.standard.specs.Variants.{none, variants, variant, known}
+use Rattle.standard.proofs.Tests.{and-true, below, below-at}
+use Rattle.standard.proofs.Undo.{All, all-at}
+use Rattle.standard.proofs.BitLaws.{length-bitsOf, length-bitsIn}
 use Rattle.standard.proofs.PhotonLaws.{Sound}
 use Rattle.standard.proofs.PhotonVariants.{sound100, sound144, sound196, sound256, sound288}
 use Rattle.standard.proofs.MatrixLaws.{length-photonPermutation, photonPermutation-undo}
 use Rattle.standard.proofs.SpongentLaws.{length-spongentPermutation, spongentPermutation-undo}
-use Rattle.standard.proofs.OneBlock.{Lawful, changed-block}
-use Rattle.standard.proofs.Padding.{block-count}
+use Rattle.standard.proofs.Streaming.{Streams}
+use Rattle.standard.proofs.Sponge.{IsSponge, padding-sponge, step-sponge, sponge-streams, sponge-count}
+use Rattle.standard.proofs.OneBlock.{changed-block}
 
--- ---- each family, for any parameters
+-- ---- the numbers
 
-photon-lawful : (t r r′ n : ℕ) (p : PhotonParameters) → Sound p → t ≡ p .d * (p .d * p .s) → 0 < r → r ≤ t → 24 ≤ t
-    → Lawful (record { t = t; r = r; r′ = r′; n = n; family = photon p })
-unfolding permutation startState
-photon-lawful t r r′ n p h e pos fits room =
-    record {
-      rate-pos = pos;
-      fits = fits;
-      layout = inl refl;
-      start-length =
-          length-append (replicate (t - 24) false) _
-          ∙ omega (
-            arith,
-            length-replicate (t - 24) false,
-            length-append (bitsOf high-first 8 (n / 4)) (bitsOf high-first 8 r ++ bitsOf high-first 8 r′),
-            length-append (bitsOf high-first 8 r) (bitsOf high-first 8 r′),
-            length-bitsOf high-first 8 (n / 4),
-            length-bitsOf high-first 8 r,
-            length-bitsOf high-first 8 r′,
-          );
-      keeps = λ w s l. length-photonPermutation p h w s ∙ sym e;
-      undoes = λ w s l. photonPermutation-undo p h w s (l ∙ e);
-    }
+pub known-true : (v : ℕ) → 1 ≤ v → v ≤ 10 → known v ≡ true
+known-true v low high = rw (lt-ltb 0 v low, lt-ltb v 11 (omega arith))
 
-spongent-lawful : (t r r′ n : ℕ) (p : SpongentParameters) → t ≡ p .t → p .t % 4 ≡ 0 → 0 < r → r ≤ t → r % 8 ≡ 0
-    → Lawful (record { t = t; r = r; r′ = r′; n = n; family = spongent p })
-unfolding permutation startState
-spongent-lawful t r r′ n p e quarters pos fits whole =
-    record {
-      rate-pos = pos;
-      fits = fits;
-      layout = inr whole;
-      start-length = length-replicate t false;
-      keeps = λ w s l. length-spongentPermutation p quarters w s (l ∙ e) ∙ sym e;
-      undoes = λ w s l. spongentPermutation-undo p quarters w s (l ∙ e);
-    }
+pub known-low : (v : ℕ) → known v ≡ true → 1 ≤ v
+known-low v k = ltb-true 0 v (and-true (ltb 0 v) (ltb v (length variants)) k .0)
 
--- ---- the ten numbers
+pub known-high : (v : ℕ) → known v ≡ true → v ≤ 10
+known-high v k = omega (arith, ltb-true v 11 (and-true (ltb 0 v) (ltb v (length variants)) k .1))
 
--- what holds of each of 1 to 10 holds of every number between
-one-to-ten : (P : ℕ → Type 0) → ((v : ℕ) → 1 ≤ v → v ≤ 5 → P v) → ((v : ℕ) → 6 ≤ v → v ≤ 10 → P v) → (v : ℕ) → 1 ≤ v → v ≤ 10 → P v
-one-to-ten P a b v l h = ⊎-elim (λ k. a v l (omega arith)) (λ k. b v k h) (lt-or-le v 6)
+pub unknown-low : (v : ℕ) → v ≡ 0 → known v ≡ false
+unknown-low v e = ap known e
 
-pub lawful : (v : ℕ) → 1 ≤ v → v ≤ 10 → Lawful (variant v)
+-- as a comparison with both ends
+pub known-is : (v : ℕ) → known v ≡ (leb 1 v && leb v 10)
+known-is v = ap (λ (b : Bool). ltb 0 v && b) (leb·suc-suc v 10)
+
+-- what holds of each variant of the table holds of every known one
+pub for-known : (P : Variant → Type 0) → All P (tail variants) → (v : ℕ) → known v ≡ true → P (variant v)
 unfolding variant
-lawful =
-    one-to-ten (λ v. Lawful (variant v))
-    (one-to-five (λ v. Lawful (variant v))
-    (photon-lawful 100 20 16 80 photon100 sound100 refl (lit< tt) (lit≤ tt) (lit≤ tt))
-    (photon-lawful 144 16 16 128 photon144 sound144 refl (lit< tt) (lit≤ tt) (lit≤ tt))
-    (photon-lawful 196 36 36 160 photon196 sound196 refl (lit< tt) (lit≤ tt) (lit≤ tt))
-    (photon-lawful 256 32 32 224 photon256 sound256 refl (lit< tt) (lit≤ tt) (lit≤ tt))
-    (photon-lawful 288 32 32 256 photon288 sound288 refl (lit< tt) (lit≤ tt) (lit≤ tt)))
-    (six-to-ten (λ v. Lawful (variant v))
-    (spongent-lawful 88 8 8 88 spongent88 refl refl (lit< tt) (lit≤ tt) refl)
-    (spongent-lawful 136 8 8 128 spongent136 refl refl (lit< tt) (lit≤ tt) refl)
-    (spongent-lawful 176 16 16 160 spongent176 refl refl (lit< tt) (lit≤ tt) refl)
-    (spongent-lawful 240 16 16 224 spongent240 refl refl (lit< tt) (lit≤ tt) refl)
-    (spongent-lawful 272 16 16 256 spongent272 refl refl (lit< tt) (lit≤ tt) refl))
+for-known P ps zero k = absurd (omega (arith, known-low 0 k))
+for-known P ps (suc i) k = all-at P none (tail variants) ps i (omega (arith, known-high (suc i) k))
 
--- the sizes that the code relies on
+-- one test, computed at every variant of the table
+pub tested : (f : Variant → Bool) → T (below (λ i. f (variant (suc i))) (length variants - 1)) → (v : ℕ) → known v ≡ true → T (f (variant v))
+tested f t zero k = absurd (omega (arith, known-low 0 k))
+tested f t (suc i) k = below-at (λ j. f (variant (suc j))) (length variants - 1) t i (omega (arith, known-high (suc i) k))
+
+-- ---- sizes
+
+-- the sizes that the code and the laws rely on
 pub record Bounds (H : Variant) : Type 0 where
+  pub state-least : 24 ≤ H .t
   pub state-most : H .t ≤ 288
   pub state-quarters : H .t % 4 ≡ 0
-  pub image-most : imageBytes H ≤ 36
-  pub image-least : 2 ≤ imageBytes H
+  pub image-least : 2 ≤ imageSize H
+  pub image-most : imageSize H ≤ 36
   pub rate-least : 8 ≤ H .r
   pub rate-most : H .r ≤ 36
+  pub rate-fits : H .r ≤ H .t
   pub rate-quarters : H .r % 4 ≡ 0
   pub output-least : 8 ≤ H .r′
   pub output-most : H .r′ ≤ 36
   pub output-fits : H .r′ ≤ H .t
   pub output-quarters : H .r′ % 4 ≡ 0
-  pub digest-whole : H .n % 8 ≡ 0
-  pub digest-most : H .n ≤ 256
   pub digest-least : 8 ≤ H .n
+  pub digest-most : H .n ≤ 256
+  pub digest-whole : H .n % 8 ≡ 0
+
+pub bounds : (v : ℕ) → known v ≡ true → Bounds (variant v)
+bounds = for-known Bounds (search arith depth 12)
 
 pub record WholeBytes (H : Variant) : Type 0 where
   pub state : H .t % 8 ≡ 0
   pub block : H .r % 8 ≡ 0
   pub output : H .r′ % 8 ≡ 0
 
-pub bounds : (v : ℕ) → 1 ≤ v → v ≤ 10 → Bounds (variant v)
-unfolding variant
-bounds =
-    one-to-ten (λ v. Bounds (variant v))
-    (one-to-five (λ v. Bounds (variant v)) (omega arith) (omega arith) (omega arith) (omega arith) (omega arith))
-    (six-to-ten (λ v. Bounds (variant v)) (omega arith) (omega arith) (omega arith) (omega arith) (omega arith))
-
 -- a byte's highest bit comes first in the state, or states and blocks are whole bytes
-pub layouts : (v : ℕ) → 1 ≤ v → v ≤ 10 → (high-first ≡ order (variant v)) ⊎ WholeBytes (variant v)
-unfolding variant
-layouts =
-    one-to-ten (λ v. (high-first ≡ order (variant v)) ⊎ WholeBytes (variant v))
-    (one-to-five (λ v. (high-first ≡ order (variant v)) ⊎ WholeBytes (variant v)) (inl refl) (inl refl) (inl refl) (inl refl) (inl refl))
-    (six-to-ten (λ v. (high-first ≡ order (variant v)) ⊎ WholeBytes (variant v))
-    (inr (omega arith)) (inr (omega arith)) (inr (omega arith)) (inr (omega arith)) (inr (omega arith)))
+pub layouts : (v : ℕ) → known v ≡ true → (high-first ≡ order (variant v)) ⊎ WholeBytes (variant v)
+layouts = for-known (λ H. (high-first ≡ order H) ⊎ WholeBytes H) (search (inl, inr, arith) depth 12)
+
+-- ---- each family, for any parameters
+
+-- what the laws of a family's permutation of t bits ask
+abbrev Permutes : ℕ → Family → Type 0
+Permutes t (photon p) = Sound p × (t ≡ p .d * (p .d * p .s))
+Permutes t (spongent p) = (p .t % 4 ≡ 0) × (t ≡ p .t)
+
+permutes-keeps : (t : ℕ) (f : Family) → Permutes t f → (w : Direction) (s : List Bool) → length s ≡ t → length (permutationOf f w s) ≡ t
+permutes-keeps t (photon p) h w s l = length-photonPermutation p (h .0) w s ∙ sym (h .1)
+permutes-keeps t (spongent p) h w s l = length-spongentPermutation p (h .0) w s (l ∙ h .1) ∙ sym (h .1)
+
+permutes-undoes : (t : ℕ) (f : Family) → Permutes t f → (w : Direction) (s : List Bool) → length s ≡ t → permutationOf f (opposite w) (permutationOf f w s) ≡ s
+permutes-undoes t (photon p) h w s l = photonPermutation-undo p (h .0) w s (l ∙ h .1)
+permutes-undoes t (spongent p) h w s l = spongentPermutation-undo p (h .0) w s (l ∙ h .1)
+
+start-sized : (H : Variant) (f : Family) → 24 ≤ H .t → length (startOf H f) ≡ H .t
+start-sized H (photon p) room = simp (length-append, length-replicate, length-bitsOf) (omega arith)
+start-sized H (spongent p) room = length-replicate (H .t) false
 
 -- ---- the theorems by number
 
--- the permutation and its inverse undo each other, on every state of the variant
-pub permutation-undo : (v : ℕ) → 1 ≤ v → v ≤ 10 → (w : Direction) (s : List Bool) → length s ≡ variant v .t
-    → permutation (variant v) (opposite w) (permutation (variant v) w s) ≡ s
-permutation-undo v l h = lawful v l h .undoes
+permutes : (v : ℕ) → known v ≡ true → Permutes (variant v .t) (variant v .family)
+permutes = for-known (λ H. Permutes (H .t) (H .family)) (search (sound100, sound144, sound196, sound256, sound288, arith) depth 12)
 
-pub permutation-length : (v : ℕ) → 1 ≤ v → v ≤ 10 → (w : Direction) (s : List Bool) → length s ≡ variant v .t
+pub sponge : (v : ℕ) → known v ≡ true → IsSponge (variant v)
+unfolding permutation
+sponge v k =
+    record {
+      padding-is = padding-sponge (variant v);
+      step-is = step-sponge (variant v);
+      fits = bounds v k .rate-fits;
+      layout = ⊎-elim inl (λ (w : WholeBytes (variant v)). inr (w .block)) (layouts v k);
+      keeps = permutes-keeps (variant v .t) (variant v .family) (permutes v k);
+      undoes = permutes-undoes (variant v .t) (variant v .family) (permutes v k);
+    }
+
+pub streams : (v : ℕ) → known v ≡ true → Streams (variant v)
+unfolding startState
+streams v k =
+    sponge-streams (variant v) (sponge v k) (omega (arith, bounds v k .rate-least))
+    (start-sized (variant v) (variant v .family) (bounds v k .state-least))
+
+-- the permutation and its inverse undo each other, on every state of the variant
+pub permutation-undo : (v : ℕ) → known v ≡ true → (w : Direction) (s : List Bool) → length s ≡ variant v .t
+    → permutation (variant v) (opposite w) (permutation (variant v) w s) ≡ s
+permutation-undo v k = sponge v k .undoes
+
+pub permutation-length : (v : ℕ) → known v ≡ true → (w : Direction) (s : List Bool) → length s ≡ variant v .t
     → length (permutation (variant v) w s) ≡ variant v .t
-permutation-length v l h = lawful v l h .keeps
+permutation-length v k = sponge v k .keeps
 
 -- L bytes give floor(8 L / r) + 1 blocks
-pub message-block-count : (v : ℕ) → 1 ≤ v → v ≤ 10 → (m : List ℕ) → length (messageBlocks (variant v) m) ≡ 8 * length m / variant v .r + 1
-message-block-count v l h m = block-count (variant v) (lawful v l h .rate-pos) m
+pub message-block-count : (v : ℕ) → known v ≡ true → (m : List ℕ) → length (blocksOf (variant v) (messageBits m)) ≡ 8 * length m / variant v .r + 1
+message-block-count v k m = rw (sponge-count (variant v) (streams v k) (sponge v k), length-bitsIn)
 
 -- Demand 3, first sentence. Two rows of blocks of r bits, of equal count, that differ at exactly one place i:
 -- the whole states after k blocks from the start state differ if and only if i < k.
-pub one-changed-block : (v : ℕ) → 1 ≤ v → v ≤ 10 → (xs ys : List (List Bool)) (i k : ℕ)
+pub one-changed-block : (v : ℕ) → known v ≡ true → (xs ys : List (List Bool)) (i k : ℕ)
     → Blocks (variant v .r) xs → Blocks (variant v .r) ys → DifferAt i xs ys → k ≤ length xs
     → (run (variant v) (startState (variant v)) (take k xs) ≡ run (variant v) (startState (variant v)) (take k ys) → ⊥) ↔ (i < k)
-one-changed-block v l h xs ys i k bx by d hk =
-    changed-block (variant v) (lawful v l h) (startState (variant v)) (lawful v l h .start-length) xs ys i k bx by d hk
+one-changed-block v h xs ys i k bx by d hk =
+    changed-block (variant v) (streams v h) (sponge v h) (startState (variant v)) (streams v h .start-length) xs ys i k bx by d hk

@@ -1,5 +1,7 @@
--- The known values of document 01 that are to be proved: rows of what the definitions give and what the paper states.
+-- The known values of document 01 that are to be proved: rows of what the definitions give and what is stated.
+-- Two rows are not the paper's, and are marked so. Crates above may add rows of their own: `holds-append`.
 -- Assumes nothing.
+use mathlib.Core.Path.{_≡_}
 use mathlib.Core.Bool.{Bool, true, false}
 use mathlib.Core.List.{List, [], _∷_, map, flatMap}
 use Prim.Native.Nat.{ℕ, suc, _-_, _/_}
@@ -8,18 +10,23 @@ use Rattle.standard.specs.Bits.{high-first, bitsOf, valueOf}
 use Rattle.standard.specs.Field.{mul}
 use Rattle.standard.specs.Photon.{serial, aes}
 use Rattle.standard.specs.Spongent.{lCounters, goesTo}
-use Rattle.standard.specs.Sponge.{startState, messageBlocks, outputBlocks}
+use Rattle.standard.specs.Sponge.{startState, outputBlocks}
+use Rattle.standard.specs.Chain.{messageBits, blocksOf}
 use Rattle.standard.specs.Variants.{variant, photon100, spongent88}
 use Rattle.standard.specs.LowestFreeBit.{lowestFreeBit}
 
--- what a definition gives, and what the paper says that it is
+-- what a definition gives, and what is stated
 pub record Row : Type 0 where
   pub gives : List ℕ
   pub stated : List ℕ
 
--- the blocks of a message as numbers, their first bit the most significant
+-- every row gives what is stated
+abbrev pub AllHold : List Row → Type 0
+AllHold rows = map (λ (row : Row). row .gives) rows ≡ map (λ (row : Row). row .stated) rows
+
+-- the blocks of a message of bytes as numbers, their first bit the most significant
 abbrev pub blockValues : ℕ → List ℕ → List ℕ
-blockValues v m = map (valueOf high-first) (messageBlocks (variant v) m)
+blockValues v m = map (valueOf high-first) (blocksOf (variant v) (messageBits m))
 
 -- the last 24 bits of the start state
 abbrev pub startEnd : ℕ → ℕ
@@ -33,15 +40,17 @@ places i (false ∷ s) = places (suc i) s
 
 abbrev pub knownValues : List Row
 knownValues =
-    -- the empty message: variant 1, variant 6 in the padding in use, and by the wording of document 01
+    -- the empty message: variant 1; variant 6 by the wording of document 01
     record { gives = blockValues 1 []; stated = 0x80000 ∷ [] }
-    ∷ record { gives = blockValues 6 []; stated = 0x80 ∷ [] }
     ∷ record { gives = flatMap (λ b. b) (lowestFreeBit 8 []); stated = 0x01 ∷ [] }
-    -- bytes AB CD in variants 1 and 3; byte AB in variant 8, in use and by the wording of document 01
+    -- not the paper's: variant 6 in the padding in use (Annex B.2; docs/DECISIONS.md, D-1)
+    ∷ record { gives = blockValues 6 []; stated = 0x80 ∷ [] }
+    -- bytes AB CD in variants 1 and 3; byte AB in variant 8 by the wording of document 01
     ∷ record { gives = blockValues 1 (0xab ∷ 0xcd ∷ []); stated = 0xabcd8 ∷ [] }
     ∷ record { gives = blockValues 3 (0xab ∷ 0xcd ∷ []); stated = 0xabcd80000 ∷ [] }
-    ∷ record { gives = blockValues 8 (0xab ∷ []); stated = 0xab80 ∷ [] }
     ∷ record { gives = flatMap (λ b. b) (lowestFreeBit 16 (0xab ∷ [])); stated = 0xab ∷ 0x01 ∷ [] }
+    -- not the paper's: the same in the padding in use
+    ∷ record { gives = blockValues 8 (0xab ∷ []); stated = 0xab80 ∷ [] }
     -- five bytes in variant 1: three blocks, the last 80000
     ∷ record { gives = blockValues 1 (1 ∷ 2 ∷ 3 ∷ 4 ∷ 5 ∷ []); stated = 0x01020 ∷ 0x30405 ∷ 0x80000 ∷ [] }
     -- the last 24 bits of the start

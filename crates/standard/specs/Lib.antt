@@ -6,6 +6,8 @@ pub mod Field
 pub mod Photon
 pub mod Spongent
 pub mod Sponge
+pub mod Chain
 pub mod Variants
+pub mod Values
 pub mod LowestFreeBit
 pub mod KnownValues

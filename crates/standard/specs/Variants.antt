@@ -4,8 +4,8 @@
 use mathlib.Core.Bool.{Bool, _&&_}
 use mathlib.Core.List.{List, [], _∷_}
 use Prim.Native.Nat.{ℕ}
-use lib.Dec.{leb}
-use lib.ListN.{getD}
+use lib.Dec.{ltb}
+use lib.ListN.{length, getD}
 use Rattle.standard.specs.Photon.{PhotonParameters, present, unpresent, aes, unaes}
 use Rattle.standard.specs.Spongent.{SpongentParameters}
 use Rattle.standard.specs.Sponge.{photon, spongent, Variant}
@@ -64,9 +64,10 @@ variants =
     ∷ record { t = 272; r = 16; r′ = 16; n = 256; family = spongent spongent272 }
     ∷ []
 
+-- the variant of a number, and `none` where there is none
 unfoldable pub variant : ℕ → Variant
 variant v = getD variants v none
 
--- the numbers of variants
+-- the numbers of variants: those of the table, but 0
 abbrev pub known : ℕ → Bool
-known v = leb 1 v && leb v 10
+known v = ltb 0 v && ltb v (length variants)

@@ -1,0 +1,154 @@
+-- What makes a variant a sponge, and what follows: the block step loses nothing, padding adds one block, and a message is found again in its blocks.
+-- Assumes nothing.
+use mathlib.Core.Path.{_≡_, refl, sym, ap, _∙_}
+use mathlib.Core.Bool.{Bool, true, false, xor}
+use mathlib.Core.List.{List, [], _∷_, _++_, flatMap}
+use mathlib.Core.Logic.{_⊎_}
+use Prim.Native.Nat.{ℕ, zero, suc, _+_, _-_, _/_, _%_, _*_, _≤_, _<_}
+use native.Mathlib.Nat.{not-suc-le-zero, le-of-suc-le-suc, suc-inj, suc-ne-zero, mul-mod-left, mul-div-left, div-add-mod', mod-lt, add-mul}
+use native.Mathlib.Omega.{arith}
+use lib.ListN.{length, replicate, length-replicate}
+use Rattle.standard.specs.Bits.{high-first, reordered, xorInto}
+use Rattle.standard.specs.Rounds.{Direction, forward, opposite}
+use Rattle.standard.specs.Sponge.{Family, photon, spongent, Variant, order, permutation, startState, spongePadding, spongeStep}
+use Rattle.standard.specs.Chain.{paddingOf, padding, padded, blocksOf, stepOf, step}
+use Rattle.standard.proofs.Tests.{true-not-false}
+use Rattle.standard.proofs.BitLaws.{length-xorInto, xorInto-twice, xor-back}
+use Rattle.standard.proofs.Reordered.{reordered-injective, length-reordered}
+use Rattle.standard.proofs.Streaming.{Streams, block-count, blocks-join}
+
+-- ---- where a padded string ends
+
+no-one : (a : ℕ) (x z : List Bool) → replicate a false ≡ x ++ true ∷ z → ⊥
+no-one zero [] z e = suc-ne-zero (length z) (sym (ap length e))
+no-one (suc a) [] z e = true-not-false (cc)
+no-one zero (b ∷ x) z e = suc-ne-zero (length (x ++ true ∷ z)) (sym (ap length e))
+no-one (suc a) (b ∷ x) z e = no-one a x z (cc)
+
+-- a string ends where the last 1 bit begins
+pub ends-at : (x y : List Bool) (a b : ℕ) → x ++ true ∷ replicate a false ≡ y ++ true ∷ replicate b false → x ≡ y
+ends-at [] [] a b e = refl
+ends-at [] (d ∷ y) a b e = absurd (no-one a y (replicate b false) (cc))
+ends-at (c ∷ x) [] a b e = absurd (no-one b x (replicate a false) (cc))
+ends-at (c ∷ x) (d ∷ y) a b e =
+    let hd : c ≡ d = cc in
+    let tl : x ≡ y = ends-at x y a b (cc) in
+    cc
+
+-- ---- sponges
+
+-- A sponge: padding and block step are the sponge's, a block fits the state and can be laid out in its order, and the permutation keeps the state's size and is undone by its inverse.
+pub record IsSponge (H : Variant) : Type 0 where
+  pub padding-is : (n : ℕ) → padding H n ≡ spongePadding (H .r) n
+  pub step-is : (s b : List Bool) → step H s b ≡ spongeStep H s b
+  pub fits : H .r ≤ H .t
+  pub layout : (high-first ≡ order H) ⊎ (H .r % 8 ≡ 0)
+  pub keeps : (w : Direction) (s : List Bool) → length s ≡ H .t → length (permutation H w s) ≡ H .t
+  pub undoes : (w : Direction) (s : List Bool) → length s ≡ H .t → permutation H (opposite w) (permutation H w s) ≡ s
+
+-- ---- xor into a state
+
+xor-left : (x a b : Bool) → xor x a ≡ xor x b → a ≡ b
+xor-left x a b e = sym (xor-back x a) ∙ ap (xor x) e ∙ xor-back x b
+
+-- blocks of one length, no longer than the state: equal results mean equal blocks
+block-injective : (s a b : List Bool) → length a ≡ length b → length a ≤ length s → xorInto s a ≡ xorInto s b → a ≡ b
+unfolding xorInto
+block-injective s [] [] l h e = refl
+block-injective s [] (b ∷ bs) l h e = absurd (suc-ne-zero (length bs) (sym l))
+block-injective s (a ∷ ra) [] l h e = absurd (suc-ne-zero (length ra) l)
+block-injective [] (a ∷ ra) (b ∷ bs) l h e = absurd (not-suc-le-zero h)
+block-injective (x ∷ s) (a ∷ ra) (b ∷ bs) l h e =
+    let hd : a ≡ b = xor-left x a b (cc) in
+    let tl : ra ≡ bs = block-injective s ra bs (suc-inj l) (le-of-suc-le-suc h) (cc) in
+    cc
+
+-- equal results mean equal states
+state-injective : (b s u : List Bool) → xorInto s b ≡ xorInto u b → s ≡ u
+state-injective b s u e = sym (xorInto-twice s b) ∙ ap (λ (x : List Bool). xorInto x b) e ∙ xorInto-twice u b
+
+-- ---- the step
+
+module _ (H : Variant) (h : IsSponge H) where
+  permutation-injective : (w : Direction) (s u : List Bool) → length s ≡ H .t → length u ≡ H .t → permutation H w s ≡ permutation H w u → s ≡ u
+  permutation-injective w s u ls lu e = sym (h .undoes w s ls) ∙ ap (permutation H (opposite w)) e ∙ h .undoes w u lu
+
+  -- a state with a block in it has the state's size
+  taken-length : (s b : List Bool) → length s ≡ H .t → length (xorInto s b) ≡ H .t
+  taken-length s b ls = length-xorInto s b ∙ ls
+
+  pub step-length : (s b : List Bool) → length s ≡ H .t → length (step H s b) ≡ H .t
+  unfolding spongeStep
+  step-length s b ls = rw (h .step-is) (h .keeps forward _ (taken-length s _ ls))
+
+  -- the step loses nothing of the state
+  pub step-state : (b s u : List Bool) → length s ≡ H .t → length u ≡ H .t → step H s b ≡ step H u b → s ≡ u
+  unfolding spongeStep
+  step-state b s u ls lu e =
+      state-injective _ s u (permutation-injective forward _ _ (taken-length s _ ls) (taken-length u _ lu) (rw (h .step-is s b, h .step-is u b) at e))
+
+  -- nor of the block
+  pub step-block : (s a b : List Bool) → length s ≡ H .t → length a ≡ H .r → length b ≡ H .r → step H s a ≡ step H s b → a ≡ b
+  unfolding spongeStep
+  step-block s a b ls la lb e =
+      let x : List Bool = reordered high-first (order H) a in
+      let y : List Bool = reordered high-first (order H) b in
+      let lx : length x ≡ H .r = length-reordered high-first (order H) a ∙ la in
+      let ly : length y ≡ H .r = length-reordered high-first (order H) b ∙ lb in
+      reordered-injective high-first (order H) (H .r) (h .layout) a b la lb
+      (block-injective s x y (lx ∙ sym ly) (omega (arith, h .fits))
+      (permutation-injective forward _ _ (taken-length s x ls) (taken-length s y ls) (rw (h .step-is s a, h .step-is s b) at e)))
+
+  -- ---- padding
+
+  pub fills : 0 < H .r → (n : ℕ) → n + length (padding H n) ≡ (n / H .r + 1) * H .r
+  unfolding spongePadding
+  fills pos n =
+      let r : ℕ = H .r in
+      rw (h .padding-is n) (omega (arith, length-replicate (r - 1 - n % r) false, div-add-mod' n r, mod-lt n {m = r} pos, add-mul (n / r) 1 r))
+
+  -- a sponge streams
+  pub sponge-streams : 0 < H .r → length (startState H) ≡ H .t → Streams H
+  unfolding spongePadding
+  sponge-streams pos start =
+      record {
+        rate-pos = pos;
+        start-length = start;
+        step-length = step-length;
+        padding-fills = λ n. rw (fills pos n) (mul-mod-left (n / H .r + 1) (H .r));
+      }
+
+  -- two messages with one padded message are one
+  pub padded-injective : (x y : List Bool) → padded H x ≡ padded H y → x ≡ y
+  unfolding padded spongePadding
+  padded-injective x y e =
+      ends-at x y (H .r - 1 - length x % H .r) (H .r - 1 - length y % H .r) (rw (h .padding-is (length x), h .padding-is (length y)) at e)
+
+module _ (H : Variant) (g : Streams H) (h : IsSponge H) where
+  -- and two with one row of blocks
+  pub blocks-injective : (x y : List Bool) → blocksOf H x ≡ blocksOf H y → x ≡ y
+  blocks-injective x y e =
+      padded-injective H h x y (sym (blocks-join H g x) ∙ ap (flatMap (λ b. b)) e ∙ blocks-join H g y)
+
+  -- n bits give floor(n / r) + 1 blocks
+  pub sponge-count : (m : List Bool) → length (blocksOf H m) ≡ length m / H .r + 1
+  sponge-count m = rw (block-count, fills H h (g .rate-pos) (length m)) (mul-div-left (length m / H .r + 1) (g .rate-pos))
+
+-- ---- the families
+
+-- both families are sponges
+pub padding-sponge : (H : Variant) (n : ℕ) → padding H n ≡ spongePadding (H .r) n
+unfolding padding
+padding-sponge H n = go (H .family)
+  where
+    go : (f : Family) → paddingOf f (H .r) n ≡ spongePadding (H .r) n
+    go (photon p) = refl
+    go (spongent p) = refl
+
+pub step-sponge : (H : Variant) (s b : List Bool) → step H s b ≡ spongeStep H s b
+unfolding step
+step-sponge H s b = go (H .family)
+  where
+    go : (f : Family) → stepOf f H s b ≡ spongeStep H s b
+    go (photon p) = refl
+    go (spongent p) = refl

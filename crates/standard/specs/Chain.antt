@@ -1,0 +1,78 @@
+-- From a message to its end state and digest, for every family: padding, blocks, a step for each block. What differs between families is by cases on `Family`.
+-- A message is a bit string. A message of bytes is the case `messageBits`.
+-- Assumes nothing.
+use mathlib.Core.Path.{_≡_}
+use mathlib.Core.Bool.{Bool}
+use mathlib.Core.List.{List, [], _∷_, _++_, foldl}
+use Prim.Native.Nat.{ℕ, _*_, _/_, _<_}
+use lib.ListN.{length, getD, drop}
+use Rattle.standard.specs.Bits.{high-first, bitsIn, cut}
+use Rattle.standard.specs.Sponge.{Family, photon, spongent, Variant, startState, spongePadding, spongeStep, digestFrom}
+
+-- the bits of a message of bytes, each byte from its most significant bit on (5.2.3, note; for SPONGENT by Annex B.2)
+abbrev pub messageBits : List ℕ → List Bool
+messageBits bytes = bitsIn high-first bytes
+
+-- ---- padding
+
+-- by family, from the rate and the message's length in bits
+abbrev pub paddingOf : Family → ℕ → ℕ → List Bool
+paddingOf (photon p) r n = spongePadding r n
+paddingOf (spongent p) r n = spongePadding r n
+
+-- 5.2.3, 5.3.3: what is added to a message of n bits
+unfoldable pub padding : Variant → ℕ → List Bool
+padding H n = paddingOf (H .family) (H .r) n
+
+-- a message and its padding
+unfoldable pub padded : Variant → List Bool → List Bool
+padded H m = m ++ padding H (length m)
+
+-- ---- blocks
+
+-- the whole blocks of r bits
+unfoldable pub wholeBlocks : ℕ → List Bool → List (List Bool)
+wholeBlocks r bs = cut r (length bs / r) bs
+
+-- the bits behind them, which fill no block
+unfoldable pub restOf : ℕ → List Bool → List Bool
+restOf r bs = drop (length bs / r * r) bs
+
+-- 5.2.3, 5.3.3: m_0, .., m_{l-1}, the blocks of the padded message
+unfoldable pub blocksOf : Variant → List Bool → List (List Bool)
+blocksOf H m = wholeBlocks (H .r) (padded H m)
+
+-- every block of the row has r bits
+abbrev pub Blocks : ℕ → List (List Bool) → Type 0
+Blocks r [] = Unit {0}
+Blocks r (b ∷ bs) = (length b ≡ r) × Blocks r bs
+
+-- two rows of equal count that differ at exactly the place i
+pub record DifferAt (i : ℕ) (xs ys : List (List Bool)) : Type 0 where
+  pub count : length xs ≡ length ys
+  pub within : i < length xs
+  pub differs : getD xs i [] ≡ getD ys i [] → ⊥
+  pub elsewhere : (j : ℕ) → (j ≡ i → ⊥) → getD xs j [] ≡ getD ys j []
+
+-- ---- steps
+
+-- by family
+abbrev pub stepOf : Family → Variant → List Bool → List Bool → List Bool
+stepOf (photon p) H s b = spongeStep H s b
+stepOf (spongent p) H s b = spongeStep H s b
+
+-- 5.2.3, 5.3.3: the block step, from a state and a block to the next state
+unfoldable pub step : Variant → List Bool → List Bool → List Bool
+step H s b = stepOf (H .family) H s b
+
+-- 5.2.3, 5.3.3: the state after a row of blocks
+unfoldable pub run : Variant → List Bool → List (List Bool) → List Bool
+run H s bs = foldl (step H) s bs
+
+-- 5.2.3, 5.3.3: the state after the last block of a message
+unfoldable pub endState : Variant → List Bool → List Bool
+endState H m = run H (startState H) (blocksOf H m)
+
+-- 5.2.3, 5.3.3: hash(M), in bytes
+unfoldable pub digestOf : Variant → List Bool → List ℕ
+digestOf H m = digestFrom H (endState H m)
