@@ -1,11 +1,10 @@
 -- A sum of products, bit by bit of the coefficients: the rows whose coefficient is odd, and the double of the same sum for the halved coefficients.
 -- Assumes nothing.
-use mathlib.Core.Path.{_≡_, refl, sym, ap, ap₂, _∙_, subst}
+use mathlib.Core.Path.{_≡_, refl, sym, ap, ap₂, _∙_}
 use mathlib.Core.Bool.{Bool, true, false, cond}
 use mathlib.Core.List.{List}
 use Prim.Native.Nat.{ℕ, zero, suc, _+_, _-_, _*_, _/_, _%_, _^_, _≤_, _<_, suc-le-suc}
-use native.Mathlib.Nat.{zero-lt-suc, add-zero, add-suc, div-eq-of-lt, div-div-eq-div-mul, div-one, div-le-self}
-use native.Mathlib.Numerals.{add-one}
+use native.Mathlib.Nat.{zero-lt-suc, add-zero, add-suc, div-eq-of-lt, div-div-eq-div-mul, div-le-self}
 use native.Mathlib.Omega.{arith}
 use lib.Bits.{bitXor, xor-zero-r}
 use lib.Dec.{eqb}
@@ -17,37 +16,27 @@ use Rattle.standard.proofs.Xor.{xor-exchange}
 use Rattle.standard.proofs.Tab.{length-tab, tab-snoc, tab-cong}
 use Rattle.standard.proofs.Undo.{All}
 use Rattle.standard.proofs.FieldLaws.{double-xor, double-zero, mul-lt, mul-double, mul-none, mul-step, dot-lt, dot-snoc}
-use Rattle.photon.specs.Rows.{lane, lanes, columnFrom, oddSum, Mixing, NoneFrom, SmallRows}
+use Rattle.photon.specs.Rows.{lane, columnFrom, oddSum, Mixing, NoneFrom, SmallRows}
 use Rattle.photon.proofs.Lanes.{lane-lt, lane-zero, lane-xor, lane-bit}
-
--- one row more
-pub odd-more : (f g : ℕ → ℕ) (n sum w : ℕ) → w ≡ cond (eqb (f n % 2) 1) (g n) 0 → sum ≡ oddSum f g n → bitXor sum w ≡ oddSum f g (n + 1)
-odd-more f g n sum w e h = ap₂ bitXor h e ∙ ap (oddSum f g) (sym (add-one n))
 
 -- whether a coefficient is odd is all that counts of it
 odd-same : (f f′ g : ℕ → ℕ) (n : ℕ) → ((i : ℕ) → i < n → f i % 2 ≡ f′ i % 2) → oddSum f g n ≡ oddSum f′ g n
 odd-same f f′ g zero h = refl
-odd-same f f′ g (suc n) h =
-    ap₂ (λ (x k : ℕ). bitXor x (cond (eqb k 1) (g n) 0)) (odd-same f f′ g n (λ i l. h i (omega arith))) (h n (omega arith))
+odd-same f f′ g (suc n) h = rw (odd-same f f′ g n (λ i l. h i (omega arith)), h n (omega arith))
 
 -- rows whose coefficient is zero add nothing
 odd-rest : (f g : ℕ → ℕ) (d k : ℕ) → ((i : ℕ) → d ≤ i → i < d + k → f i ≡ 0) → oddSum f g (d + k) ≡ oddSum f g d
-odd-rest f g d zero h = ap (oddSum f g) (add-zero d)
-odd-rest f g d (suc k) h =
-    ap (oddSum f g) (add-suc d k)
-    ∙ ap (λ (x : ℕ). bitXor (oddSum f g (d + k)) (cond (eqb (x % 2) 1) (g (d + k)) 0)) (h (d + k) (omega arith) (omega arith))
-    ∙ xor-zero-r (oddSum f g (d + k))
-    ∙ odd-rest f g d k (λ i l u. h i l (omega arith))
+odd-rest f g d zero h = rw add-zero
+odd-rest f g d (suc k) h = rw (add-suc, h (d + k) (omega arith) (omega arith), xor-zero-r) (odd-rest f g d k (λ i l u. h i l (omega arith)))
 
 odd-first : (f g : ℕ → ℕ) (d : ℕ) → d ≤ 8 → ((i : ℕ) → d ≤ i → i < 8 → f i ≡ 0) → oddSum f g 8 ≡ oddSum f g d
 odd-first f g d l h =
     let all : d + (8 - d) ≡ 8 = omega arith in
-    ap (oddSum f g) (sym all) ∙ odd-rest f g d (8 - d) (λ i m u. h i m (omega arith))
+    rw all at (odd-rest f g d (8 - d) (λ i m u. h i m (omega arith)))
 
 lane-odd : (j : ℕ) (f g : ℕ → ℕ) (n : ℕ) → lane j (oddSum f g n) ≡ oddSum f (λ i. lane j (g i)) n
 lane-odd j f g zero = lane-zero j
-lane-odd j f g (suc n) =
-    lane-xor j (oddSum f g n) (cond (eqb (f n % 2) 1) (g n) 0) ∙ ap₂ bitXor (lane-odd j f g n) (chosen (eqb (f n % 2) 1) (g n))
+lane-odd j f g (suc n) = rw (lane-xor, lane-odd j f g n, chosen (eqb (f n % 2) 1) (g n))
   where
     chosen : (b : Bool) (x : ℕ) → lane j (cond b x 0) ≡ cond b (lane j x) 0
     chosen true x = refl
@@ -70,27 +59,17 @@ module _ (s poly : ℕ) (low : 2 ^ s ≤ poly) (high : poly < 2 ^ s * 2) where
   pub dots-lt : (n : ℕ) (f g : ℕ → ℕ) → ((i : ℕ) → i < n → g i < 2 ^ s) → dots n f g < 2 ^ s
   dots-lt n f g h = dot-lt s poly low high (tab n f) (tab n g) (all-tab (λ x. x < 2 ^ s) n g h)
 
-  mul-half : (a x : ℕ) → a < 256 → x < 2 ^ s
-      → mul (2 ^ s) poly a x ≡ bitXor (cond (eqb (a % 2) 1) x 0) (double (2 ^ s) poly (mul (2 ^ s) poly (a / 2) x))
-  mul-half a x ha hx = mul-step (2 ^ s) poly a x ha ∙ ap (bitXor (cond (eqb (a % 2) 1) x 0)) (mul-double s poly low high (a / 2) x hx)
-
   -- one bit of each coefficient taken off
   pub dots-half : (n : ℕ) (f g : ℕ → ℕ) → ((i : ℕ) → f i < 256) → ((i : ℕ) → i < n → g i < 2 ^ s)
       → dots n f g ≡ bitXor (oddSum f g n) (double (2 ^ s) poly (dots n (λ i. f i / 2) g))
   unfolding dot
   dots-half zero f g hf hg = sym (double-zero s poly low high)
   dots-half (suc n) f g hf hg =
-      let half : ℕ → ℕ = λ i. f i / 2 in
-      let a : ℕ = dots n half g in
-      let b : ℕ = mul (2 ^ s) poly (f n / 2) (g n) in
       let hn : g n < 2 ^ s = hg n (omega arith) in
       let before : (i : ℕ) → i < n → g i < 2 ^ s = λ i l. hg i (omega arith) in
-      dots-suc n f g
-      ∙ ap₂ bitXor (dots-half n f g hf before) (mul-half (f n) (g n) (hf n) hn)
-      ∙ xor-exchange (oddSum f g n) (double (2 ^ s) poly a) (cond (eqb (f n % 2) 1) (g n) 0) (double (2 ^ s) poly b)
-      ∙ ap (bitXor (oddSum f g (suc n)))
-      (sym (double-xor s poly low high a b (dots-lt n half g before) (mul-lt s poly low high (f n / 2) (g n) hn))
-      ∙ ap (double (2 ^ s) poly) (sym (dots-suc n half g)))
+      let small = dots-lt n (λ i. f i / 2) g before in
+      rw (dots-suc n f g, dots-half n f g hf before, mul-step (2 ^ s) poly (f n) (g n) (hf n), mul-double s poly low high (f n / 2) (g n) hn)
+      (rw (xor-exchange, dots-suc n (λ i. f i / 2) g, double-xor s poly low high _ _ small (mul-lt s poly low high (f n / 2) (g n) hn)))
 
 -- ---- bit by bit of the coefficients, on the rows
 
@@ -107,12 +86,8 @@ module _ (d s poly : ℕ) (m : Mixing d s poly) (rows : List ℕ) (n : ℕ) (sma
       → lane j above ≡ sumOf (λ i. f i / 2) → Doubles above twice → lane j (bitXor sum twice) ≡ sumOf f
   bit-more f hf sum above twice e h t =
       let cell : (i : ℕ) → i < d → lane j (getD rows (n + i) 0) < 2 ^ s = λ i hi. small .cell i j hi hj in
-      let below : lane j above < 2 ^ s =
-      subst (λ (x : ℕ). x < 2 ^ s) (sym h) (dots-lt s poly (m .modulus .low) (m .modulus .high) d (λ i. f i / 2) (λ i. lane j (getD rows (n + i) 0)) cell) in
-      lane-xor j sum twice
-      ∙ ap₂ bitXor (ap (lane j) e ∙ lane-odd j f (λ i. getD rows (n + i) 0) d)
-      (t j (omega (arith, m .most)) below ∙ ap (double (2 ^ s) poly) h)
-      ∙ sym (dots-half s poly (m .modulus .low) (m .modulus .high) d f (λ i. lane j (getD rows (n + i) 0)) hf cell)
+      let below : lane j above < 2 ^ s = rw h (dots-lt s poly (m .modulus .low) (m .modulus .high) d _ _ cell) in
+      rw (lane-xor, e, lane-odd, t j (omega (arith, m .most)) below, h, dots-half s poly (m .modulus .low) (m .modulus .high) d f _ hf cell)
 
   -- the rows whose coefficient has bit b, and the double of what the bits above made
   pub bit-taken : (z b : ℕ) → b < 8 → NoneFrom d z → (sum above twice : ℕ)
@@ -129,16 +104,11 @@ module _ (d s poly : ℕ) (m : Mixing d s poly) (rows : List ℕ) (n : ℕ) (sma
       half : (x : ℕ) → x / 2 ^ (b + 1) ≡ x / 2 ^ b / 2
       half x = ap (λ (k : ℕ). x / k) (pow-add 2 b 1) ∙ sym (div-div-eq-div-mul x (2 ^ b) 2)
 
--- no bit of the coefficients, and all of them
+-- no bit of the coefficients
 pub no-bits : (top poly d j z : ℕ) (g : ℕ → ℕ) → lane j 0 ≡ dot top poly (tab d (λ i. lane i z / 2 ^ 8)) (tab d g)
 unfolding dot
 no-bits top poly d j z g = lane-zero j ∙ sym (none d (λ i. lane i z / 2 ^ 8) g (λ i l. div-eq-of-lt (lane-lt i z)))
   where
     none : (n : ℕ) (f x : ℕ → ℕ) → ((i : ℕ) → i < n → f i ≡ 0) → dot top poly (tab n f) (tab n x) ≡ 0
     none zero f x e = refl
-    none (suc n) f x e =
-        ap₂ bitXor (ap (λ (k : ℕ). mul top poly k (x 0)) (e 0 (zero-lt-suc n)) ∙ mul-none top poly (x 0))
-        (none n (λ i. f (suc i)) (λ i. x (suc i)) (λ i l. e (suc i) (suc-le-suc l)))
-
-pub all-bits : (d z : ℕ) → tab d (λ i. lane i z / 2 ^ 0) ≡ lanes d z
-all-bits d z = tab-cong d (λ i. lane i z / 2 ^ 0) (λ i. lane i z) (λ i h. div-one (lane i z))
+    none (suc n) f x e = rw (e 0 (zero-lt-suc n), mul-none, none n (λ i. f (suc i)) (λ i. x (suc i)) (λ i l. e (suc i) (suc-le-suc l)))

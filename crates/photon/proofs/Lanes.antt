@@ -1,10 +1,11 @@
 -- The cells of a row that is held in one number: a sum of rows sums the cells, the doubling of a row doubles each, and shifts by whole cells turn it.
 -- Assumes nothing.
-use mathlib.Core.Path.{_≡_, refl, sym, ap, ap₂, _∙_, subst}
+use mathlib.Core.Path.{_≡_, refl, ap, _∙_}
 use mathlib.Core.Bool.{Bool, true, false, cond}
 use mathlib.Core.Logic.{⊎-elim}
 use Prim.Native.Nat.{ℕ, zero, suc, _+_, _-_, _*_, _/_, _%_, _^_, _≤_, _<_, suc-le-suc}
 use native.Mathlib.Nat.{mod-lt, mod-eq-of-lt, mod-eq-sub-mod, div-eq-of-lt, div-eq-of-lt-le, div-div-eq-div-mul, div-lt-iff-lt-mul, div-add-mod', add-zero, add-suc, add-mul, mul-one, mul-assoc, mul-comm, mul-div-cancel, mul-mod-left, div-one, le-of-suc-le-suc, mul-right-comm, one-mul, zero-mul, mul-le-mul, pow-suc, zero-lt-suc, not-suc-le-zero}
+use native.Mathlib.Numerals.{add-one}
 use native.Mathlib.Omega.{arith}
 use lib.Arith.{lt-one, digits-lt, digits-div, digits-mod, mod-mul}
 use lib.Pow.{pow-pos, pow-mono, pow-add}
@@ -39,18 +40,14 @@ lane-and zero a b = and-mod a b 8
 lane-and (suc j) a b = ap (lane j) (and-shr a b 8) ∙ lane-and j (a / 256) (b / 256)
 
 split : (y c : ℕ) → y * c ≡ y / 256 * c * 256 + y % 256 * c
-split y c =
-    ap (λ (v : ℕ). v * c) (sym (div-add-mod' y 256)) ∙ add-mul (y / 256 * 256) (y % 256) c
-    ∙ ap (λ (v : ℕ). v + y % 256 * c) (mul-right-comm (y / 256) 256 c)
+split y c = rw (← mul-right-comm (y / 256) 256 c, ← add-mul, div-add-mod')
 
 -- a product whose cells all fit
 lane-mul : (j y c : ℕ) → ((i : ℕ) → i ≤ j → lane i y * c < 256) → lane j (y * c) ≡ lane j y * c
 unfolding lane
-lane-mul zero y c h = ap (λ (v : ℕ). v % 256) (split y c) ∙ digits-mod (y / 256 * c) (h 0 (omega arith))
+lane-mul zero y c h = rw (split y c, digits-mod (y / 256 * c) (h 0 (omega arith)))
 lane-mul (suc j) y c h =
-    ap (λ (v : ℕ). lane j (v / 256)) (split y c)
-    ∙ ap (lane j) (digits-div (y / 256 * c) (h 0 (omega arith)))
-    ∙ lane-mul j (y / 256) c (λ i l. h (suc i) (suc-le-suc l))
+    rw (split y c, digits-div (y / 256 * c) (h 0 (omega arith))) (lane-mul j (y / 256) c (λ i l. h (suc i) (suc-le-suc l)))
 
 -- bit k of each cell
 pub lane-bit : (j x k : ℕ) → k < 8 → lane j (x / 2 ^ k) % 2 ≡ lane j x / 2 ^ k % 2
@@ -58,18 +55,11 @@ unfolding lane
 lane-bit zero x k h =
     let m : ℕ = 2 ^ (7 - k) in
     let whole : 256 ≡ m * 2 * 2 ^ k = same-below (λ i. 256) (λ i. 2 ^ (7 - i) * 2 * 2 ^ i) 8 tt k h in
-    let low : x / 2 ^ k % 256 % 2 ≡ x / 2 ^ k % 2 = omega arith in
     let mpos : 0 < m = pow-pos (7 - k) in
-    low
-    ∙ sym
-    (ap (λ (n : ℕ). x % n / 2 ^ k % 2) whole
-    ∙ ap (λ (n : ℕ). n / 2 ^ k % 2) (mod-mul x {m = m * 2} {c = 2 ^ k} (omega arith) (pow-pos k))
-    ∙ ap (λ (n : ℕ). n % 2) (digits-div (x / 2 ^ k % (m * 2)) (mod-lt x (pow-pos k)) ∙ mod-mul (x / 2 ^ k) {m = m} {c = 2} mpos (zero-lt-suc 1))
-    ∙ digits-mod (x / 2 ^ k / 2 % m) (mod-lt (x / 2 ^ k) (zero-lt-suc 1)))
+    let cut : x % 256 ≡ x / 2 ^ k % (m * 2) * 2 ^ k + x % 2 ^ k = rw (← whole) at (mod-mul x {m = m * 2} {c = 2 ^ k} (omega arith) (pow-pos k)) in
+    rw (cut, digits-div (x / 2 ^ k % (m * 2)) (mod-lt x (pow-pos k)), mod-mul (x / 2 ^ k) {m = m} {c = 2} mpos (zero-lt-suc 1)) (omega arith)
 lane-bit (suc j) x k h =
-    ap (λ (n : ℕ). lane j n % 2)
-    (div-div-eq-div-mul x (2 ^ k) 256 ∙ ap (λ (n : ℕ). x / n) (mul-comm (2 ^ k) 256) ∙ sym (div-div-eq-div-mul x 256 (2 ^ k)))
-    ∙ lane-bit j (x / 256) k h
+    rw (div-div-eq-div-mul x (2 ^ k) 256, mul-comm (2 ^ k) 256, ← div-div-eq-div-mul x 256 (2 ^ k)) (lane-bit j (x / 256) k h)
 
 -- ---- the doubling of a row
 
@@ -86,13 +76,11 @@ doubledRow s poly x = bitXor (bitAnd x sevens * 2) (bitAnd (x / 2 ^ (s - 1)) one
 
 lane-sevens : (j x : ℕ) → j < 8 → lane j (bitAnd x sevens) ≡ lane j x % 128
 unfolding lane
-lane-sevens j x h =
-    lane-and j x sevens ∙ ap (bitAnd (lane j x)) (same-below (λ i. lane i sevens) (λ i. 127) 8 tt j h) ∙ and-mask (lane j x) 7
+lane-sevens j x h = rw (lane-and, same-below (λ i. lane i sevens) (λ i. 127) 8 tt j h) (and-mask (lane j x) 7)
 
 lane-ones : (j x : ℕ) → j < 8 → lane j (bitAnd x ones) ≡ lane j x % 2
 unfolding lane
-lane-ones j x h =
-    lane-and j x ones ∙ ap (bitAnd (lane j x)) (same-below (λ i. lane i ones) (λ i. 1) 8 tt j h) ∙ and-mask (lane j x) 1
+lane-ones j x h = rw (lane-and, same-below (λ i. lane i ones) (λ i. 1) 8 tt j h) (and-mask (lane j x) 1)
 
 -- the double of a cell, as the row's doubling makes it
 double-cell : (k poly y : ℕ) → k < 8 → 2 ^ suc k ≤ poly → poly < 2 ^ suc k * 2 → y < 2 ^ suc k
@@ -111,36 +99,24 @@ double-cell k poly y hk low high h = go (ltb (y * 2) (2 ^ suc k)) refl
     go true e =
         let fits : y < 2 ^ k = omega (arith, twice, ltb-true (y * 2) (2 ^ suc k) e) in
         let same : y % 128 * 2 ≡ y * 2 = omega (arith, byte, twice) in
-        ap₂ (λ (a q : ℕ). bitXor a (q % 2 * (poly % 256))) same (div-eq-of-lt fits)
-        ∙ ap (bitXor (y * 2)) (zero-mul (poly % 256)) ∙ xor-zero-r (y * 2)
+        rw (same, div-eq-of-lt fits, zero-mul, xor-zero-r)
     go false e =
         let over : 2 ^ suc k ≤ y * 2 = ltb-false (y * 2) (2 ^ suc k) e in
+        let both : bitXor (y * 2) poly < 2 ^ suc k = rw e at (double-lt (suc k) poly low high y h) in
         let one : y / 2 ^ k ≡ 1 = div-eq-of-lt-le (2 ^ k) (omega (arith, twice)) (omega (arith, twice)) in
         let same : y % 128 * 2 ≡ y * 2 % 256 = omega (arith, byte) in
-        let small : bitXor (y * 2) poly < 256 = omega (arith, byte, both) in
-        ap₂ (λ (a q : ℕ). bitXor a (q % 2 * (poly % 256))) same one
-        ∙ ap (bitXor (y * 2 % 256)) (one-mul (poly % 256))
-        ∙ sym (xor-mod (y * 2) poly 8)
-        ∙ mod-eq-of-lt small
-      where
-        both : bitXor (y * 2) poly < 2 ^ suc k
-        both = subst (λ (b : Bool). cond b (y * 2) (bitXor (y * 2) poly) < 2 ^ suc k) e (double-lt (suc k) poly low high y h)
+        let small : bitXor (y * 2) poly < 256 = omega (arith, byte) in
+        rw (same, one, one-mul, ← xor-mod (y * 2) poly 8) (mod-eq-of-lt small)
 
 pub lane-double : (s poly x j : ℕ) → 1 ≤ s → s ≤ 8 → Modulus (2 ^ s) poly → j < 8 → lane j x < 2 ^ s
     → lane j (doubledRow s poly x) ≡ double (2 ^ s) poly (lane j x)
 lane-double zero poly x j l u m hj h = absurd (not-suc-le-zero l)
 lane-double (suc k) poly x j l u m hj h =
-    lane-xor j (bitAnd x sevens * 2) (bitAnd (x / 2 ^ (suc k - 1)) ones * (poly % 256))
-    ∙ ap₂ bitXor
-    (lane-mul j (bitAnd x sevens) 2 (λ i hi. omega (arith, lane-sevens i x (omega arith))) ∙ ap (λ (v : ℕ). v * 2) (lane-sevens j x hj))
-    (ap (λ (n : ℕ). lane j (bitAnd (x / 2 ^ n) ones * (poly % 256))) less
-    ∙ lane-mul j (bitAnd (x / 2 ^ k) ones) (poly % 256) (λ i hi. bit-fits i (omega arith))
-    ∙ ap (λ (v : ℕ). v * (poly % 256)) (lane-ones j (x / 2 ^ k) hj ∙ lane-bit j x k u))
-    ∙ double-cell k poly (lane j x) u (m .low) (m .high) h
+    let less : suc k - 1 ≡ k = omega arith in
+    rw (less, lane-xor, lane-mul j (bitAnd x sevens) 2 (λ i hi. omega (arith, lane-sevens i x (omega arith))), lane-sevens j x hj)
+    (rw (lane-mul j (bitAnd (x / 2 ^ k) ones) (poly % 256) (λ i hi. bit-fits i (omega arith)), lane-ones j (x / 2 ^ k) hj, lane-bit j x k u)
+    (double-cell k poly (lane j x) u (m .low) (m .high) h))
   where
-    less : suc k - 1 ≡ k
-    less = omega arith
-
     bit-fits : (i : ℕ) → i < 8 → lane i (bitAnd (x / 2 ^ k) ones) * (poly % 256) < 256
     bit-fits i hi =
         let bit : ℕ = lane i (bitAnd (x / 2 ^ k) ones) in
@@ -148,6 +124,9 @@ lane-double (suc k) poly x j l u m hj h =
         omega (arith, mul-le-mul {n₁ = bit} {m₁ = poly % 256} {n₂ = 1} {m₂ = 255} (omega (arith, lane-ones i (x / 2 ^ k) hi)) most)
 
 -- ---- a row made of its cells, the last first
+
+cells-suc : (e : ℕ) → 2 ^ (8 * suc e) ≡ 2 ^ (8 * e) * 256
+cells-suc e = let more : 8 * suc e ≡ 8 * e + 8 = omega arith in rw more (pow-add 2 (8 * e) 8)
 
 -- the number holds the last n cells of the row, and no more
 pub record Held (row : List ℕ) (n x : ℕ) : Type 0 where
@@ -164,77 +143,60 @@ held-room row n x h k = omega (arith, k .most, pow-mono {i = 8 * n} {j = 56} (om
 pub held-more : (row : List ℕ) (n x y : ℕ) → n < 8 → y < 256 → y ≡ getD row (7 - n) 0 → Held row n x → Held row (n + 1) (x * 256 + y)
 unfolding lane
 held-more row n x y h l e k =
-    record {
-      most = subst (λ (m : ℕ). x * 256 + y < m) (sym room) (digits-lt (k .most) l);
-      cell = cells;
-    }
+    record { most = rw (add-one, cells-suc) (digits-lt (k .most) l); cell = cells }
   where
-    room : 2 ^ (8 * (n + 1)) ≡ 2 ^ (8 * n) * 256
-    room = let eight : 8 * (n + 1) ≡ 8 * n + 8 = omega arith in ap (λ (m : ℕ). 2 ^ m) eight ∙ pow-add 2 (8 * n) 8
-
     cells : (j : ℕ) → j < n + 1 → lane j (x * 256 + y) ≡ getD row (8 - (n + 1) + j) 0
     cells zero hj =
-        let at : 7 - n ≡ 8 - (n + 1) + 0 = omega arith in
-        digits-mod x l ∙ e ∙ ap (λ (i : ℕ). getD row i 0) at
+        let at : 8 - (n + 1) + 0 ≡ 7 - n = omega arith in
+        rw at (digits-mod x l ∙ e)
     cells (suc j) hj =
-        let at : 8 - n + j ≡ 8 - (n + 1) + suc j = omega arith in
-        ap (lane j) (digits-div x l) ∙ k .cell j (omega arith) ∙ ap (λ (i : ℕ). getD row i 0) at
+        let at : 8 - (n + 1) + suc j ≡ 8 - n + j = omega arith in
+        rw (digits-div x l, at) (k .cell j (omega arith))
 
 -- ---- a row shifted by whole cells
-
-cells-suc : (e : ℕ) → 2 ^ (8 * suc e) ≡ 2 ^ (8 * e) * 256
-cells-suc e = let more : 8 * suc e ≡ 8 * e + 8 = omega arith in ap (λ (m : ℕ). 2 ^ m) more ∙ pow-add 2 (8 * e) 8
 
 -- shifted up by e cells: those below are empty
 lane-up : (j e x : ℕ) → lane (j + e) (x * 2 ^ (8 * e)) ≡ lane j x
 unfolding lane
-lane-up j zero x = ap₂ lane (add-zero j) (mul-one x)
-lane-up j (suc e) x =
-    ap₂ lane (add-suc j e) (ap (λ (m : ℕ). x * m) (cells-suc e) ∙ sym (mul-assoc x (2 ^ (8 * e)) 256))
-    ∙ ap (lane (j + e)) (mul-div-cancel (x * 2 ^ (8 * e)) (zero-lt-suc 255)) ∙ lane-up j e x
+lane-up j zero x = rw (add-zero, mul-one)
+lane-up j (suc e) x = rw (add-suc, cells-suc, ← mul-assoc) (ap (lane (j + e)) (mul-div-cancel (x * 2 ^ (8 * e)) (zero-lt-suc 255)) ∙ lane-up j e x)
 
 lane-under : (j e x : ℕ) → j < e → lane j (x * 2 ^ (8 * e)) ≡ 0
 unfolding lane
 lane-under j zero x h = absurd (not-suc-le-zero h)
-lane-under zero (suc e) x h =
-    ap (λ (m : ℕ). m % 256) (ap (λ (m : ℕ). x * m) (cells-suc e) ∙ sym (mul-assoc x (2 ^ (8 * e)) 256)) ∙ mul-mod-left (x * 2 ^ (8 * e)) 256
+lane-under zero (suc e) x h = rw (cells-suc, ← mul-assoc, mul-mod-left)
 lane-under (suc j) (suc e) x h =
-    ap (λ (m : ℕ). lane j (m / 256)) (ap (λ (m : ℕ). x * m) (cells-suc e) ∙ sym (mul-assoc x (2 ^ (8 * e)) 256))
-    ∙ ap (lane j) (mul-div-cancel (x * 2 ^ (8 * e)) (zero-lt-suc 255)) ∙ lane-under j e x (le-of-suc-le-suc h)
+    rw (cells-suc, ← mul-assoc, mul-div-cancel (x * 2 ^ (8 * e)) (zero-lt-suc 255)) (lane-under j e x (le-of-suc-le-suc h))
 
 -- shifted down by e cells
 lane-down : (j e x : ℕ) → lane j (x / 2 ^ (8 * e)) ≡ lane (j + e) x
 unfolding lane
-lane-down j zero x = ap₂ lane (sym (add-zero j)) (div-one x)
+lane-down j zero x = rw (add-zero, div-one)
 lane-down j (suc e) x =
-    ap (lane j) (ap (λ (m : ℕ). x / m) (cells-suc e ∙ mul-comm (2 ^ (8 * e)) 256) ∙ sym (div-div-eq-div-mul x 256 (2 ^ (8 * e))))
-    ∙ lane-down j e (x / 256) ∙ ap (λ (m : ℕ). lane m x) (sym (add-suc j e))
+    rw (add-suc, cells-suc, mul-comm (2 ^ (8 * e)) 256, ← div-div-eq-div-mul x 256 (2 ^ (8 * e))) (lane-down j e (x / 256))
 
 -- cut to n cells
 lane-cut : (j n x : ℕ) → j < n → lane j (x % 2 ^ (8 * n)) ≡ lane j x
 unfolding lane
 lane-cut j zero x h = absurd (not-suc-le-zero h)
 lane-cut zero (suc n) x h =
-    ap (λ (m : ℕ). x % m % 256) (cells-suc n) ∙ ap (λ (m : ℕ). m % 256) (mod-mul x {m = 2 ^ (8 * n)} {c = 256} (pow-pos (8 * n)) (zero-lt-suc 255))
-    ∙ digits-mod (x / 256 % 2 ^ (8 * n)) (mod-lt x (zero-lt-suc 255))
+    rw (cells-suc, mod-mul x {m = 2 ^ (8 * n)} {c = 256} (pow-pos (8 * n)) (zero-lt-suc 255)) (digits-mod (x / 256 % 2 ^ (8 * n)) (mod-lt x (zero-lt-suc 255)))
 lane-cut (suc j) (suc n) x h =
-    ap (λ (m : ℕ). lane j (x % m / 256)) (cells-suc n) ∙ ap (λ (m : ℕ). lane j (m / 256)) (mod-mul x {m = 2 ^ (8 * n)} {c = 256} (pow-pos (8 * n)) (zero-lt-suc 255))
-    ∙ ap (lane j) (digits-div (x / 256 % 2 ^ (8 * n)) (mod-lt x (zero-lt-suc 255))) ∙ lane-cut j n (x / 256) (le-of-suc-le-suc h)
+    rw (cells-suc, mod-mul x {m = 2 ^ (8 * n)} {c = 256} (pow-pos (8 * n)) (zero-lt-suc 255), digits-div (x / 256 % 2 ^ (8 * n)) (mod-lt x (zero-lt-suc 255)))
+    (lane-cut j n (x / 256) (le-of-suc-le-suc h))
 
 lane-past : (j n x : ℕ) → x < 2 ^ (8 * n) → n ≤ j → lane j x ≡ 0
 unfolding lane
-lane-past j zero x h l = ap (lane j) (lt-one h) ∙ lane-zero j
+lane-past j zero x h l = rw (lt-one h) (lane-zero j)
 lane-past zero (suc n) x h l = absurd (not-suc-le-zero l)
 lane-past (suc j) (suc n) x h l =
-    lane-past j n (x / 256) (div-lt-iff-lt-mul (zero-lt-suc 255) .1 (subst (λ (m : ℕ). x < m) (cells-suc n) h)) (le-of-suc-le-suc l)
+    lane-past j n (x / 256) (div-lt-iff-lt-mul (zero-lt-suc 255) .1 (rw cells-suc at h)) (le-of-suc-le-suc l)
 
 -- the first d cells turned: what lies above them is shifted out, the rest goes down, and the cells that fall out come in at the top
 pub lane-turned : (d by j x : ℕ) → 0 < by → by < d → d ≤ 8 → j < d
     → lane j (bitXor (x * 2 ^ (8 * (8 - d)) % 2 ^ 64 / 2 ^ (8 * (8 - d + by))) (x * 2 ^ (8 * (d - by)) % 2 ^ 64)) ≡ lane ((j + by) % d) x
 lane-turned d by j x p q u hj =
-    lane-xor j (y % 2 ^ 64 / 2 ^ (8 * (8 - d + by))) (w % 2 ^ 64)
-    ∙ ap₂ bitXor (lane-down j (8 - d + by) (y % 2 ^ 64)) (lane-cut j 8 w (omega arith))
-    ∙ ⊎-elim within past (lt-or-le (j + by) d)
+    rw (lane-xor, lane-down j (8 - d + by) (y % 2 ^ 64), lane-cut j 8 w (omega arith)) (⊎-elim within past (lt-or-le (j + by) d))
   where
     y : ℕ
     y = x * 2 ^ (8 * (8 - d))
@@ -245,12 +207,12 @@ lane-turned d by j x p q u hj =
     within : j + by < d → bitXor (lane (j + (8 - d + by)) (y % 2 ^ 64)) (lane j w) ≡ lane ((j + by) % d) x
     within h =
         let place : j + (8 - d + by) ≡ j + by + (8 - d) = omega arith in
-        ap₂ bitXor (lane-cut (j + (8 - d + by)) 8 y (omega arith) ∙ ap (λ (m : ℕ). lane m y) place ∙ lane-up (j + by) (8 - d) x) (lane-under j (d - by) x (omega arith))
-        ∙ xor-zero-r (lane (j + by) x) ∙ ap (λ (m : ℕ). lane m x) (sym (mod-eq-of-lt h))
+        rw (lane-cut (j + (8 - d + by)) 8 y (omega arith), place, lane-up (j + by) (8 - d) x, lane-under j (d - by) x (omega arith), mod-eq-of-lt h)
+        (xor-zero-r (lane (j + by) x))
 
     past : d ≤ j + by → bitXor (lane (j + (8 - d + by)) (y % 2 ^ 64)) (lane j w) ≡ lane ((j + by) % d) x
     past h =
-        let place : j ≡ j + by - d + (d - by) = omega arith in
+        let place : j + by - d + (d - by) ≡ j = omega arith in
         let turn : (j + by) % d ≡ j + by - d = mod-eq-sub-mod h ∙ mod-eq-of-lt (omega arith) in
-        ap₂ bitXor (lane-past (j + (8 - d + by)) 8 (y % 2 ^ 64) (mod-lt y (pow-pos 64)) (omega arith)) (ap (λ (m : ℕ). lane m w) place ∙ lane-up (j + by - d) (d - by) x)
-        ∙ xor-zero-l (lane (j + by - d) x) ∙ ap (λ (m : ℕ). lane m x) (sym turn)
+        let up : lane j w ≡ lane (j + by - d) x = rw place at (lane-up (j + by - d) (d - by) x) in
+        rw (lane-past (j + (8 - d + by)) 8 (y % 2 ^ 64) (mod-lt y (pow-pos 64)) (omega arith), up, turn) (xor-zero-l (lane (j + by - d) x))

@@ -1,7 +1,7 @@
 -- What the steps of a round make together, in either direction; each keeps the cells below their bound; and one round more of twelve.
 -- Assumes nothing.
-use mathlib.Core.Path.{_≡_, refl, sym, ap, _∙_}
-use mathlib.Core.List.{List, [], _∷_, foldl, foldl-append}
+use mathlib.Core.Path.{_≡_, refl, ap}
+use mathlib.Core.List.{foldl, foldl-append}
 use Prim.Native.Nat.{ℕ, _+_, _-_, _^_, _<_}
 use native.Mathlib.Numerals.{add-one}
 use native.Mathlib.Omega.{arith}
@@ -11,20 +11,20 @@ use Rattle.standard.specs.Rounds.{Direction, forward, backward, inTurn, rounds}
 use Rattle.standard.specs.Grid.{Grid, window, Small}
 use Rattle.standard.specs.Photon.{PhotonParameters, addConstants, subCells, shiftRows, mixColumns, unmixColumns, roundConstants, photonRound, photonRounds}
 use Rattle.standard.proofs.Tests.{bound-below}
-use Rattle.standard.proofs.PhotonLaws.{Sound, boxFor, window-state, state-small, add-state, sub-state, shift-state, round-state}
+use Rattle.standard.proofs.PhotonLaws.{Sound, constant-room, window-state, state-small, add-state, sub-state, shift-state, round-state}
 
-module _ (p : PhotonParameters) (h : Sound p) (g : Grid) (m : Small (p .d) (2 ^ p .s) g) (r : Grid) where
-  pub added-small : (rc : ℕ) → rc < 16 → window (p .d) r ≡ addConstants (p .d) rc (p .ic) (window (p .d) g) → Small (p .d) (2 ^ p .s) r
-  added-small rc hr e = state-small p r _ e (add-state p h rc (omega (arith, h .nibble)) (window (p .d) g) (window-state p g m))
+module _ (p : PhotonParameters) (h : Sound p) (g : Grid) (m : Small (p .d) (2 ^ p .s) g) (rc : ℕ) (hr : rc < 16) where
+  pub unmixed-small : (a b s : Grid)
+      → window (p .d) a ≡ addConstants (p .d) rc (p .ic) (window (p .d) g)
+      → window (p .d) b ≡ subCells (p .d) (p .box) (window (p .d) a)
+      → window (p .d) s ≡ shiftRows (p .d) 1 (window (p .d) b)
+      → Small (p .d) (2 ^ p .s) s
+  unmixed-small a b s e₁ e₂ e₃ =
+      let added = add-state p h rc (omega (arith, constant-room p h)) (window (p .d) g) (window-state p g m) in
+      state-small p s _ (rw (e₂, e₁) at e₃) (shift-state p h 1 _ (sub-state p h forward _ added))
 
-  pub substituted-small : (w : Direction) → window (p .d) r ≡ subCells (p .d) (boxFor p w) (window (p .d) g) → Small (p .d) (2 ^ p .s) r
-  substituted-small w e = state-small p r _ e (sub-state p h w (window (p .d) g) (window-state p g m))
-
-  pub shifted-small : (k : ℕ) → window (p .d) r ≡ shiftRows (p .d) k (window (p .d) g) → Small (p .d) (2 ^ p .s) r
-  shifted-small k e = state-small p r _ e (shift-state p h k (window (p .d) g) (window-state p g m))
-
-  pub round-small : (w : Direction) (rc : ℕ) → rc < 16 → window (p .d) r ≡ photonRound p w (window (p .d) g) rc → Small (p .d) (2 ^ p .s) r
-  round-small w rc hr e = state-small p r _ e (round-state p h w (window (p .d) g) rc (window-state p g m) (omega (arith, h .nibble)))
+  pub round-small : (w : Direction) (r : Grid) → window (p .d) r ≡ photonRound p w (window (p .d) g) rc → Small (p .d) (2 ^ p .s) r
+  round-small w r e = state-small p r _ e (round-state p h w (window (p .d) g) rc (window-state p g m) (omega (arith, constant-room p h)))
 
 module _ (p : PhotonParameters) (rc : ℕ) (g r : Grid) where
   pub round-is : (a b s : Grid)
@@ -34,8 +34,7 @@ module _ (p : PhotonParameters) (rc : ℕ) (g r : Grid) where
       → window (p .d) r ≡ mixColumns (2 ^ p .s) (p .poly) (p .d) (p .z) (window (p .d) s)
       → window (p .d) r ≡ photonRound p forward (window (p .d) g) rc
   unfolding photonRound
-  round-is a b s e₁ e₂ e₃ e₄ =
-      e₄ ∙ ap (mixColumns (2 ^ p .s) (p .poly) (p .d) (p .z)) (e₃ ∙ ap (shiftRows (p .d) 1) (e₂ ∙ ap (subCells (p .d) (p .box)) e₁))
+  round-is a b s e₁ e₂ e₃ e₄ = rw (e₄, e₃, e₂, e₁)
 
   pub unround-is : (m s b : Grid)
       → window (p .d) m ≡ unmixColumns (2 ^ p .s) (p .poly) (p .d) (p .unz) (window (p .d) g)
@@ -44,8 +43,7 @@ module _ (p : PhotonParameters) (rc : ℕ) (g r : Grid) where
       → window (p .d) r ≡ addConstants (p .d) rc (p .ic) (window (p .d) b)
       → window (p .d) r ≡ photonRound p backward (window (p .d) g) rc
   unfolding photonRound
-  unround-is m s b e₁ e₂ e₃ e₄ =
-      e₄ ∙ ap (addConstants (p .d) rc (p .ic)) (e₃ ∙ ap (subCells (p .d) (p .unbox)) (e₂ ∙ ap (shiftRows (p .d) (p .d - 1)) e₁))
+  unround-is m s b e₁ e₂ e₃ e₄ = rw (e₄, e₃, e₂, e₁)
 
 -- ---- the constants, and one round more
 
@@ -64,9 +62,7 @@ module _ (p : PhotonParameters) (w : Direction) (x : Grid) where
 
   pub first-more : (n : ℕ) → n < 12 → photonRound p w (first n) (getD (inTurn w roundConstants) n 0) ≡ first (n + 1)
   first-more n h =
-      let cs : List ℕ = inTurn w roundConstants in
-      sym (foldl-append (photonRound p w) x (take n cs) (getD cs n 0 ∷ []))
-      ∙ ap (foldl (photonRound p w) x) (sym (take-suc cs n 0 (omega (arith, twelve w))) ∙ ap (λ (k : ℕ). take k cs) (sym (add-one n)))
+      rw (add-one, take-suc (inTurn w roundConstants) n 0 (omega (arith, twelve w)), foldl-append)
 
   pub first-all : (n : ℕ) → n ≡ 12 → first n ≡ photonRounds p w x
   unfolding photonRounds rounds

@@ -1,6 +1,6 @@
 -- The rows of MixColumnsSerial, step by step: the matrix's own, and behind them the last row of each step.
 -- Assumes nothing.
-use mathlib.Core.Path.{_≡_, refl, sym, ap, _∙_, subst}
+use mathlib.Core.Path.{_≡_, refl, ap, _∙_}
 use mathlib.Core.List.{List}
 use mathlib.Core.Logic.{⊎-elim}
 use Prim.Native.Nat.{ℕ, _+_, _^_, _≤_, _<_}
@@ -14,7 +14,7 @@ use Rattle.standard.specs.Field.{dot}
 use Rattle.standard.specs.Photon.{mixColumns}
 use Rattle.standard.proofs.Tab.{tab-cong}
 use Rattle.standard.proofs.Recurrence.{mix-rows}
-use Rattle.photon.specs.Rows.{lane, lanes, columnFrom, Mixing, SmallRows}
+use Rattle.photon.specs.Rows.{lane, lanes, columnFrom, Mixing}
 use Rattle.photon.proofs.BitSums.{dots-lt}
 
 -- cell j of the row that the d rows from row n on make
@@ -28,9 +28,6 @@ pub record Stepped (d s poly z : ℕ) (own : List ℕ) (n : ℕ) (rows : List �
   pub made : (k j : ℕ) → k < n → j < d → lane j (getD rows (k + d) 0) ≡ next d s poly z rows k j
   pub small : (i j : ℕ) → i < n + d → j < d → lane j (getD rows i 0) < 2 ^ s
 
-pub stepped-small : (d s poly z : ℕ) (own : List ℕ) (n : ℕ) (rows : List ℕ) → Stepped d s poly z own n rows → SmallRows d (2 ^ s) rows n
-stepped-small d s poly z own n rows p = record { cell = λ i j hi hj. p .small (n + i) j (omega arith) hj }
-
 module _ (d s poly : ℕ) (m : Mixing d s poly) (z : ℕ) (own : List ℕ) where
   pub stepped-none : (g : Grid) → Small d (2 ^ s) g → length own ≡ 16 → ((i j : ℕ) → i < 8 → j < 8 → lane j (getD own i 0) ≡ at g i j)
       → Stepped d s poly z own 0 own
@@ -39,8 +36,7 @@ module _ (d s poly : ℕ) (m : Mixing d s poly) (z : ℕ) (own : List ℕ) where
         size = len;
         first = λ i hi. refl;
         made = λ k j hk hj. absurd (not-suc-le-zero hk);
-        small = λ i j hi hj.
-            subst (λ (x : ℕ). x < 2 ^ s) (sym (e i j (omega (arith, m .most)) (omega (arith, m .most)))) (h .cell i j (omega arith) hj);
+        small = λ i j hi hj. rw (e i j (omega (arith, m .most)) (omega (arith, m .most))) (h .cell i j (omega arith) hj);
       }
 
   pub stepped-more : (n : ℕ) (rows : List ℕ) (x : ℕ) → n < d → ((j : ℕ) → j < d → lane j x ≡ next d s poly z rows n j)
@@ -49,38 +45,24 @@ module _ (d s poly : ℕ) (m : Mixing d s poly) (z : ℕ) (own : List ℕ) where
       record {
         size = length-set rows (n + d) x ∙ p .size;
         first = λ i hi. other i (omega arith) ∙ p .first i hi;
-        made = λ k j hk hj. ⊎-elim (made-last k j hj) (made-before k j hj) (eq-or-lt-of-le (le-of-suc-le-suc (subst (λ (i : ℕ). k < i) (add-one n) hk)));
-        small = λ i j hi hj. ⊎-elim (small-last i j hj) (small-before i j hj) (eq-or-lt-of-le (omega arith));
+        made = λ k j hk hj.
+            ⊎-elim (λ q. rw q (ap (lane j) last ∙ e j hj ∙ same n j (omega arith))) (λ l. rw (other (k + d) (omega arith)) (p .made k j l hj ∙ same k j (omega arith)))
+            (eq-or-lt-of-le (le-of-suc-le-suc (rw add-one at hk)));
+        small = λ i j hi hj.
+            ⊎-elim
+            (λ (q : i ≡ n + d).
+            rw (q, last, e j hj) (dots-lt s poly (m .modulus .low) (m .modulus .high) d _ _ (λ k hk. p .small (n + k) j (omega arith) hj)))
+            (λ l. rw (other i l) (p .small i j l hj)) (eq-or-lt-of-le (omega arith));
       }
     where
-      rows′ : List ℕ
-      rows′ = set rows (n + d) x
-
-      other : (i : ℕ) → i < n + d → getD rows′ i 0 ≡ getD rows i 0
+      other : (i : ℕ) → i < n + d → getD (set rows (n + d) x) i 0 ≡ getD rows i 0
       other i h = getD-set-other rows (n + d) i x 0 (λ q. omega arith)
 
-      last : getD rows′ (n + d) 0 ≡ x
+      last : getD (set rows (n + d) x) (n + d) 0 ≡ x
       last = getD-set-same rows (n + d) x 0 (omega (arith, p .size, m .most))
 
-      same : (k j : ℕ) → k ≤ n → next d s poly z rows k j ≡ next d s poly z rows′ k j
-      same k j h =
-          ap (dot (2 ^ s) poly (lanes d z))
-          (tab-cong d (λ i. lane j (getD rows (k + i) 0)) (λ i. lane j (getD rows′ (k + i) 0)) (λ i hi. ap (lane j) (sym (other (k + i) (omega arith)))))
-
-      made-last : (k j : ℕ) → j < d → k ≡ n → lane j (getD rows′ (k + d) 0) ≡ next d s poly z rows′ k j
-      made-last k j hj q =
-          subst (λ (i : ℕ). lane j (getD rows′ (i + d) 0) ≡ next d s poly z rows′ i j) (sym q) (ap (lane j) last ∙ e j hj ∙ same n j (omega arith))
-
-      made-before : (k j : ℕ) → j < d → k < n → lane j (getD rows′ (k + d) 0) ≡ next d s poly z rows′ k j
-      made-before k j hj l = ap (lane j) (other (k + d) (omega arith)) ∙ p .made k j l hj ∙ same k j (omega arith)
-
-      small-last : (i j : ℕ) → j < d → i ≡ n + d → lane j (getD rows′ i 0) < 2 ^ s
-      small-last i j hj q =
-          subst (λ (y : ℕ). y < 2 ^ s) (sym (ap (λ (k : ℕ). lane j (getD rows′ k 0)) q ∙ ap (lane j) last ∙ e j hj))
-          (dots-lt s poly (m .modulus .low) (m .modulus .high) d (λ k. lane k z) (λ k. lane j (getD rows (n + k) 0)) (λ k hk. p .small (n + k) j (omega arith) hj))
-
-      small-before : (i j : ℕ) → j < d → i < n + d → lane j (getD rows′ i 0) < 2 ^ s
-      small-before i j hj l = subst (λ (y : ℕ). lane j y < 2 ^ s) (sym (other i l)) (p .small i j l hj)
+      same : (k j : ℕ) → k ≤ n → next d s poly z rows k j ≡ next d s poly z (set rows (n + d) x) k j
+      same k j h = ap (dot (2 ^ s) poly (lanes d z)) (tab-cong d _ _ (λ i hi. rw (other (k + i) (omega arith))))
 
   pub stepped-all : (g r : Grid) (n : ℕ) (rows : List ℕ) → n ≡ d → Stepped d s poly z own n rows
       → ((i j : ℕ) → i < 8 → j < 8 → lane j (getD own i 0) ≡ at g i j)

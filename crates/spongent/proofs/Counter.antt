@@ -1,6 +1,6 @@
 -- What the code computes of a counter: the next one for each width, and how many are left.
 -- Assumes nothing.
-use mathlib.Core.Path.{_≡_, sym, ap, ap₂, _∙_}
+use mathlib.Core.Path.{_≡_, sym, ap, _∙_}
 use mathlib.Core.Bool.{xor}
 use mathlib.Core.List.{List, [], _∷_}
 use Prim.Native.Nat.{ℕ, suc, _+_, _-_, _*_, _/_, _%_, _^_, _<_}
@@ -18,10 +18,8 @@ use Rattle.spongent.specs.Parameters.{tapsOf}
 next-suc : (v : ℕ) (taps : List ℕ) (c : ℕ) → c % 2 ^ v * 2 + digit (tapped taps c) ≡ nextCounter (suc v) taps c
 unfolding nextCounter
 next-suc v taps c =
-    let d : ℕ = digit (tapped taps c) in
-    let hd : d < 2 = digit-lt (tapped taps c) in
-    sym (ap (λ (m : ℕ). (c * 2 + d) % m) (pow-suc 2 v) ∙ mod-mul (c * 2 + d) (pow-pos v) (zero-lt-suc 1)
-    ∙ ap₂ (λ (x y : ℕ). x % 2 ^ v * 2 + y) (digits-div c hd) (digits-mod c hd))
+    let hd : digit (tapped taps c) < 2 = digit-lt (tapped taps c) in
+    rw (pow-suc, mod-mul (c * 2 + digit (tapped taps c)) (pow-pos v) (zero-lt-suc 1), digits-div c hd, digits-mod c hd)
 
 digit-xor : (a b : ℕ) → bitXor a b % 2 ≡ digit (xor (bit (a % 2)) (bit (b % 2)))
 digit-xor a b = sym (digit-bit (bitXor a b)) ∙ ap digit (bit-xor a b)

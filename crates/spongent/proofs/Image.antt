@@ -1,6 +1,6 @@
 -- Rounds on the bits of an image are the permutation on the image; its result is an image, which the opposite direction takes back.
 -- Assumes nothing.
-use mathlib.Core.Path.{_≡_, sym, ap, ap₂, _∙_}
+use mathlib.Core.Path.{_≡_}
 use mathlib.Core.Bool.{Bool, false}
 use mathlib.Core.List.{List, _++_}
 use Prim.Native.Nat.{ℕ, _-_, _≤_, _<_}
@@ -11,18 +11,14 @@ use Rattle.standard.specs.Rounds.{Direction, rounds}
 use Rattle.standard.specs.Spongent.{SpongentParameters, counters, lCounters, spongentRound, spongentPermutation}
 use Rattle.standard.proofs.BitLaws.{image-eq, length-unpack}
 use Rattle.standard.proofs.SpongentLaws.{length-spongentPermutation}
-use Rattle.standard.proofs.SpongentVariants.{Sizes, quarters}
 use Rattle.spongent.specs.Parameters.{tapsOf}
-use Rattle.spongent.proofs.ParametersOf.{Tabled, stateBits, roundCounts, widths, firsts}
+use Rattle.spongent.proofs.ParametersOf.{Sizes, quarters, Tabled, stateBits, roundCounts, widths, firsts}
 
 module _ (p : SpongentParameters) (i : ℕ) (z : Sizes p) (e : Tabled p i) where
   -- the counters that the code computes from its tables
   pub tabled-counters : (n : ℕ) → n ≡ getD roundCounts i 0 → counters (getD widths i 0) (tapsOf (getD widths i 0)) (getD firsts i 0) n ≡ lCounters p
   unfolding lCounters
-  tabled-counters n en =
-      ap (λ (w : ℕ). counters w (tapsOf w) (getD firsts i 0) n) (e .width)
-      ∙ ap₂ (λ (taps : List ℕ) (f : ℕ). counters (p .width) taps f n) (e .taps) (e .start)
-      ∙ ap (counters (p .width) (p .taps) (p .first)) (en ∙ e .count)
+  tabled-counters n en = rw (en, e .width, e .taps, e .start, e .count)
 
   pub rounds-image : (w : Direction) (s r cs : List ℕ) → length s ≡ 36 → length r ≡ 36 → ((k : ℕ) → getD r k 0 < 256) → cs ≡ lCounters p
       → bitsIn low-first r ≡ rounds (spongentRound (getD stateBits i 0)) w cs (take (getD stateBits i 0) (bitsIn low-first s)) ++ replicate (288 - getD stateBits i 0) false
@@ -32,7 +28,4 @@ module _ (p : SpongentParameters) (i : ℕ) (z : Sizes p) (e : Tabled p i) where
       let P : List Bool = spongentPermutation p w (unpack low-first (p .t) s) in
       let least : p .t ≤ 288 = z .most in
       let lp : length P ≡ p .t = length-spongentPermutation p (quarters z) w (unpack low-first (p .t) s) (length-unpack low-first (p .t) s (omega arith)) in
-      image-eq low-first 36 r P hr lr (omega arith)
-      (er
-      ∙ ap₂ (λ (t : ℕ) (ds : List ℕ). rounds (spongentRound t) w ds (take t (bitsIn low-first s)) ++ replicate (288 - t) false) (e .bits) ec
-      ∙ ap (λ (m : ℕ). P ++ replicate (288 - m) false) (sym lp))
+      image-eq low-first 36 r P hr lr (omega arith) (rw lp (rw (e .bits, ec) at er))

@@ -1,6 +1,6 @@
 -- The three layers on bytes, and one layer after another on the first t bits.
 -- Assumes nothing.
-use mathlib.Core.Path.{_≡_, refl, sym, ap, ap₂, _∙_, subst}
+use mathlib.Core.Path.{_≡_, refl, sym, ap, ap₂, _∙_}
 use mathlib.Core.Bool.{Bool, false}
 use mathlib.Core.List.{List, [], _∷_, _++_, map, append-nil}
 use Prim.Native.Nat.{ℕ, _+_, _-_, _*_, _/_, _%_, _≤_, _<_}
@@ -31,11 +31,11 @@ unfolding lowBits
 byte-nibbles box h b hb =
     let lo : ℕ = getD box (b % 16) 0 in
     let hi : ℕ = getD box (b / 16) 0 in
+    let top : b / 16 % 16 ≡ b / 16 = mod-eq-of-lt (omega arith) in
     let e : sBoxLayer box (lowBits 8 b) ≡ lowBits 4 lo ++ lowBits 4 hi =
-    ap (sBoxLayer box) (lowBits-add 4 4 b) ∙ two-nibbles box b (b / 16)
-    ∙ ap₂ (λ (x y : ℕ). lowBits 4 (getD box x 0) ++ lowBits 4 (getD box y 0)) (lowValue-of 4 b) (lowValue-of 4 (b / 16) ∙ mod-eq-of-lt (omega arith)) in
-    sym (ap lowValue e ∙ lowValue-append (lowBits 4 lo) (lowBits 4 hi)
-    ∙ ap₂ (λ (x y : ℕ). x + 16 * y) (lowValue-lowBits 4 lo (h (b % 16) (omega arith))) (lowValue-lowBits 4 hi (h (b / 16) (omega arith))))
+    ap (sBoxLayer box) (lowBits-add 4 4 b) ∙ two-nibbles box b (b / 16) ∙ rw (lowValue-of 4 b, lowValue-of 4 (b / 16), top) in
+    let sum = lowValue-append (lowBits 4 lo) (lowBits 4 hi) in
+    sym (ap lowValue e ∙ rw (lowValue-lowBits 4 lo (h (b % 16) (omega arith)), lowValue-lowBits 4 hi (h (b / 16) (omega arith))) at sum)
 
 first-byte : (box : List ℕ) (b : ℕ) (l : List Bool) → sBoxLayer box (lowBits 8 b ++ l) ≡ sBoxLayer box (lowBits 8 b) ++ sBoxLayer box l
 unfolding sBoxLayer lowBits
@@ -45,19 +45,13 @@ sBoxLayer-bytes : (box bytes : List ℕ) → bitsIn low-first (map (byteBy box) 
 unfolding bitsIn bitsOf ordered sBoxLayer
 sBoxLayer-bytes box [] = refl
 sBoxLayer-bytes box (b ∷ bytes) =
-    ap₂ (λ (k l : List Bool). k ++ l)
-    (ap (λ (m : ℕ). lowBits m (byteBy box b)) (sym (length-sBoxLayer box (lowBits 8 b) ∙ length-lowBits 8 b)) ∙ lowBits-lowValue (sBoxLayer box (lowBits 8 b)))
-    (sBoxLayer-bytes box bytes)
-    ∙ sym (first-byte box b (bitsIn low-first bytes))
+    let size : length (sBoxLayer box (lowBits 8 b)) ≡ 8 = length-sBoxLayer box (lowBits 8 b) ∙ length-lowBits 8 b in
+    rw (rw size at (lowBits-lowValue (sBoxLayer box (lowBits 8 b))), sBoxLayer-bytes box bytes) (sym (first-byte box b (bitsIn low-first bytes)))
 
 -- the first n bytes replaced
 pub mapped-bits : (box : List ℕ) (n : ℕ) (s : List ℕ)
     → bitsIn low-first (mapped (byteBy box) n s) ≡ sBoxLayer box (take (8 * n) (bitsIn low-first s)) ++ drop (8 * n) (bitsIn low-first s)
-mapped-bits box n s =
-    bitsIn-append low-first (map (byteBy box) (take n s)) (drop n s)
-    ∙ ap₂ (λ (k l : List Bool). k ++ l)
-    (sBoxLayer-bytes box (take n s) ∙ ap (sBoxLayer box) (sym (bitsIn-take low-first n s)))
-    (sym (bitsIn-drop low-first n s))
+mapped-bits box n s = rw (bitsIn-append, sBoxLayer-bytes, ← bitsIn-take, ← bitsIn-drop)
 
 -- ---- cAddition
 
@@ -109,5 +103,4 @@ module _ (t : ℕ) (A x z : List Bool) (lx : length x ≡ t) (e : A ≡ x ++ z) 
 
   -- a layer g on the first n bytes
   pub layer-after : (g : List Bool → List Bool) (n : ℕ) (B : List Bool) → 8 * n ≡ t → B ≡ g (take (8 * n) A) ++ drop (8 * n) A → B ≡ g x ++ z
-  layer-after g n B en eb =
-      subst (λ (m : ℕ). B ≡ g (take m A) ++ drop m A) en eb ∙ ap₂ (λ (k l : List Bool). g k ++ l) first-bits other-bits
+  layer-after g n B en eb = rw (en, first-bits, other-bits) at eb

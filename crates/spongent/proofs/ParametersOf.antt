@@ -2,13 +2,13 @@
 -- Assumes nothing.
 use mathlib.Core.Path.{_≡_, refl}
 use mathlib.Core.List.{List, [], _∷_}
-use Prim.Native.Nat.{ℕ, _-_, _≤_}
+use Prim.Native.Nat.{ℕ, _-_, _%_, _≤_, _<_}
+use native.Mathlib.Omega.{arith}
 use lib.ListN.{getD}
 use Rattle.standard.specs.Spongent.{SpongentParameters}
 use Rattle.standard.specs.Sponge.{spongent}
 use Rattle.standard.specs.Variants.{variant}
 use Rattle.standard.proofs.Tests.{six-to-ten}
-use Rattle.standard.proofs.SpongentVariants.{Sizes, sizes-88, sizes-136, sizes-176, sizes-240, sizes-272}
 use Rattle.spongent.specs.Parameters.{spongentOf, tapsOf}
 
 pub family-of : (v : ℕ) → 6 ≤ v → v ≤ 10 → variant v .family ≡ spongent (spongentOf v)
@@ -19,9 +19,23 @@ pub bits-of : (v : ℕ) → 6 ≤ v → v ≤ 10 → variant v .t ≡ spongentOf
 unfolding variant spongentOf
 bits-of = six-to-ten (λ v. variant v .t ≡ spongentOf v .t) refl refl refl refl refl
 
+-- what the code and the laws ask of the numbers of Table 9
+pub record Sizes (p : SpongentParameters) : Type 0 where
+  pub least : 8 ≤ p .t
+  pub most : p .t ≤ 288
+  pub whole : p .t % 8 ≡ 0
+  pub narrow : 6 ≤ p .width
+  pub wide : p .width ≤ 8
+  pub rounds : p .R ≤ 140
+  pub start : p .first < 256
+
+-- whole bytes are whole nibbles
+pub quarters : {p : SpongentParameters} → Sizes p → p .t % 4 ≡ 0
+quarters {p} z = let h : p .t % 8 ≡ 0 = z .whole in omega arith
+
 pub sizes-of : (v : ℕ) → 6 ≤ v → v ≤ 10 → Sizes (spongentOf v)
 unfolding variant spongentOf
-sizes-of = six-to-ten (λ v. Sizes (spongentOf v)) sizes-88 sizes-136 sizes-176 sizes-240 sizes-272
+sizes-of = six-to-ten (λ v. Sizes (spongentOf v)) (omega arith) (omega arith) (omega arith) (omega arith) (omega arith)
 
 -- the code's tables
 abbrev pub stateBits : List ℕ

@@ -1,6 +1,6 @@
 -- Bits moved as pairs: the planes of the pairs are pLayer on the bits, and the way back is its inverse.
 -- Assumes nothing.
-use mathlib.Core.Path.{_≡_, refl, sym, ap, ap₂, _∙_, subst}
+use mathlib.Core.Path.{_≡_, refl, sym, ap, _∙_}
 use mathlib.Core.Bool.{Bool, false}
 use mathlib.Core.List.{List}
 use Prim.Native.Nat.{ℕ, zero, suc, _+_, _-_, _*_, _/_, _%_, _^_, _≤_, _<_}
@@ -10,7 +10,7 @@ use lib.Arith.{mod-mul, digits-mod}
 use lib.Pow.{shr-shr, high}
 use lib.ListN.{length, getD, take, drop, replicate, length-drop, length-replicate}
 use lib.Seq.{ext-getD, getD-take, getD-drop, length-take-le}
-use Rattle.standard.specs.Bits.{low-first, digit, bit, bitsIn}
+use Rattle.standard.specs.Bits.{low-first, digit, bitsIn}
 use Rattle.standard.specs.Spongent.{pLayer}
 use Rattle.standard.proofs.BitLaws.{bitsIn-digit, bit-digit, length-bitsIn, bitsIn-drop, bitsIn-zeros}
 use Rattle.standard.proofs.SpongentLaws.{length-pLayer, pLayer-plane}
@@ -33,29 +33,26 @@ unfolding pairAt
 pairAt-in s k m h =
     let ek : (4 * k + m) / 4 ≡ k = omega arith in
     let em : (4 * k + m) % 4 ≡ m = omega arith in
-    ap₂ (λ (i l : ℕ). getD s i 0 / 2 ^ (2 * l) % 4) ek em
+    rw (ek, em)
 
 pub joined-at : (pairs r : List ℕ) (j : ℕ) → Joined pairs (j / 4) (getD r (j / 4) 0) → pairAt r j ≡ getD pairs j 0
 unfolding pairAt
 joined-at pairs r j h =
     let k : ℕ = j / 4 in
     let x : ℕ = getD r k 0 in
-    let e0 : 4 * k ≡ 4 * k + 0 = omega arith in
+    let e0 : 4 * k + 0 ≡ 4 * k = omega arith in
     let ej : 4 * k + j % 4 ≡ j = omega arith in
-    zero-to-three (λ m. x / 2 ^ (2 * m) % 4 ≡ getD pairs (4 * k + m) 0)
-    (ap (λ (y : ℕ). y % 4) (div-one x) ∙ h .0 ∙ ap (λ (i : ℕ). getD pairs i 0) e0)
-    (h .1 .0) (h .1 .1 .0) (h .1 .1 .1) (j % 4) (omega arith)
-    ∙ ap (λ (i : ℕ). getD pairs i 0) ej
+    rw ej at (zero-to-three (λ m. x / 2 ^ (2 * m) % 4 ≡ getD pairs (4 * k + m) 0) (rw (div-one x, e0) (h .0)) (h .1 .0) (h .1 .1 .0) (h .1 .1 .1) (j % 4) (omega arith))
 
 -- v has the bits of w at the places b and b + 4
 pair-is : (b v w : ℕ) → w < 4 → (lo hi : ℕ) → lo < 2 ^ b → v ≡ (hi * 2 + w % 2) * 2 ^ b + lo → (below above : ℕ) → below < 2 ^ (b + 4)
     → v ≡ (above * 2 + w / 2) * 2 ^ (b + 4) + below → pairOf b v ≡ w
 unfolding pairOf
 pair-is b v w hw lo hi hl e below above hb e4 =
-    ap₂ (λ (x y : ℕ). x + y * 2) (bit-is b lo hi (w % 2) (omega arith) hl e) (bit-is (b + 4) below above (w / 2) (omega arith) hb e4) ∙ omega arith
+    rw (bit-is b lo hi (w % 2) (omega arith) hl e, bit-is (b + 4) below above (w / 2) (omega arith) hb e4) (omega arith)
   where
     bit-is : (k l h d : ℕ) → d < 2 → l < 2 ^ k → v ≡ (h * 2 + d) * 2 ^ k + l → v / 2 ^ k % 2 ≡ d
-    bit-is k l h d hd hl e = ap (λ (x : ℕ). x / 2 ^ k % 2) e ∙ ap (λ (x : ℕ). x % 2) (high (h * 2 + d) k hl) ∙ digits-mod h hd
+    bit-is k l h d hd hl e = rw (e, high (h * 2 + d) k hl) (digits-mod h hd)
 
 -- a byte of bits that stand as the planes take them
 module _ (w x y z : ℕ) (hw : w < 4) (hx : x < 4) (hy : y < 4) (hz : z < 4) (v : ℕ)
@@ -102,13 +99,9 @@ pub in-planes : (n : ℕ) (Q : ℕ → ℕ → ℕ → Type 0)
 in-planes n Q q0 q1 q2 q3 j h =
     let i : ℕ = j % n in
     let hi : i < n = mod-lt j {m = n} (omega arith) in
-    let e0 : i ≡ 0 * n + i = omega arith in
-    let e1 : n + i ≡ 1 * n + i = omega arith in
-    subst (λ (k : ℕ). Q k (j / n) i) (div-add-mod' j n)
-    (zero-to-three (λ b. Q (b * n + i) b i)
-    (subst (λ (k : ℕ). Q k 0 i) e0 (q0 i hi))
-    (subst (λ (k : ℕ). Q k 1 i) e1 (q1 i hi))
-    (q2 i hi) (q3 i hi) (j / n) (plane-lt j n h))
+    let e0 : 0 * n + i ≡ i = omega arith in
+    let e1 : 1 * n + i ≡ n + i = omega arith in
+    rw (div-add-mod' j n) at (zero-to-three (λ b. Q (b * n + i) b i) (rw e0 (q0 i hi)) (rw e1 (q1 i hi)) (q2 i hi) (q3 i hi) (j / n) (plane-lt j n h))
 
 pub zeros-at : (n k : ℕ) → _≡_ {A = ℕ} (getD (replicate n 0) k 0) 0
 zeros-at zero k = refl
@@ -125,13 +118,9 @@ low-of-four y (suc (suc e)) h = absurd (omega arith)
 pairAt-digit : (r : List ℕ) (k : ℕ) → pairAt r (k / 2) / 2 ^ (k % 2) % 2 ≡ getD r (k / 8) 0 / 2 ^ (k % 8) % 2
 unfolding pairAt
 pairAt-digit r k =
-    let x : ℕ = getD r (k / 2 / 4) 0 in
-    let w : ℕ = 2 * (k / 2 % 4) in
     let ei : k / 2 / 4 ≡ k / 8 = omega arith in
-    let ew : w + k % 2 ≡ k % 8 = omega arith in
-    low-of-four (x / 2 ^ w) (k % 2) (omega arith)
-    ∙ ap (λ (y : ℕ). y % 2) (shr-shr x w (k % 2))
-    ∙ ap₂ (λ (i l : ℕ). getD r i 0 / 2 ^ l % 2) ei ew
+    let ew : 2 * (k / 2 % 4) + k % 2 ≡ k % 8 = omega arith in
+    rw (low-of-four _ (k % 2) (omega arith), shr-shr, ei, ew)
 
 pairOf-digit : (b x e : ℕ) → e < 2 → pairOf b x / 2 ^ e % 2 ≡ x / 2 ^ (4 * e + b) % 2
 unfolding pairOf
@@ -146,7 +135,7 @@ abbrev pub Moved : ℕ → List ℕ → List ℕ → Type 0
 Moved n s r = (j : ℕ) → j < 4 * n → pairAt r j ≡ pairOf (j / n) (getD s (j % n) 0)
 
 same-digit : (a b : Bool) → digit a ≡ digit b → a ≡ b
-same-digit a b e = sym (bit-digit a) ∙ ap bit e ∙ bit-digit b
+same-digit a b e = rw (← bit-digit a, e, bit-digit)
 
 module _ (t : ℕ) (least : 8 ≤ t) (most : t ≤ 288) (whole : t % 8 ≡ 0) (s r : List ℕ) (ls : length s ≡ 36) (lr : length r ≡ 36) where
   -- bit k of r comes from where pLayer takes it
@@ -154,20 +143,14 @@ module _ (t : ℕ) (least : 8 ≤ t) (most : t ≤ 288) (whole : t % 8 ≡ 0) (s
   moved-digit h k p hk ep =
       let n : ℕ = t / 8 in
       let j : ℕ = k / 2 in
-      let i : ℕ = j % n in
-      let b : ℕ = j / n in
-      let e : ℕ = k % 2 in
       let hj : j < 4 * n = omega arith in
       let q : t / 4 ≡ n * 2 = omega arith in
-      let hb : b < 4 = plane-lt j n hj in
-      let eb : k / (t / 4) ≡ b = ap (λ (m : ℕ). k / m) (q ∙ mul-comm n 2) ∙ sym (div-div-eq-div-mul k 2 n) in
-      let ei : k % (t / 4) ≡ i * 2 + e = ap (λ (m : ℕ). k % m) q ∙ mod-mul k {m = n} {c = 2} (omega arith) (omega arith) in
-      let ip : i ≡ p / 8 = omega arith in
-      let wp : 4 * e + b ≡ p % 8 = omega arith in
-      sym (pairAt-digit r k)
-      ∙ ap (λ (x : ℕ). x / 2 ^ e % 2) (h j hj)
-      ∙ pairOf-digit b (getD s i 0) e (omega arith)
-      ∙ ap₂ (λ (x w : ℕ). getD s x 0 / 2 ^ w % 2) ip wp
+      let hb : j / n < 4 = plane-lt j n hj in
+      let eb : k / (t / 4) ≡ j / n = rw (q, mul-comm n 2, div-div-eq-div-mul) in
+      let ei : k % (t / 4) ≡ j % n * 2 + k % 2 = rw q (mod-mul k {m = n} {c = 2} (omega arith) (omega arith)) in
+      let ip : j % n ≡ p / 8 = omega arith in
+      let wp : 4 * (k % 2) + j / n ≡ p % 8 = omega arith in
+      rw (← pairAt-digit r k, h j hj, pairOf-digit (j / n) (getD s (j % n) 0) (k % 2) (omega arith), ip, wp)
 
   pub moved-bits : Moved (t / 8) s r → take t (bitsIn low-first r) ≡ pLayer t (t / 4) (take t (bitsIn low-first s))
   moved-bits h =
@@ -193,12 +176,11 @@ module _ (t : ℕ) (least : 8 ≤ t) (most : t ≤ 288) (whole : t % 8 ≡ 0) (s
 module _ (t : ℕ) (least : 8 ≤ t) (most : t ≤ 288) (whole : t % 8 ≡ 0) (r : List ℕ) (lr : length r ≡ 36) where
   pub bits-behind : ((k : ℕ) → t / 8 ≤ k → getD r k 0 ≡ 0) → drop t (bitsIn low-first r) ≡ replicate (288 - t) false
   bits-behind h =
-      let et : t ≡ 8 * (t / 8) = omega arith in
+      let et : 8 * (t / 8) ≡ t = omega arith in
       let left : 8 * (36 - t / 8) ≡ 288 - t = omega arith in
-      ap (λ (m : ℕ). drop m (bitsIn low-first r)) et ∙ bitsIn-drop low-first (t / 8) r
-      ∙ ap (bitsIn low-first) none ∙ bitsIn-zeros low-first (36 - t / 8) ∙ ap (λ (m : ℕ). replicate m false) left
+      rw (none, bitsIn-zeros, et, left) at (bitsIn-drop low-first (t / 8) r)
     where
       none : drop (t / 8) r ≡ replicate (36 - t / 8) 0
       none =
-          ext-getD 0 (drop (t / 8) r) (replicate (36 - t / 8) 0) (length-drop (t / 8) r ∙ ap (λ (m : ℕ). m - t / 8) lr ∙ sym (length-replicate (36 - t / 8) 0))
-          (λ k hk. getD-drop (t / 8) r k 0 ∙ h (t / 8 + k) (omega arith) ∙ sym (zeros-at (36 - t / 8) k))
+          ext-getD 0 (drop (t / 8) r) (replicate (36 - t / 8) 0) (simp (length-drop, lr, length-replicate))
+          (λ k hk. rw (getD-drop, h (t / 8 + k) (omega arith), zeros-at))

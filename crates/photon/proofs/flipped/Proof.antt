@@ -1,5 +1,4 @@
--- `photon::flipped` meets its contract: after i turns the first i rows are the last, in reverse.
--- Assumes nothing.
+-- `photon::flipped` meets its contract: after i turns the first i rows are the last, in reverse. Assumes nothing.
 use mathlib.Core.Path.{_≡_, refl}
 use mathlib.Core.List.{[]}
 use Prim.Native.Nat.{_-_, _≤_}
@@ -16,33 +15,6 @@ Inv-loop d g out₀ i₀ out i = (i ≤ d) × Upto [] (λ k row. row ≡ getD g 
 abbrev μ-loop : tie.MeasureT-loop
 μ-loop d g out₀ i₀ out i = d - i
 
-loop-holds : tie.Need-loop-holds Inv-loop μ-loop
-loop-holds c = (omega arith, upto-none _ (c .good .0 .1 .0 .1))
-
-sub-k : tie.Need-sub-k Inv-loop μ-loop
-sub-k c = omega arith
-
-sub-k-2 : tie.Need-sub-k-2 Inv-loop μ-loop
-sub-k-2 c = omega arith
-
-mul-out : tie.Need-mul-out Inv-loop μ-loop
-mul-out c = omega arith
-
-array-copy-out-out : tie.Need-array-copy-out-out Inv-loop μ-loop
-array-copy-out-out c = omega arith
-
-mul-out-2 : tie.Need-mul-out-2 Inv-loop μ-loop
-mul-out-2 c = omega arith
-
-array-set-from-out : tie.Need-array-set-from-out Inv-loop μ-loop
-array-set-from-out c = omega arith
-
-add-i : tie.Need-add-i Inv-loop μ-loop
-add-i c = omega arith
-
-loop-less : tie.Need-loop-less Inv-loop μ-loop
-loop-less c = omega arith
-
 loop-again : tie.Need-loop-again Inv-loop μ-loop
 loop-again c =
     let l = c .before .before .loop in
@@ -53,18 +25,5 @@ returns c = window-reverse (c .before .before .args .d) (c .before .loop .out) (
 
 pub flipped-spec : {M : Type 1} → statement M
 flipped-spec =
-    tie.close
-    (tie.spec
-    Inv-loop
-    μ-loop
-    loop-holds
-    sub-k
-    sub-k-2
-    mul-out
-    array-copy-out-out
-    mul-out-2
-    array-set-from-out
-    add-i
-    loop-less
-    loop-again
-    returns)
+    tie.close (tie.spec Inv-loop μ-loop (λ c. (omega arith, upto-none _ (c .good .0 .1 .0 .1))) (λ c. omega arith) (λ c. omega arith)
+    (λ c. omega arith) (λ c. omega arith) (λ c. omega arith) (λ c. omega arith) (λ c. omega arith) (λ c. omega arith) loop-again returns)

@@ -1,7 +1,6 @@
--- `photon::sub_row` meets its contract: after j turns the first j cells are looked up.
--- Assumes nothing.
-use mathlib.Core.Path.{_≡_, sym, ap, _∙_, subst}
-use Prim.Native.Nat.{ℕ, _-_, _≤_, _<_}
+-- `photon::sub_row` meets its contract: after j turns the first j cells are looked up. Assumes nothing.
+use mathlib.Core.Path.{_≡_}
+use Prim.Native.Nat.{_-_, _≤_}
 use native.Mathlib.Omega.{arith}
 use lib.ListN.{getD}
 use Rattle.arrays.proofs.Elements.{bytes-lt}
@@ -15,55 +14,19 @@ Inv-loop table out₀ j₀ out j = (j ≤ 8) × Upto 0 (λ k x. x ≡ getD table
 abbrev μ-loop : tie.MeasureT-loop
 μ-loop table out₀ j₀ out j = 8 - j
 
-loop-holds : tie.Need-loop-holds Inv-loop μ-loop
-loop-holds c = (omega arith, upto-none _ (c .good .1 .0 .1 .0 .1))
-
-array-read-wide : tie.Need-array-read-wide Inv-loop μ-loop
-array-read-wide c = omega arith
-
-wide-requires : tie.Need-wide-requires Inv-loop μ-loop
-wide-requires c κs = tt
-
 element-copy-out-out : tie.Need-element-copy-out-out Inv-loop μ-loop
 element-copy-out-out c =
     let l = c .before .before .loop in
     let s = c .before .before .before in
-    subst (λ (x : ℕ). x < 256) (sym (c .wide .ensures ∙ l .inv .1 .rest (l .j) (omega arith))) (bytes-lt 8 (s .args .row) _ (s .good .1 .0) (l .j))
-
-array-write-out : tie.Need-array-write-out Inv-loop μ-loop
-array-write-out c = omega arith
-
-add-j : tie.Need-add-j Inv-loop μ-loop
-add-j c = omega arith
-
-loop-less : tie.Need-loop-less Inv-loop μ-loop
-loop-less c = omega arith
+    rw (c .wide .ensures, l .inv .1 .rest (l .j) (omega arith)) (bytes-lt 8 (s .args .row) _ (s .good .1 .0) (l .j))
 
 loop-again : tie.Need-loop-again Inv-loop μ-loop
 loop-again c =
     let l = c .before .before .before .loop in
-    let s = c .before .before .before .before in (
-      omega arith,
-      upto-more (l .j) _ (l .out) _ (omega arith)
-          (ap (λ (x : ℕ). getD (s .args .table .now) x 0) (c .before .wide .ensures ∙ l .inv .1 .rest (l .j) (omega arith)))
-          (l .inv .1),
-    )
-
-returns : tie.Need-returns Inv-loop μ-loop
-returns c = λ j h. c .before .loop .inv .1 .done j (omega arith)
+    (omega arith, upto-more (l .j) _ (l .out) _ (omega arith) (rw (c .before .wide .ensures, l .inv .1 .rest (l .j) (omega arith))) (l .inv .1))
 
 pub sub-row-spec : {M : Type 1} → statement M
 sub-row-spec =
-    tie.close
-    (tie.spec
-    Inv-loop
-    μ-loop
-    loop-holds
-    array-read-wide
-    wide-requires
-    element-copy-out-out
-    array-write-out
-    add-j
-    loop-less
-    loop-again
-    returns)
+    tie.close (tie.spec Inv-loop μ-loop (λ c. (omega arith, upto-none _ (c .good .1 .0 .1 .0 .1))) (λ c. omega arith) (λ c κs. tt)
+    element-copy-out-out (λ c. omega arith) (λ c. omega arith) (λ c. omega arith) loop-again
+    (λ c j h. c .before .loop .inv .1 .done j (omega arith)))

@@ -1,5 +1,4 @@
--- `photon::turn_row` meets its contract.
--- Assumes nothing.
+-- `photon::turn_row` meets its contract. Assumes nothing.
 use mathlib.Core.Path.{_∙_}
 use Prim.Native.Nat.{_+_, _%_}
 use native.Mathlib.Nat.{mod-lt}
@@ -8,15 +7,6 @@ use borrow.Author.Needs.{needs}
 use Rattle.photon.proofs.turn_row.Statement.{statement}
 use Rattle.photon.proofs.turn_row.Tie as tie
 
-packed-requires : tie.Need-packed-requires
-packed-requires c κs = search needs
-
-turned-requires : tie.Need-turned-requires
-turned-requires c κs = search needs
-
-unpacked-requires : tie.Need-unpacked-requires
-unpacked-requires c κs = search needs
-
 returns : tie.Need-returns
 returns c = λ j h.
     let a = c .before .before .before .args in
@@ -24,4 +14,4 @@ returns c = λ j h.
     ∙ c .before .before .packed .ensures ((j + a .by) % a .d) (omega (arith, mod-lt (j + a .by) {m = a .d} (omega arith)))
 
 pub turn-row-spec : {M : Type 1} → statement M
-turn-row-spec = tie.close (tie.spec packed-requires turned-requires unpacked-requires returns)
+turn-row-spec = tie.close (tie.spec (λ c κs. search needs) (λ c κs. search needs) (λ c κs. search needs) returns)

@@ -1,5 +1,4 @@
--- `photon::with_first` meets its contract: in the sum of two rows each cell is a sum, and the second has no cell but the first.
--- Assumes nothing.
+-- `photon::with_first` meets its contract: in the sum of two rows each cell is a sum, and the second has no cell but the first. Assumes nothing.
 use mathlib.Core.Path.{_≡_, ap, ap₂, _∙_}
 use mathlib.Core.List.{List}
 use Prim.Native.Nat.{ℕ, zero, suc, _/_, _%_, _<_}
@@ -21,15 +20,6 @@ first-only row p w x e ew hx zero h = ap₂ bitXor (e 0 h) (ap (λ (n : ℕ). n 
 first-only row p w x e ew hx (suc j) h =
     ap₂ bitXor (e (suc j) h) (ap (λ (n : ℕ). lane j (n / 256)) ew ∙ ap (lane j) (div-eq-of-lt hx) ∙ lane-zero j) ∙ xor-zero-r (getD row (suc j) 0)
 
-packed-requires : tie.Need-packed-requires
-packed-requires c κs = search needs
-
-wide64-requires : tie.Need-wide64-requires
-wide64-requires c κs = search needs
-
-unpacked-requires : tie.Need-unpacked-requires
-unpacked-requires c κs = search needs
-
 returns : tie.Need-returns
 returns c = λ j h.
     let w = c .before .wide64 in
@@ -38,4 +28,4 @@ returns c = λ j h.
     c .unpacked .ensures j h ∙ lane-xor j (p .result) (w .result) ∙ first-only (a .row) (p .result) (w .result) (a .x) (p .ensures) (w .ensures) (omega arith) j h
 
 pub with-first-spec : {M : Type 1} → statement M
-with-first-spec = tie.close (tie.spec packed-requires wide64-requires unpacked-requires returns)
+with-first-spec = tie.close (tie.spec (λ c κs. search needs) (λ c κs. search needs) (λ c κs. search needs) returns)

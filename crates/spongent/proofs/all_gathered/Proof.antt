@@ -19,48 +19,12 @@ abbrev μ-loop : tie.MeasureT-loop
 loop-holds : tie.Need-loop-holds Inv-loop μ-loop
 loop-holds c = (omega arith, upto-none _ (omega arith))
 
-array-read-gathered : tie.Need-array-read-gathered Inv-loop μ-loop
-array-read-gathered c = omega arith
-
-add-gathered : tie.Need-add-gathered Inv-loop μ-loop
-add-gathered c = omega arith
-
-array-read-gathered-2 : tie.Need-array-read-gathered-2 Inv-loop μ-loop
-array-read-gathered-2 c = omega arith
-
-mul-gathered : tie.Need-mul-gathered Inv-loop μ-loop
-mul-gathered c = omega arith
-
-add-gathered-2 : tie.Need-add-gathered-2 Inv-loop μ-loop
-add-gathered-2 c = omega arith
-
-array-read-gathered-3 : tie.Need-array-read-gathered-3 Inv-loop μ-loop
-array-read-gathered-3 c = omega arith
-
-mul-gathered-2 : tie.Need-mul-gathered-2 Inv-loop μ-loop
-mul-gathered-2 c = omega arith
-
-add-gathered-3 : tie.Need-add-gathered-3 Inv-loop μ-loop
-add-gathered-3 c = omega arith
-
-array-read-gathered-4 : tie.Need-array-read-gathered-4 Inv-loop μ-loop
-array-read-gathered-4 c = omega arith
-
 gathered-requires : tie.Need-gathered-requires Inv-loop μ-loop
 gathered-requires c κs =
     let i : ℕ = c .before .loop .i in
     let n : ℕ = c .before .before .args .n in
     let small : (j : ℕ) → j < 4 * n → getD (c .before .before .args .t1) j 0 < 4 = c .before .before .pre .1 in
     (small i (omega arith), (small (n + i) (omega arith), (small (2 * n + i) (omega arith), small (3 * n + i) (omega arith))))
-
-array-write-out : tie.Need-array-write-out Inv-loop μ-loop
-array-write-out c = omega arith
-
-add-i : tie.Need-add-i Inv-loop μ-loop
-add-i c = omega arith
-
-loop-less : tie.Need-loop-less Inv-loop μ-loop
-loop-less c = omega arith
 
 loop-again : tie.Need-loop-again Inv-loop μ-loop
 loop-again c =
@@ -84,18 +48,18 @@ all-gathered-spec =
     Inv-loop
     μ-loop
     loop-holds
-    array-read-gathered
-    add-gathered
-    array-read-gathered-2
-    mul-gathered
-    add-gathered-2
-    array-read-gathered-3
-    mul-gathered-2
-    add-gathered-3
-    array-read-gathered-4
+    (λ c. omega arith)
+    (λ c. omega arith)
+    (λ c. omega arith)
+    (λ c. omega arith)
+    (λ c. omega arith)
+    (λ c. omega arith)
+    (λ c. omega arith)
+    (λ c. omega arith)
+    (λ c. omega arith)
     gathered-requires
-    array-write-out
-    add-i
-    loop-less
+    (λ c. omega arith)
+    (λ c. omega arith)
+    (λ c. omega arith)
     loop-again
     returns)

@@ -20,18 +20,6 @@ abbrev μ-loop : tie.MeasureT-loop
 loop-holds : tie.Need-loop-holds Inv-loop μ-loop
 loop-holds c = (omega arith, upto-none _ (omega arith))
 
-joined-at-requires : tie.Need-joined-at-requires Inv-loop μ-loop
-joined-at-requires c κs = (omega arith, c .before .before .before .pre .1)
-
-array-write-out : tie.Need-array-write-out Inv-loop μ-loop
-array-write-out c = omega arith
-
-add-k : tie.Need-add-k Inv-loop μ-loop
-add-k c = omega arith
-
-loop-less : tie.Need-loop-less Inv-loop μ-loop
-loop-less c = omega arith
-
 loop-again : tie.Need-loop-again Inv-loop μ-loop
 loop-again c =
     let l = c .before .before .before .loop in
@@ -52,9 +40,9 @@ all-joined-spec =
     Inv-loop
     μ-loop
     loop-holds
-    joined-at-requires
-    array-write-out
-    add-k
-    loop-less
+    (λ c κs. (omega arith, c .before .before .before .pre .1))
+    (λ c. omega arith)
+    (λ c. omega arith)
+    (λ c. omega arith)
     loop-again
     returns)

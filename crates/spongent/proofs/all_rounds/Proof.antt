@@ -1,8 +1,8 @@
 -- `all_rounds` is n rounds of either direction. The loop's invariant: the rounds that are left, from the k-th constant in turn on, lead to the end,
 -- and zeros stay behind the t bits. Assumes nothing.
-use mathlib.Core.Path.{_≡_, refl, sym, ap, ap₂, _∙_}
+use mathlib.Core.Path.{_≡_, refl, sym, ap, _∙_}
 use mathlib.Core.Bool.{Bool, false}
-use mathlib.Core.List.{List, [], _++_, foldl}
+use mathlib.Core.List.{List, foldl}
 use Prim.Native.Nat.{ℕ, _+_, _-_, _≤_, _<_}
 use native.Mathlib.Omega.{arith}
 use lib.ListN.{length, getD, take, drop, replicate, take-append-drop}
@@ -29,21 +29,6 @@ abbrev μ-loop : tie.MeasureT-loop
 loop-holds : tie.Need-loop-holds Inv-loop μ-loop
 unfolding rounds
 loop-holds c = (omega arith, refl, c .pre .1 .1)
-
-turn-requires : tie.Need-turn-requires Inv-loop μ-loop
-turn-requires c κs = omega arith
-
-array-read-round : tie.Need-array-read-round Inv-loop μ-loop
-array-read-round c = omega arith
-
-round-requires : tie.Need-round-requires Inv-loop μ-loop
-round-requires c κs = (omega arith, c .before .before .loop .inv .2)
-
-add-k : tie.Need-add-k Inv-loop μ-loop
-add-k c = omega arith
-
-loop-less : tie.Need-loop-less Inv-loop μ-loop
-loop-less c = omega arith
 
 loop-again : tie.Need-loop-again Inv-loop μ-loop
 loop-again c =
@@ -73,15 +58,11 @@ returns : tie.Need-returns Inv-loop μ-loop
 returns c =
     let l = c .before in
     let a = l .before .args in
-    let w : Direction = direction (a .back) in
-    let ds : List ℕ = inTurn w (take (a .n) (a .t3)) in
+    let ds : List ℕ = inTurn (direction (a .back)) (take (a .n) (a .t3)) in
     let L : List Bool = bitsIn low-first (l .loop .out) in
-    let ld : length ds ≡ l .loop .k = length-inTurn w (take (a .n) (a .t3)) ∙ length-take-le (a .n) (a .t3) (omega arith) ∙ omega arith in
-    let none : drop (l .loop .k) ds ≡ [] = ap (λ (m : ℕ). drop m ds) (sym ld) ∙ drop-length ds in
-    sym (take-append-drop (a .t) L)
-    ∙ ap₂ (λ (u v : List Bool). u ++ v)
-    (ap (foldl (spongentRound (a .t) w) (take (a .t) L)) (sym none) ∙ l .loop .inv .1)
-    (l .loop .inv .2)
+    let ld : length ds ≡ l .loop .k = length-inTurn (direction (a .back)) (take (a .n) (a .t3)) ∙ length-take-le (a .n) (a .t3) (omega arith) ∙ omega arith in
+    let done = rw (← ld, drop-length) at (l .loop .inv .1) in
+    sym (take-append-drop (a .t) L) ∙ rw (done, l .loop .inv .2)
 
 pub all-rounds-spec : {M : Type 1} → statement M
 all-rounds-spec =
@@ -90,10 +71,10 @@ all-rounds-spec =
     Inv-loop
     μ-loop
     loop-holds
-    turn-requires
-    array-read-round
-    round-requires
-    add-k
-    loop-less
+    (λ c κs. omega arith)
+    (λ c. omega arith)
+    (λ c κs. (omega arith, c .before .before .loop .inv .2))
+    (λ c. omega arith)
+    (λ c. omega arith)
     loop-again
     returns)

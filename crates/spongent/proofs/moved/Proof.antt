@@ -12,9 +12,6 @@ use borrow.Author.Needs.{needs}
 use Rattle.spongent.proofs.moved.Statement.{statement}
 use Rattle.spongent.proofs.moved.Tie as tie
 
-planes-requires : tie.Need-planes-requires
-planes-requires c κs = search needs
-
 all-joined-requires : tie.Need-all-joined-requires
 all-joined-requires c κs =
     let a = c .before .args in
@@ -32,4 +29,4 @@ returns c =
     (bits-behind (a .t) (omega arith) (omega arith) (omega arith) r (omega arith) (c .all-joined .ensures .1))
 
 pub moved-spec : {M : Type 1} → statement M
-moved-spec = tie.close (tie.spec planes-requires all-joined-requires returns)
+moved-spec = tie.close (tie.spec (λ c κs. search needs) all-joined-requires returns)

@@ -16,9 +16,6 @@ use borrow.Author.Needs.{needs}
 use Rattle.spongent.proofs.moved_back.Statement.{statement}
 use Rattle.spongent.proofs.moved_back.Tie as tie
 
-pairs-in-requires : tie.Need-pairs-in-requires
-pairs-in-requires c κs = search needs
-
 all-gathered-requires : tie.Need-all-gathered-requires
 all-gathered-requires c κs =
     (omega arith, λ j h. rw (c .pairs-in .ensures j h) (pairAt-lt (c .before .args .s) j))
@@ -40,4 +37,4 @@ returns c =
     (bits-behind t (omega arith) (omega arith) (omega arith) r (omega arith) (c .all-gathered .ensures .1))
 
 pub moved-back-spec : {M : Type 1} → statement M
-moved-back-spec = tie.close (tie.spec pairs-in-requires all-gathered-requires returns)
+moved-back-spec = tie.close (tie.spec (λ c κs. search needs) all-gathered-requires returns)

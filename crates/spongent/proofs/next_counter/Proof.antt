@@ -10,31 +10,13 @@ use borrow.Author.Needs.{needs}
 use Rattle.spongent.proofs.next_counter.Statement.{statement}
 use Rattle.spongent.proofs.next_counter.Tie as tie
 
-mul-result : tie.Need-mul-result
-mul-result c = search needs
-
-add-result : tie.Need-add-result
-add-result c = search needs
-
 returns : tie.Need-returns
 returns c = next-6 (c .before .args .c) ∙ ap (λ (w : ℕ). nextCounter w (tapsOf w) (c .before .args .c)) (sym (c .if1 .taken))
-
-mul-result-2 : tie.Need-mul-result-2
-mul-result-2 c = search needs
-
-add-result-2 : tie.Need-add-result-2
-add-result-2 c = search needs
 
 returns-2 : tie.Need-returns-2
 returns-2 c =
     let a = c .before .before .args in
     next-7 (a .c) ∙ ap (λ (w : ℕ). nextCounter w (tapsOf w) (a .c)) (sym (c .if2 .taken))
-
-mul-result-3 : tie.Need-mul-result-3
-mul-result-3 c = search needs
-
-add-result-3 : tie.Need-add-result-3
-add-result-3 c = search needs
 
 returns-3 : tie.Need-returns-3
 returns-3 c =
@@ -46,12 +28,12 @@ pub next-counter-spec : {M : Type 1} → statement M
 next-counter-spec =
     tie.close
     (tie.spec
-    mul-result
-    add-result
+    (λ c. search needs)
+    (λ c. search needs)
     returns
-    mul-result-2
-    add-result-2
+    (λ c. search needs)
+    (λ c. search needs)
     returns-2
-    mul-result-3
-    add-result-3
+    (λ c. search needs)
+    (λ c. search needs)
     returns-3)

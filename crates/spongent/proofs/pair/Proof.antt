@@ -8,15 +8,6 @@ use borrow.Author.Needs.{needs}
 use Rattle.spongent.proofs.pair.Statement.{statement}
 use Rattle.spongent.proofs.pair.Tie as tie
 
-shr-y : tie.Need-shr-y
-shr-y c = search needs
-
-mul-result : tie.Need-mul-result
-mul-result c = search needs
-
-add-result : tie.Need-add-result
-add-result c = search needs
-
 returns : tie.Need-returns
 unfolding pairOf
 returns c =
@@ -25,4 +16,4 @@ returns c =
     ap (λ (y : ℕ). x / 2 ^ b % 2 + y % 2 * 2) (shr-shr x b 4)
 
 pub pair-spec : {M : Type 1} → statement M
-pair-spec = tie.close (tie.spec shr-y mul-result add-result returns)
+pair-spec = tie.close (tie.spec (λ c. search needs) (λ c. search needs) (λ c. search needs) returns)

@@ -16,35 +16,11 @@ use borrow.Author.Needs.{needs}
 use Rattle.spongent.proofs.permuted.Statement.{statement}
 use Rattle.spongent.proofs.permuted.Tie as tie
 
-sub-i : tie.Need-sub-i
-sub-i c = search needs
-
-mul-n : tie.Need-mul-n
-mul-n c = search needs
-
-array-read-n : tie.Need-array-read-n
-array-read-n c = search needs
-
-mul-counters-of : tie.Need-mul-counters-of
-mul-counters-of c = search needs
-
-array-read-counters-of : tie.Need-array-read-counters-of
-array-read-counters-of c = search needs
-
-array-read-counters-of-2 : tie.Need-array-read-counters-of-2
-array-read-counters-of-2 c = search needs
-
 counters-of-requires : tie.Need-counters-of-requires
 counters-of-requires c κs =
     let z = sizes-of (c .args .v) (c .pre .0 .0) (c .pre .0 .1) in
     let e = tabled (c .args .v) (c .pre .0 .0) (c .pre .0 .1) in
     omega arith
-
-mul-all-rounds : tie.Need-mul-all-rounds
-mul-all-rounds c = search needs
-
-array-read-all-rounds : tie.Need-array-read-all-rounds
-array-read-all-rounds c = search needs
 
 all-rounds-requires : tie.Need-all-rounds-requires
 all-rounds-requires c κs =
@@ -71,14 +47,14 @@ pub permuted-spec : {M : Type 1} → statement M
 permuted-spec =
     tie.close
     (tie.spec
-    sub-i
-    mul-n
-    array-read-n
-    mul-counters-of
-    array-read-counters-of
-    array-read-counters-of-2
+    (λ c. search needs)
+    (λ c. search needs)
+    (λ c. search needs)
+    (λ c. search needs)
+    (λ c. search needs)
+    (λ c. search needs)
     counters-of-requires
-    mul-all-rounds
-    array-read-all-rounds
+    (λ c. search needs)
+    (λ c. search needs)
     all-rounds-requires
     returns)

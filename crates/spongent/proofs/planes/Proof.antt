@@ -10,24 +10,6 @@ use borrow.Author.Needs.{needs}
 use Rattle.spongent.proofs.planes.Statement.{statement}
 use Rattle.spongent.proofs.planes.Tie as tie
 
-with-plane-requires : tie.Need-with-plane-requires
-with-plane-requires c κs = search needs
-
-with-plane-requires-2 : tie.Need-with-plane-requires-2
-with-plane-requires-2 c κs = search needs
-
-mul-with-plane : tie.Need-mul-with-plane
-mul-with-plane c = search needs
-
-with-plane-requires-3 : tie.Need-with-plane-requires-3
-with-plane-requires-3 c κs = search needs
-
-mul-with-plane-2 : tie.Need-mul-with-plane-2
-mul-with-plane-2 c = search needs
-
-with-plane-requires-4 : tie.Need-with-plane-requires-4
-with-plane-requires-4 c κs = search needs
-
 returns : tie.Need-returns
 returns c =
     let a = c .before .before .before .before .args in
@@ -48,10 +30,10 @@ pub planes-spec : {M : Type 1} → statement M
 planes-spec =
     tie.close
     (tie.spec
-    with-plane-requires
-    with-plane-requires-2
-    mul-with-plane
-    with-plane-requires-3
-    mul-with-plane-2
-    with-plane-requires-4
+    (λ c κs. search needs)
+    (λ c κs. search needs)
+    (λ c. search needs)
+    (λ c κs. search needs)
+    (λ c. search needs)
+    (λ c κs. search needs)
     returns)

@@ -18,43 +18,20 @@ use Rattle.spongent.proofs.Layers.{first-bits, layer-after}
 use Rattle.spongent.proofs.round.Statement.{statement}
 use Rattle.spongent.proofs.round.Tie as tie
 
-moved-back-requires : tie.Need-moved-back-requires
-moved-back-requires c κs = search needs
-
-substituted-requires : tie.Need-substituted-requires
-substituted-requires c κs = (omega arith, bound-below _ 16 16 tt)
-
-with-counter-requires : tie.Need-with-counter-requires
-with-counter-requires c κs = search needs
-
 returns : tie.Need-returns
 unfolding spongentRound
 returns c =
     let a = c .before .before .before .before .before .args in
     let t : ℕ = a .t in
-    let n : ℕ = t / 8 in
-    let en : 8 * n ≡ t = omega arith in
+    let en : 8 * (t / 8) ≡ t = omega arith in
     let z : List Bool = replicate (288 - t) false in
     let x : List Bool = take t (bitsIn low-first (a .s)) in
     let p : List Bool = pLayer t 4 x in
-    let q : List Bool = sBoxLayer unnibbles p in
-    let P : List Bool = bitsIn low-first (c .before .before .before .moved-back .result) in
-    let Q : List Bool = bitsIn low-first (c .before .substituted .result) in
-    let R : List Bool = bitsIn low-first (c .with-counter .result) in
     let lp : length p ≡ t = length-pLayer t 4 x in
-    let eq : Q ≡ q ++ z = layer-after t P p z lp (c .before .before .before .moved-back .ensures) (sBoxLayer unnibbles) n Q en (c .before .substituted .ensures) in
-    layer-after t Q q z (length-sBoxLayer unnibbles p ∙ lp) eq (cAddition (8 * n) (a .c)) n R en (c .with-counter .ensures)
-    ∙ ap (λ (m : ℕ). cAddition m (a .c) q ++ z) en
-    ∙ ap (λ (b : Bool). spongentRound t (direction b) x (a .c) ++ z) (sym (c .before .before .before .before .if1 .taken))
-
-with-counter-requires-2 : tie.Need-with-counter-requires-2
-with-counter-requires-2 c κs = search needs
-
-substituted-requires-2 : tie.Need-substituted-requires-2
-substituted-requires-2 c κs = (omega arith, bound-below _ 16 16 tt)
-
-moved-requires : tie.Need-moved-requires
-moved-requires c κs = search needs
+    let eq = layer-after t _ p z lp (c .before .before .before .moved-back .ensures) (sBoxLayer unnibbles) (t / 8) _ en (c .before .substituted .ensures) in
+    let lq : length (sBoxLayer unnibbles p) ≡ t = length-sBoxLayer unnibbles p ∙ lp in
+    let er = layer-after t _ (sBoxLayer unnibbles p) z lq eq (cAddition (8 * (t / 8)) (a .c)) (t / 8) _ en (c .with-counter .ensures) in
+    rw (c .before .before .before .before .if1 .taken) (rw en at er)
 
 returns-2 : tie.Need-returns-2
 unfolding spongentRound
@@ -85,11 +62,11 @@ pub round-spec : {M : Type 1} → statement M
 round-spec =
     tie.close
     (tie.spec
-    moved-back-requires
-    substituted-requires
-    with-counter-requires
+    (λ c κs. search needs)
+    (λ c κs. (omega arith, bound-below _ 16 16 tt))
+    (λ c κs. search needs)
     returns
-    with-counter-requires-2
-    substituted-requires-2
-    moved-requires
+    (λ c κs. search needs)
+    (λ c κs. (omega arith, bound-below _ 16 16 tt))
+    (λ c κs. search needs)
     returns-2)

@@ -18,24 +18,6 @@ Inv-loop n table out₀ i₀ out i = (i ≤ n) × (out ≡ mapped (byteBy table)
 abbrev μ-loop : tie.MeasureT-loop
 μ-loop n table out₀ i₀ out i = n - i
 
-loop-holds : tie.Need-loop-holds Inv-loop μ-loop
-loop-holds c = (omega arith, refl)
-
-array-read-substituted-byte : tie.Need-array-read-substituted-byte Inv-loop μ-loop
-array-read-substituted-byte c = omega arith
-
-substituted-byte-requires : tie.Need-substituted-byte-requires Inv-loop μ-loop
-substituted-byte-requires c κs = c .before .before .pre .1
-
-array-write-out : tie.Need-array-write-out Inv-loop μ-loop
-array-write-out c = omega arith
-
-add-i : tie.Need-add-i Inv-loop μ-loop
-add-i c = omega arith
-
-loop-less : tie.Need-loop-less Inv-loop μ-loop
-loop-less c = omega arith
-
 loop-again : tie.Need-loop-again Inv-loop μ-loop
 loop-again c =
     let a = c .before .before in
@@ -61,11 +43,11 @@ substituted-spec =
     (tie.spec
     Inv-loop
     μ-loop
-    loop-holds
-    array-read-substituted-byte
-    substituted-byte-requires
-    array-write-out
-    add-i
-    loop-less
+    (λ c. (omega arith, refl))
+    (λ c. omega arith)
+    (λ c κs. c .before .before .pre .1)
+    (λ c. omega arith)
+    (λ c. omega arith)
+    (λ c. omega arith)
     loop-again
     returns)

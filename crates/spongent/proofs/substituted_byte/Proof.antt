@@ -7,18 +7,6 @@ use borrow.Author.Needs.{needs}
 use Rattle.spongent.proofs.substituted_byte.Statement.{statement}
 use Rattle.spongent.proofs.substituted_byte.Tie as tie
 
-cast-result : tie.Need-cast-result
-cast-result c = search needs
-
-element-copy-out-result : tie.Need-element-copy-out-result
-element-copy-out-result c = search needs
-
-cast-result-2 : tie.Need-cast-result-2
-cast-result-2 c = search needs
-
-element-copy-out-result-2 : tie.Need-element-copy-out-result-2
-element-copy-out-result-2 c = search needs
-
 mul-result : tie.Need-mul-result
 mul-result c = let s = c .before .before in omega (arith, s .pre (s .args .b / 16) (omega arith))
 
@@ -33,10 +21,10 @@ pub substituted-byte-spec : {M : Type 1} → statement M
 substituted-byte-spec =
     tie.close
     (tie.spec
-    cast-result
-    element-copy-out-result
-    cast-result-2
-    element-copy-out-result-2
+    (λ c. search needs)
+    (λ c. search needs)
+    (λ c. search needs)
+    (λ c. search needs)
     mul-result
     add-result
     returns)

@@ -26,24 +26,6 @@ loop-holds c =
     let h : (k : ℕ) → k < a .from + 0 → k < a .from = λ k l. omega arith in
     (omega arith, record { len = omega arith; done = λ k l. (λ g. absurd (omega arith), λ g. refl); rest = λ k l. refl })
 
-array-read-pair : tie.Need-array-read-pair Inv-loop μ-loop
-array-read-pair c = omega arith
-
-pair-requires : tie.Need-pair-requires Inv-loop μ-loop
-pair-requires c κs = omega arith
-
-add-out : tie.Need-add-out Inv-loop μ-loop
-add-out c = omega arith
-
-array-write-out : tie.Need-array-write-out Inv-loop μ-loop
-array-write-out c = omega arith
-
-add-i : tie.Need-add-i Inv-loop μ-loop
-add-i c = omega arith
-
-loop-less : tie.Need-loop-less Inv-loop μ-loop
-loop-less c = omega arith
-
 loop-again : tie.Need-loop-again Inv-loop μ-loop
 loop-again c =
     let l = c .before .before .loop in
@@ -75,11 +57,11 @@ with-plane-spec =
     Inv-loop
     μ-loop
     loop-holds
-    array-read-pair
-    pair-requires
-    add-out
-    array-write-out
-    add-i
-    loop-less
+    (λ c. omega arith)
+    (λ c κs. omega arith)
+    (λ c. omega arith)
+    (λ c. omega arith)
+    (λ c. omega arith)
+    (λ c. omega arith)
     loop-again
     returns)
