@@ -1,4 +1,4 @@
--- A state at the front of 36 bytes and a block at the front of 5: reading, writing, and the block xored in.
+-- A state and a block at the front of the bytes that hold them: reading, writing, and the block xored in.
 -- Assumes nothing.
 use mathlib.Core.Path.{_≡_, sym, ap, ap₂, _∙_, subst}
 use mathlib.Core.Bool.{Bool, true, false}
@@ -11,7 +11,7 @@ use lib.Seq.{take-at, drop-at, take-all}
 use Rattle.standard.specs.Bits.{Order, high-first, bitsIn, pack, unpack, bytesFor, reordered, xorInto}
 use Rattle.standard.proofs.BitLaws.{length-bitsIn, length-unpack, length-pack, unpack-pack, bitsIn-pack, bitsIn-append, bitsIn-zeros, filled-short, image-eq, pack-whole, xorInto-behind, xorInto-front, length-xorInto}
 use Rattle.standard.proofs.Reordered.{length-reordered, reordered-same}
-use Rattle.sponge.specs.Layout.{clear}
+use Rattle.sponge.specs.Layout.{blockRoom, stateRoom, clear}
 use Rattle.sponge.proofs.Clear.{clear-zeros}
 
 -- bits at the front of packed bytes
@@ -19,74 +19,66 @@ pub packed-bits : (o : Order) (n : ℕ) (bs : List Bool) → length bs ≤ n * 8
 packed-bits o n bs h = bitsIn-pack o n bs ∙ filled-short (n * 8) bs h
 
 -- the bits of a block's bytes in any order: the block laid out in that order, and zeros
-pub block-bits : (o : Order) (b : List Bool) → (high-first ≡ o) ⊎ (length b % 8 ≡ 0) → length b ≤ 40
-    → bitsIn o (pack high-first 5 b) ≡ reordered high-first o b ++ replicate (40 - length b) false
+pub block-bits : (o : Order) (b : List Bool) → (high-first ≡ o) ⊎ (length b % 8 ≡ 0) → length b ≤ blockRoom * 8
+    → bitsIn o (pack high-first blockRoom b) ≡ reordered high-first o b ++ replicate (blockRoom * 8 - length b) false
 unfolding reordered unpack
 block-bits o b w h =
     ⊎-elim
-    (λ e. subst (λ (p : Order). bitsIn p (pack high-first 5 b) ≡ reordered high-first p b ++ replicate (40 - length b) false) e
-    (packed-bits high-first 5 b h ∙ ap (λ (l : List Bool). l ++ replicate (40 - length b) false) (sym (reordered-same high-first b))))
+    (λ e. subst (λ (p : Order). bitsIn p (pack high-first blockRoom b) ≡ reordered high-first p b ++ replicate (blockRoom * 8 - length b) false) e
+    (packed-bits high-first blockRoom b h ∙ ap (λ (l : List Bool). l ++ replicate (blockRoom * 8 - length b) false) (sym (reordered-same high-first b))))
     (λ e.
     let k : ℕ = bytesFor (length b) in
     let whole : length b ≡ 8 * k = omega arith in
     let bytes : List ℕ = pack high-first k b in
-    let all : 8 * (5 - k) ≡ 40 - length b = omega arith in
-    ap (bitsIn o) (pack-whole high-first k 5 b (omega arith) whole)
-    ∙ bitsIn-append o bytes (replicate (5 - k) 0)
+    let all : 8 * (blockRoom - k) ≡ blockRoom * 8 - length b = omega arith in
+    ap (bitsIn o) (pack-whole high-first k blockRoom b (omega arith) whole)
+    ∙ bitsIn-append o bytes (replicate (blockRoom - k) 0)
     ∙ ap₂ (λ (x y : List Bool). x ++ y)
     (sym (take-all (length b) (bitsIn o bytes) (omega (arith, length-bitsIn o bytes, length-pack high-first k b))))
-    (bitsIn-zeros o (5 - k) ∙ ap (λ (m : ℕ). replicate m false) all))
+    (bitsIn-zeros o (blockRoom - k) ∙ ap (λ (m : ℕ). replicate m false) all))
     w
 
-module _ (o : Order) (t : ℕ) (small : t ≤ 288) where
+module _ (o : Order) (t : ℕ) (small : t ≤ stateRoom * 8) where
   -- a state read back from the bytes that hold it
-  pub state-back : (s : List Bool) → length s ≡ t → unpack o t (pack o 36 s) ≡ s
-  state-back s e = ap (λ (m : ℕ). unpack o m (pack o 36 s)) (sym e) ∙ unpack-pack o 36 s (omega arith)
+  pub state-back : (s : List Bool) → length s ≡ t → unpack o t (pack o stateRoom s) ≡ s
+  state-back s e = ap (λ (m : ℕ). unpack o m (pack o stateRoom s)) (sym e) ∙ unpack-pack o stateRoom s (omega arith)
 
-  -- 36 bytes hold the state P if their bits are P and zeros
-  pub holds : (x : List ℕ) (P : List Bool) → ((i : ℕ) → getD x i 0 < 256) → length x ≡ 36 → length P ≡ t
-      → bitsIn o x ≡ P ++ replicate (288 - t) false → x ≡ pack o 36 P
+  -- stateRoom bytes hold the state P if their bits are P and zeros
+  pub holds : (x : List ℕ) (P : List Bool) → ((i : ℕ) → getD x i 0 < 256) → length x ≡ stateRoom → length P ≡ t
+      → bitsIn o x ≡ P ++ replicate (stateRoom * 8 - t) false → x ≡ pack o stateRoom P
   holds x P hx lx lp e =
-      image-eq o 36 x P hx lx (omega arith) (e ∙ ap (λ (m : ℕ). P ++ replicate (288 - m) false) (sym lp))
+      image-eq o stateRoom x P hx lx (omega arith) (rw lp e)
 
   -- a block xored in
-  pub taken-bytes : (s x : List ℕ) (b : List Bool) → length s ≡ 36 → ((i : ℕ) → getD x i 0 < 256) → length x ≡ 36
-      → s ≡ pack o 36 (unpack o t s) → (high-first ≡ o) ⊎ (length b % 8 ≡ 0) → length b ≤ 40 → length b ≤ t
-      → bitsIn o x ≡ xorInto (bitsIn o s) (bitsIn o (pack high-first 5 b))
-      → x ≡ pack o 36 (xorInto (unpack o t s) (reordered high-first o b))
+  pub taken-bytes : (s x : List ℕ) (b : List Bool) → length s ≡ stateRoom → ((i : ℕ) → getD x i 0 < 256) → length x ≡ stateRoom
+      → s ≡ pack o stateRoom (unpack o t s) → (high-first ≡ o) ⊎ (length b % 8 ≡ 0) → length b ≤ blockRoom * 8 → length b ≤ t
+      → bitsIn o x ≡ xorInto (bitsIn o s) (bitsIn o (pack high-first blockRoom b))
+      → x ≡ pack o stateRoom (xorInto (unpack o t s) (reordered high-first o b))
   taken-bytes s x b ls hx lx es w hb ht e =
       let S : List Bool = unpack o t s in
       let B : List Bool = reordered high-first o b in
       let lS : length S ≡ t = length-unpack o t s (omega arith) in
       let lB : length B ≡ length b = length-reordered high-first o b in
-      let Z : List Bool = replicate (288 - t) false in
-      let bits : bitsIn o s ≡ S ++ Z =
-      ap (bitsIn o) es ∙ packed-bits o 36 S (omega arith) ∙ ap (λ (m : ℕ). S ++ replicate (288 - m) false) lS in
+      let Z : List Bool = replicate (stateRoom * 8 - t) false in
+      let bits : bitsIn o s ≡ S ++ Z = ap (bitsIn o) es ∙ rw (packed-bits o stateRoom S (omega arith), lS) in
       holds x (xorInto S B) hx lx (length-xorInto S B ∙ lS)
       (e
-      ∙ ap₂ xorInto bits (block-bits o b w hb)
-      ∙ xorInto-behind (S ++ Z) B (40 - length b)
-      ∙ xorInto-front t (S ++ Z) B (omega arith)
-      ∙ ap₂ (λ (k l : List Bool). xorInto k B ++ l) (take-at S Z t lS) (drop-at S Z t lS))
+      ∙ rw (bits, block-bits o b w hb, xorInto-behind, xorInto-front t (S ++ Z) B (omega arith), take-at S Z t lS, drop-at S Z t lS))
 
   -- the bytes of an image, and zeros behind them
-  pub front-holds : (bytes : List ℕ) (n : ℕ) → n ≡ bytesFor t → length bytes ≡ n → ((i : ℕ) → getD (bytes ++ replicate (36 - length bytes) 0) i 0 < 256)
+  pub front-holds : (bytes : List ℕ) (n : ℕ) → n ≡ bytesFor t → length bytes ≡ n → ((i : ℕ) → getD (bytes ++ replicate (stateRoom - length bytes) 0) i 0 < 256)
       → clear (drop t (bitsIn o bytes)) ≡ true
-      → bytes ++ replicate (36 - length bytes) 0 ≡ pack o 36 (unpack o t bytes)
+      → bytes ++ replicate (stateRoom - length bytes) 0 ≡ pack o stateRoom (unpack o t bytes)
   unfolding unpack
   front-holds bytes n en el hb ec =
       let bits : List Bool = bitsIn o bytes in
       let lb : length bits ≡ 8 * length bytes = length-bitsIn o bytes in
-      let x : List ℕ = bytes ++ replicate (36 - length bytes) 0 in
-      let lx : length x ≡ 36 = length-append bytes (replicate (36 - length bytes) 0) ∙ omega (arith, length-replicate {A = ℕ} (36 - length bytes) 0) in
+      let x : List ℕ = bytes ++ replicate (stateRoom - length bytes) 0 in
+      let lx : length x ≡ stateRoom = length-append bytes (replicate (stateRoom - length bytes) 0) ∙ omega (arith, length-replicate {A = ℕ} (stateRoom - length bytes) 0) in
       let spare : drop t bits ≡ replicate (8 * length bytes - t) false =
-      clear-zeros (drop t bits) ec ∙ ap (λ (m : ℕ). replicate m false) (length-drop t bits ∙ ap (λ (m : ℕ). m - t) lb) in
-      let sum : 8 * length bytes - t + 8 * (36 - length bytes) ≡ 288 - t = omega arith in
+      clear-zeros (drop t bits) ec ∙ rw (length-drop, lb) in
+      let sum : 8 * length bytes - t + 8 * (stateRoom - length bytes) ≡ stateRoom * 8 - t = omega arith in
       holds x (take t bits) hb lx (length-unpack o t bytes (omega arith))
-      (bitsIn-append o bytes (replicate (36 - length bytes) 0)
-      ∙ ap₂ (λ (k l : List Bool). k ++ l)
-      (sym (take-append-drop t bits) ∙ ap (λ (l : List Bool). take t bits ++ l) spare)
-      (bitsIn-zeros o (36 - length bytes))
-      ∙ append-assoc (take t bits) _ _
-      ∙ ap (λ (l : List Bool). take t bits ++ l)
-      (replicate-append-replicate (8 * length bytes - t) (8 * (36 - length bytes)) false ∙ ap (λ (m : ℕ). replicate m false) sum))
+      (bitsIn-append o bytes (replicate (stateRoom - length bytes) 0)
+      ∙ ap (λ (l : List Bool). l ++ bitsIn o (replicate (stateRoom - length bytes) 0)) (sym (take-append-drop t bits))
+      ∙ rw (spare, bitsIn-zeros, append-assoc, replicate-append-replicate, sum))

@@ -5,5 +5,8 @@ pub mod CellLaws
 pub mod MatrixImage
 pub mod States
 pub mod ImageLaws
+pub mod ImageOfState
 pub mod SqueezeLaws
-pub mod Answers
+pub mod BlockHalves
+pub mod BlockRows
+pub mod BlockRuns

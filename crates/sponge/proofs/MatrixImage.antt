@@ -1,15 +1,15 @@
 -- A PHOTON state's matrix and the bytes that hold it: cell by cell one way, byte by byte the other.
 -- Assumes nothing.
-use mathlib.Core.Path.{_≡_, refl, sym, ap, ap₂, _∙_, subst}
+use mathlib.Core.Path.{_≡_, refl, sym, ap, _∙_, subst}
 use mathlib.Core.Bool.{Bool, false}
-use mathlib.Core.List.{List, [], _∷_, _++_, reverse, reverse-append}
+use mathlib.Core.List.{List, [], _∷_, _++_, reverse-append}
 use mathlib.Core.Logic.{⊎-elim}
 use Prim.Native.Nat.{ℕ, zero, suc, _+_, _*_, _/_, _%_, _^_, _≤_, _<_}
 use native.Mathlib.Nat.{not-suc-le-zero, le-of-suc-le-suc, div-add-mod', div-lt-iff-lt-mul, le-div-iff-mul-le, zero-lt-suc, mod-lt, mul-le-mul-left, mul-le-mul-right, mul-assoc, suc-mul}
 use native.Mathlib.Omega.{arith}
 use lib.ListN.{length, take, drop, getD, replicate, drop-of-length-le, List·getD-eq-default, length-reverse, length-drop}
 use lib.Seq.{drop-drop}
-use Rattle.standard.specs.Bits.{high-first, ordered, valueOf, lowValue, filled, pack}
+use Rattle.standard.specs.Bits.{high-first, ordered, valueOf, filled, pack}
 use Rattle.standard.specs.Grid.{Grid, at, window, Square, Small}
 use Rattle.standard.specs.Photon.{matrixOf, bitsOfMatrix}
 use Rattle.standard.proofs.Tests.{lt-or-le}
@@ -17,6 +17,7 @@ use Rattle.standard.proofs.BitLaws.{length-filled, filled-add, lowValue-append,
 use Rattle.standard.proofs.CutLaws.{take-drop-take}
 use Rattle.standard.proofs.Tab.{grid-cong, grid-self, window-square, window-small}
 use Rattle.standard.proofs.MatrixLaws.{matrixOf-square, at-matrixOf, length-bitsOfMatrix, matrix-bits}
+use Rattle.sponge.specs.Layout.{stateRoom}
 use Rattle.sponge.specs.Cells.{nth}
 use Rattle.sponge.proofs.Clear.{low-zeros}
 
@@ -42,12 +43,6 @@ nth-lt d top g q m pos tpos n =
     ⊎-elim (λ l. m .cell (n / d) (n % d) (row-lt d n l) (col-lt d n l))
     (λ l. subst (λ (x : ℕ). x < top) (sym (past d g q n l pos)) tpos) (lt-or-le n (d * d))
 
--- a cell of 4 bits is below 16
-pub nth-lt-narrow : (w d : ℕ) (g : Grid) → w ≡ 4 → 0 < d → Small d (2 ^ w) g → (n : ℕ) → nth d (window d g) n < 16
-nth-lt-narrow w d g e pos m n =
-    nth-lt d 16 (window d g) (window-square d g)
-    (window-small d 16 g (subst (λ (x : ℕ). Small d (2 ^ x) g) e m)) pos (zero-lt-suc 15) n
-
 -- ---- bytes of packed bits
 
 pub pack-at : (n : ℕ) (bs : List Bool) (k : ℕ) → k < n → getD (pack high-first n bs) k 0 ≡ valueOf high-first (filled 8 (drop (k * 8) bs))
@@ -68,24 +63,36 @@ filled-take (suc w) (b ∷ bs) h = ap (λ (l : List Bool). b ∷ l) (filled-take
 -- zeros are worth nothing
 pub filled-nothing : (w : ℕ) → valueOf high-first (filled w []) ≡ 0
 unfolding valueOf ordered filled
-filled-nothing w = ap (λ (l : List Bool). lowValue (reverse l)) (zeros w) ∙ ap lowValue (reverse-replicate w) ∙ low-zeros w
+filled-nothing w = rw (zeros w, reverse-replicate, low-zeros)
   where
     zeros : (n : ℕ) → filled n [] ≡ replicate n false
     zeros zero = refl
     zeros (suc n) = ap (λ (l : List Bool). false ∷ l) (zeros n)
 
 -- two halves of a byte
-value-halves : (x y : List Bool) → length y ≡ 4 → valueOf high-first (x ++ y) ≡ valueOf high-first x * 16 + valueOf high-first y
+pub value-halves : (x y : List Bool) → length y ≡ 4 → valueOf high-first (x ++ y) ≡ valueOf high-first x * 16 + valueOf high-first y
 unfolding valueOf ordered
 value-halves x y e =
-    ap lowValue (reverse-append x y) ∙ lowValue-append (reverse y) (reverse x)
-    ∙ ap (λ (n : ℕ). lowValue (reverse y) + 2 ^ n * lowValue (reverse x)) (length-reverse y ∙ e)
-    ∙ turned (lowValue (reverse y)) (lowValue (reverse x))
-  where
-    turned : (a b : ℕ) → a + 16 * b ≡ b * 16 + a
-    turned a b = omega arith
+    rw (reverse-append, lowValue-append, length-reverse, e) (omega arith)
 
-module _ (w d : ℕ) (g : Grid) (q : Square d g) (m : Small d (2 ^ w) g) (pos : 0 < d) where
+pub pack-halves : (n : ℕ) (bs : List Bool) (k : ℕ) → k < n
+    → getD (pack high-first n bs) k 0 ≡ valueOf high-first (filled 4 (drop (k * 8) bs)) * 16 + valueOf high-first (filled 4 (drop (k * 8 + 4) bs))
+pack-halves n bs k h = rw (pack-at n bs k h, filled-add 4 4 (drop (k * 8) bs), value-halves _ _ (length-filled 4 (drop 4 (drop (k * 8) bs))), drop-drop)
+
+-- the cells of a matrix that stands in the front of a grid
+module _ (w d : ℕ) (f : Grid) (small : Small d (2 ^ w) f) (pos : 0 < d) where
+  abbrev g : Grid
+  g = window d f
+
+  q : Square d (window d f)
+  q = window-square d f
+
+  m : Small d (2 ^ w) (window d f)
+  m = window-small d (2 ^ w) f small
+
+  pub cell-lt : w ≡ 4 → (n : ℕ) → nth d g n < 16
+  cell-lt e n = nth-lt d 16 g q (rw e at m) pos (zero-lt-suc 15) n
+
   -- the w bits at the place of the n-th cell, zeros past the last, are that cell
   pub piece : (n : ℕ) → valueOf high-first (filled w (drop (n * w) (bitsOfMatrix w g))) ≡ nth d g n
   piece n = ⊎-elim within beyond (lt-or-le n (d * d))
@@ -106,27 +113,19 @@ module _ (w d : ℕ) (g : Grid) (q : Square d g) (m : Small d (2 ^ w) g) (pos : 
 
       beyond : d * d ≤ n → valueOf high-first (filled w (drop (n * w) (bitsOfMatrix w g))) ≡ nth d g n
       beyond l =
-          ap (λ (x : List Bool). valueOf high-first (filled w x))
-          (drop-of-length-le (bitsOfMatrix w g) {i = n * w} (omega (arith, size, mul-le-mul-right w l)))
-          ∙ filled-nothing w ∙ sym (past d g q n l pos)
+          rw (drop-of-length-le (bitsOfMatrix w g) {i = n * w} (omega (arith, size, mul-le-mul-right w l)), filled-nothing, past d g q n l pos)
 
   piece-at : (x : ℕ) → w ≡ x → (n : ℕ) → valueOf high-first (filled x (drop (n * x) (bitsOfMatrix w g))) ≡ nth d g n
-  piece-at x e n = subst (λ (y : ℕ). valueOf high-first (filled y (drop (n * y) (bitsOfMatrix w g))) ≡ nth d g n) e (piece n)
+  piece-at x e n = rw (← e) (piece n)
 
-  pub byte-wide : w ≡ 8 → (k : ℕ) → k < 36 → nth d g k ≡ getD (pack high-first 36 (bitsOfMatrix w g)) k 0
-  byte-wide e k h = sym (pack-at 36 (bitsOfMatrix w g) k h ∙ piece-at 8 e k)
+  pub byte-wide : w ≡ 8 → (k : ℕ) → k < stateRoom → nth d g k ≡ getD (pack high-first stateRoom (bitsOfMatrix w g)) k 0
+  byte-wide e k h = sym (pack-at stateRoom (bitsOfMatrix w g) k h ∙ piece-at 8 e k)
 
-  pub byte-narrow : w ≡ 4 → (k : ℕ) → k < 36 → nth d g (k * 2) * 16 + nth d g (k * 2 + 1) ≡ getD (pack high-first 36 (bitsOfMatrix w g)) k 0
+  pub byte-narrow : w ≡ 4 → (k : ℕ) → k < stateRoom → nth d g (k * 2) * 16 + nth d g (k * 2 + 1) ≡ getD (pack high-first stateRoom (bitsOfMatrix w g)) k 0
   byte-narrow e k h =
-      let bs : List Bool = bitsOfMatrix w g in
       let first : k * 8 ≡ k * 2 * 4 = omega arith in
       let second : k * 8 + 4 ≡ (k * 2 + 1) * 4 = omega arith in
-      sym (pack-at 36 bs k h
-      ∙ ap (valueOf high-first) (filled-add 4 4 (drop (k * 8) bs))
-      ∙ value-halves (filled 4 (drop (k * 8) bs)) (filled 4 (drop 4 (drop (k * 8) bs))) (length-filled 4 (drop 4 (drop (k * 8) bs)))
-      ∙ ap₂ (λ (x y : ℕ). x * 16 + y)
-      (ap (λ (i : ℕ). valueOf high-first (filled 4 (drop i bs))) first ∙ piece-at 4 e (k * 2))
-      (ap (λ (l : List Bool). valueOf high-first (filled 4 l)) (drop-drop 4 (k * 8) bs ∙ ap (λ (i : ℕ). drop i bs) second) ∙ piece-at 4 e (k * 2 + 1)))
+      rw (pack-halves stateRoom (bitsOfMatrix w g) k h, second, first, piece-at 4 e (k * 2), piece-at 4 e (k * 2 + 1))
 
 -- the matrix in the first bits is that in all
 pub matrix-front : (d w t : ℕ) (bs : List Bool) → d * d * w ≤ t → matrixOf d w (take t bs) ≡ matrixOf d w bs

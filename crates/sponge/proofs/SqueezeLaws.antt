@@ -1,7 +1,7 @@
 -- Output blocks appended to the digest: half byte by half byte, block by block.
 -- Assumes nothing.
-use mathlib.Core.Path.{_≡_, refl, sym, ap, ap₂, _∙_, subst}
-use mathlib.Core.Bool.{Bool}
+use mathlib.Core.Path.{_≡_, sym, ap, _∙_}
+use mathlib.Core.Bool.{Bool, true}
 use mathlib.Core.List.{List, [], _∷_, _++_, append-assoc, append-nil, flatMap}
 use mathlib.Core.Logic.{_⊎_, inl, inr, ⊎-elim}
 use Prim.Native.Nat.{ℕ, zero, suc, _+_, _-_, _*_, _/_, _%_, _≤_, _<_}
@@ -10,32 +10,20 @@ use native.Mathlib.Numerals.{add-one}
 use native.Mathlib.Omega.{arith}
 use lib.ListN.{length, take, drop, length-append, length-drop, length-take, replicate}
 use lib.Seq.{length-take-le, take-add, take-all, take-take, take-append-le}
-use Rattle.standard.specs.Bits.{Order, high-first, bitsOf, bitsIn, pack, unpack, bytesFor, reordered}
+use Rattle.standard.specs.Bits.{Order, high-first, bitsOf, bitsIn, pack, unpack, filled, bytesFor, reordered}
 use Rattle.standard.specs.Rounds.{forward}
 use Rattle.standard.specs.Sponge.{Variant, order, permutation, outputs, outputBlocks, squeezed, stateIn}
-use Rattle.standard.specs.Variants.{variant}
+use Rattle.standard.specs.Variants.{variant, known}
 use Rattle.standard.proofs.BitLaws.{length-bitsIn, length-unpack, length-pack, unpack-pack, bitsOf-valueOf, valueOf-lt, bitsIn-take, bitsIn-pack, take-pack, pack-bitsIn, pack-bytes, pack-none}
-use Rattle.standard.proofs.Variants.{Bounds, bounds, WholeBytes, layouts, lawful}
+use Rattle.standard.proofs.Variants.{Bounds, bounds, WholeBytes, layouts, permutation-length}
 use Rattle.standard.proofs.Reordered.{reordered-same}
-use Rattle.sponge.specs.Layout.{stateBytes}
+use Rattle.sponge.specs.Layout.{digestRoom, stateRoom, packedState, Holds}
 use Rattle.sponge.specs.Cells.{cellIn}
 use Rattle.sponge.proofs.LayoutLaws.{packed-bits}
 use Rattle.sponge.proofs.MatrixImage.{filled-take}
 use Rattle.sponge.proofs.States.{state-length, stored, stored-ready}
 
--- bits read back from the bytes that hold them
-pub held-again : (n m : ℕ) (r : List ℕ) (Z : List Bool) → r ≡ pack high-first n Z → length Z ≡ m → m ≤ n * 8 → unpack high-first m r ≡ Z
-held-again n m r Z e l h =
-    ap₂ (unpack high-first) (sym l) e ∙ unpack-pack high-first n Z (omega arith)
-
--- how long the digest is after p + i half bytes
-pub fronted-length : (out s : List ℕ) (p i : ℕ) → length out ≡ 32 → length s ≡ 36 → p ≤ 64 → i ≤ 64
-    → length (unpack high-first (4 * p) out ++ take (4 * i) (bitsIn high-first s)) ≡ 4 * (p + i)
-fronted-length out s p i lo ls hp hi =
-    length-append (unpack high-first (4 * p) out) (take (4 * i) (bitsIn high-first s))
-    ∙ omega (arith, length-unpack high-first (4 * p) out (omega arith), length-take-le (4 * i) (bitsIn high-first s) (omega (arith, length-bitsIn high-first s)))
-
-module _ (s : List ℕ) (size : length s ≡ 36) (i : ℕ) (h : i < 64) where
+module _ (s : List ℕ) (size : length s ≡ stateRoom) (i : ℕ) (h : i < 64) where
   four : length (take 4 (drop (i * 4) (bitsIn high-first s))) ≡ 4
   four = length-take-le 4 (drop (i * 4) (bitsIn high-first s)) (omega (arith, length-drop (i * 4) (bitsIn high-first s), length-bitsIn high-first s))
 
@@ -43,58 +31,54 @@ module _ (s : List ℕ) (size : length s ≡ 36) (i : ℕ) (h : i < 64) where
   unfolding cellIn
   half-lt = valueOf-lt high-first 4 (take 4 (drop (i * 4) (bitsIn high-first s))) four
 
-  pub half-bits : bitsOf high-first 4 (cellIn 4 s i) ≡ take 4 (drop (4 * i) (bitsIn high-first s))
-  unfolding cellIn
-  half-bits =
-      let e : i * 4 ≡ 4 * i = omega arith in
-      bitsOf-valueOf high-first 4 (take 4 (drop (i * 4) (bitsIn high-first s))) four
-      ∙ ap (λ (k : ℕ). take 4 (drop k (bitsIn high-first s))) e
-
   -- one half byte more
-  pub front-half : (X : List Bool) → (X ++ take (4 * i) (bitsIn high-first s)) ++ bitsOf high-first 4 (cellIn 4 s i) ≡ X ++ take (4 * (i + 1)) (bitsIn high-first s)
+  front-half : (X : List Bool) → (X ++ take (4 * i) (bitsIn high-first s)) ++ bitsOf high-first 4 (cellIn 4 s i) ≡ X ++ take (4 * (i + 1)) (bitsIn high-first s)
+  unfolding cellIn
   front-half X =
-      let e : 4 * i + 4 ≡ 4 * (i + 1) = omega arith in
-      append-assoc X (take (4 * i) (bitsIn high-first s)) (bitsOf high-first 4 (cellIn 4 s i))
-      ∙ ap (λ (l : List Bool). X ++ l)
-      (ap (λ (l : List Bool). take (4 * i) (bitsIn high-first s) ++ l) half-bits
-      ∙ sym (take-add (4 * i) 4 (bitsIn high-first s))
-      ∙ ap (λ (k : ℕ). take k (bitsIn high-first s)) e)
+      let here : i * 4 ≡ 4 * i = omega arith in
+      let more : 4 * (i + 1) ≡ 4 * i + 4 = omega arith in
+      rw (bitsOf-valueOf high-first 4 (take 4 (drop (i * 4) (bitsIn high-first s))) four, append-assoc, here, more, take-add)
+
+-- r holds p half bytes of the digest, and the first i of the bytes s behind them
+module _ (out s : List ℕ) (lo : length out ≡ digestRoom) (ls : length s ≡ stateRoom) (p i : ℕ) (h : p + i ≤ 64) (r : List ℕ)
+    (er : r ≡ pack high-first digestRoom (unpack high-first (4 * p) out ++ take (4 * i) (bitsIn high-first s))) where
+  pub front-again : unpack high-first (4 * (p + i)) r ≡ unpack high-first (4 * p) out ++ take (4 * i) (bitsIn high-first s)
+  front-again =
+      let Z : List Bool = unpack high-first (4 * p) out ++ take (4 * i) (bitsIn high-first s) in
+      let size : length Z ≡ 4 * (p + i) =
+      rw (length-append, length-unpack high-first (4 * p) out (omega arith), length-take-le (4 * i) (bitsIn high-first s) (omega (arith, length-bitsIn high-first s))) (omega arith) in
+      rw (← size, er, unpack-pack high-first digestRoom Z (omega arith))
+
+  pub front-kept : r ≡ pack high-first digestRoom (unpack high-first (4 * (p + i)) r)
+  front-kept = rw front-again er
+
+  pub front-next : p + i < 64 → (x : ℕ) (next : List ℕ) → x ≡ cellIn 4 s i
+      → next ≡ pack high-first digestRoom (unpack high-first (4 * (p + i)) r ++ bitsOf high-first 4 x)
+      → next ≡ pack high-first digestRoom (unpack high-first (4 * p) out ++ take (4 * (i + 1)) (bitsIn high-first s))
+  front-next l x next ex en = rw (en, front-again, ex, front-half s ls i (omega arith))
 
 -- packed bytes depend on the bits that they have room for alone
 packed-front : (o : Order) (k m : ℕ) (S : List Bool) → k * 8 ≤ m → m ≤ length S → pack o k (take m S) ≡ pack o k S
 packed-front o k m S hk hm =
-    again (take m S)
-    ∙ ap (pack o k) (bitsIn-pack o k (take m S) ∙ filled-take (k * 8) (take m S) (omega (arith, length-take-le m S hm)) ∙ take-take (k * 8) m S hk
-    ∙ sym (bitsIn-pack o k S ∙ filled-take (k * 8) S (omega arith)))
-    ∙ sym (again S)
+    rw (whole (take m S), whole S, filled-take (k * 8) (take m S) (omega (arith, length-take-le m S hm)), filled-take (k * 8) S (omega arith), take-take (k * 8) m S hk)
   where
-    again : (X : List Bool) → pack o k X ≡ pack o k (bitsIn o (pack o k X))
-    again X =
-        sym (ap (λ (n : ℕ). pack o n (bitsIn o (pack o k X))) (sym (length-pack o k X)) ∙ pack-bitsIn o (pack o k X) (pack-bytes o k X))
+    whole : (X : List Bool) → pack o k X ≡ pack o k (filled (k * 8) X)
+    whole X = sym (rw (length-pack, bitsIn-pack) at (pack-bitsIn o (pack o k X) (pack-bytes o k X)))
 
 -- the first m bits of a state, as they are given out, are the first m bits of the bytes that hold it
-pub output-bits : (o : Order) (t m : ℕ) (S : List Bool) → length S ≡ t → t ≤ 288 → m ≤ t → (high-first ≡ o) ⊎ (m % 8 ≡ 0)
-    → reordered o high-first (take m S) ≡ take m (bitsIn high-first (pack o 36 S))
+pub output-bits : (o : Order) (t m : ℕ) (S : List Bool) → length S ≡ t → t ≤ stateRoom * 8 → m ≤ t → (high-first ≡ o) ⊎ (m % 8 ≡ 0)
+    → reordered o high-first (take m S) ≡ take m (bitsIn high-first (pack o stateRoom S))
 unfolding reordered unpack
 output-bits o t m S lS ht hm w =
     ⊎-elim
-    (λ e. subst (λ (p : Order). reordered p high-first (take m S) ≡ take m (bitsIn high-first (pack p 36 S))) e
-    (reordered-same high-first (take m S)
-    ∙ sym (ap (take m) (packed-bits high-first 36 S (omega arith)) ∙ take-append-le m S _ (omega arith))))
+    (λ e. rw (← e, packed-bits high-first stateRoom S (omega arith), take-append-le m S _ (omega arith)) (reordered-same high-first (take m S)))
     (λ e.
-    let lm : length (take m S) ≡ m = length-take-le m S (omega arith) in
-    let k : ℕ = m / 8 in
-    let whole : m ≡ 8 * k = omega arith in
-    let count : bytesFor (length (take m S)) ≡ k = ap (λ (n : ℕ). bytesFor n) lm ∙ omega arith in
-    ap₂ (λ (n : ℕ) (j : ℕ). take n (bitsIn high-first (pack o j (take m S)))) lm count
-    ∙ ap (λ (l : List ℕ). take m (bitsIn high-first l)) (front k whole)
-    ∙ ap (take m) (sym (bitsIn-take high-first k (pack o 36 S)))
-    ∙ ap (λ (n : ℕ). take m (take n (bitsIn high-first (pack o 36 S)))) (sym whole)
-    ∙ take-take m m (bitsIn high-first (pack o 36 S)) (omega arith))
+    let size : length (take m S) ≡ m = length-take-le m S (omega arith) in
+    let count : bytesFor m ≡ m / 8 = omega arith in
+    let whole : 8 * (m / 8) ≡ m = omega arith in
+    rw (size, count, packed-front o (m / 8) m S (omega arith) (omega arith), ← take-pack o (m / 8) stateRoom S (omega arith))
+    (rw (← bitsIn-take, whole, take-take m m (bitsIn high-first (pack o stateRoom S)) (omega arith))))
     w
-  where
-    front : (k : ℕ) → m ≡ 8 * k → pack o k (take m S) ≡ take k (pack o 36 S)
-    front k e = packed-front o k m S (omega arith) (omega arith) ∙ sym (take-pack o k 36 S (omega arith))
 
 -- ---- output blocks, one after the other
 
@@ -105,136 +89,126 @@ module _ (f : List Bool → List Bool) (r m : ℕ) (pos : 0 < r) (s : List Bool)
   -- more than a block is wanted
   pub outputs-more : r < m → outputs f r m (blocksFor r m) s ≡ take r s ∷ outputs f r (m - r) (blocksFor r (m - r)) (f s)
   unfolding outputs
-  outputs-more h = ap (λ (k : ℕ). outputs f r m k s) count ∙ go (blocksFor r (m - r)) some
+  outputs-more h =
+      let sum : m + (r - 1) ≡ m - r + (r - 1) + 1 * r = omega arith in
+      let some : 0 < blocksFor r (m - r) = le-div-iff-mul-le {k = r} pos .1 (omega arith) in
+      rw (sum, add-mul-div-right (m - r + (r - 1)) 1 pos, add-one) (go (blocksFor r (m - r)) some)
     where
-      sum : m + (r - 1) ≡ m - r + (r - 1) + 1 * r
-      sum = omega arith
-
-      count : blocksFor r m ≡ suc (blocksFor r (m - r))
-      count = ap (λ (k : ℕ). k / r) sum ∙ add-mul-div-right (m - r + (r - 1)) 1 pos ∙ add-one (blocksFor r (m - r))
-
-      some : 0 < blocksFor r (m - r)
-      some = le-div-iff-mul-le {k = r} pos .1 (omega arith)
-
       go : (k : ℕ) → 0 < k → outputs f r m (suc k) s ≡ take r s ∷ outputs f r (m - r) k (f s)
       go zero z = absurd (not-suc-le-zero z)
-      go (suc k) z =
-          ap (λ (l : List Bool). l ∷ outputs f r (m - r) (suc k) (f s)) (take-all m (take r s) (omega (arith, length-take r s, min-le-left r (length s))))
+      go (suc k) z = rw (take-all m (take r s) (omega (arith, length-take r s, min-le-left r (length s))))
 
   -- the last block
   pub outputs-last : 0 < m → m ≤ r → outputs f r m (blocksFor r m) s ≡ take m s ∷ []
   unfolding outputs
   outputs-last hm hr =
-      ap (λ (k : ℕ). outputs f r m k s) one ∙ ap (λ (l : List Bool). l ∷ []) (take-take m r s hr)
-    where
-      sum : m + (r - 1) ≡ m - 1 + 1 * r
-      sum = omega arith
-
-      one : blocksFor r m ≡ 1
-      one = ap (λ (k : ℕ). k / r) sum ∙ add-mul-div-right (m - 1) 1 pos ∙ ap (λ (k : ℕ). k + 1) (div-eq-of-lt (omega arith))
+      let sum : m + (r - 1) ≡ m - 1 + 1 * r = omega arith in
+      let less : m - 1 < r = omega arith in
+      rw (sum, add-mul-div-right (m - 1) 1 pos, div-eq-of-lt less, take-take m r s hr)
 
 -- ---- the loop over output blocks
 
-flat : (g : List Bool → List Bool) (X y : List Bool) (l : List (List Bool)) → X ++ flatMap g (y ∷ l) ≡ X ++ (g y ++ flatMap g l)
-unfolding flatMap
-flat g X y l = refl
-
-single : (g : List Bool → List Bool) (X y : List Bool) → X ++ flatMap g (y ∷ []) ≡ X ++ g y
-unfolding flatMap
-single g X y = ap (λ (l : List Bool). X ++ l) (append-nil (g y))
-
--- p half bytes of the digest are out, and what the state `at` still gives makes it whole
-pub record Squeezing (v : ℕ) (s out at : List ℕ) (p : ℕ) : Type 0 where
-  pub ready : at ≡ stateBytes (variant v) (stateIn (variant v) at)
-  pub kept : out ≡ pack high-first 32 (unpack high-first (4 * p) out)
-  pub wanted : 4 * p < variant v .n
+-- p of n half bytes of the digest are out, q with each output block, and what the state `at` still gives makes it whole
+pub record Squeezing (v : ℕ) (s : List ℕ) (n q : ℕ) (out at : List ℕ) (p : ℕ) : Type 0 where
+  pub number : known v ≡ true
+  pub digest : 4 * n ≡ variant v .n
+  pub digest-most : n ≤ 64
+  pub block : 4 * q ≡ variant v .r′
+  pub block-least : 0 < q
+  pub block-most : q ≤ 9
+  pub wanted : p < n
+  pub ready : Holds v at
+  pub kept : out ≡ pack high-first digestRoom (unpack high-first (4 * p) out)
   pub layout : (high-first ≡ order (variant v)) ⊎ ((variant v .n - 4 * p) % 8 ≡ 0)
   pub left : unpack high-first (4 * p) out
       ++ flatMap (reordered (order (variant v)) high-first)
       (outputs (permutation (variant v) forward) (variant v .r′) (variant v .n - 4 * p) (blocksFor (variant v .r′) (variant v .n - 4 * p)) (stateIn (variant v) at))
       ≡ squeezed (variant v) (stateIn (variant v) s)
 
-module _ (v : ℕ) (low : 1 ≤ v) (high : v ≤ 10) (s : List ℕ) (size : length s ≡ 36) where
+pub squeezing-start : (v : ℕ) → known v ≡ true → (s : List ℕ) (n q : ℕ) → n ≡ variant v .n / 8 * 2 → q ≡ variant v .r′ / 4
+    → Holds v s → Squeezing v s n q (replicate digestRoom 0) s 0
+unfolding squeezed outputBlocks unpack
+squeezing-start v k s n q en eq e =
+    let H : Variant = variant v in
+    let b : Bounds H = bounds v k in
+    record {
+      number = k;
+      digest = omega (arith, b .digest-whole);
+      digest-most = omega (arith, b .digest-most);
+      block = omega (arith, b .output-quarters);
+      block-least = omega (arith, b .output-least);
+      block-most = omega (arith, b .output-most);
+      wanted = omega (arith, b .digest-least);
+      ready = e;
+      kept = sym (pack-none high-first digestRoom);
+      layout = inr (rw sub-zero (b .digest-whole));
+      left = rw sub-zero;
+    }
+
+module _ (v : ℕ) (s : List ℕ) (n q : ℕ) (out at : List ℕ) (p : ℕ) (u : Squeezing v s n q out at p) where
   abbrev H : Variant
   H = variant v
 
   b : Bounds (variant v)
-  b = bounds v low high
+  b = bounds v (u .number)
 
-  pub squeezing-start : s ≡ stateBytes H (stateIn H s) → Squeezing v s (replicate 32 0) s 0
-  unfolding squeezed outputBlocks unpack
-  squeezing-start e =
+  lo : length out ≡ digestRoom
+  lo = ap length (u .kept) ∙ length-pack high-first digestRoom _
+
+  la : length at ≡ stateRoom
+  la = ap length (u .ready) ∙ length-pack (order H) stateRoom _
+
+  lS : length (stateIn H at) ≡ H .t
+  lS = state-length v (u .number) at la
+
+  -- the first m bits that the state gives out
+  given : (m : ℕ) → m ≤ H .r′ → (high-first ≡ order H) ⊎ (m % 8 ≡ 0)
+      → take m (bitsIn high-first at) ≡ reordered (order H) high-first (take m (stateIn H at))
+  given m hm w =
+      ap (λ (x : List ℕ). take m (bitsIn high-first x)) (u .ready)
+      ∙ sym (output-bits (order H) (H .t) m (stateIn H at) lS (b .state-most) (omega (arith, b .output-fits)) w)
+
+  pub squeezing-more : (more next : List ℕ) → p + q < n
+      → more ≡ pack high-first digestRoom (unpack high-first (4 * p) out ++ take (4 * q) (bitsIn high-first at))
+      → next ≡ packedState H (permutation H forward (stateIn H at)) → Squeezing v s n q more next (p + q)
+  unfolding flatMap
+  squeezing-more more next h em ex =
+      let k = u .number in
+      let S : List Bool = stateIn H at in
+      let fS : List Bool = permutation H forward S in
+      let lf : length fS ≡ H .t = permutation-length v k forward S lS in
+      let X : List Bool = unpack high-first (4 * p) out in
+      let Y : List Bool = take (4 * q) (bitsIn high-first at) in
+      let again : unpack high-first (4 * (p + q)) more ≡ X ++ Y =
+      front-again out at lo la p q (omega arith) more em in
+      let block : Y ≡ reordered (order H) high-first (take (H .r′) S) =
+      given (4 * q) (omega arith) (⊎-elim inl (λ (w : WholeBytes H). inr (rw (u .block) (w .output))) (layouts v k))
+      ∙ ap (λ (m : ℕ). reordered (order H) high-first (take m S)) (u .block) in
+      let rest : H .n - 4 * p - H .r′ ≡ H .n - 4 * (p + q) = omega arith in
       record {
-        ready = e;
-        kept = sym (pack-none high-first 32);
-        wanted = omega (arith, b .digest-least);
-        layout = inr (ap (λ (m : ℕ). m % 8) (sub-zero (H .n)) ∙ b .digest-whole);
-        left = ap (λ (m : ℕ). flatMap (reordered (order H) high-first) (outputs (permutation H forward) (H .r′) m (blocksFor (H .r′) m) (stateIn H s))) (sub-zero (H .n));
+        number = k;
+        digest = u .digest;
+        digest-most = u .digest-most;
+        block = u .block;
+        block-least = u .block-least;
+        block-most = u .block-most;
+        wanted = h;
+        ready = stored-ready v k next fS lf ex;
+        kept = front-kept out at lo la p q (omega arith) more em;
+        layout = ⊎-elim inl (λ e. ⊎-elim inl (λ (w : WholeBytes H). inr (omega arith)) (layouts v k)) (u .layout);
+        left =
+            rw (again, stored v k next fS lf ex, block, ← rest, append-assoc)
+            (rw (outputs-more (permutation H forward) (H .r′) (H .n - 4 * p) (omega (arith, b .output-least)) S (omega arith)) at (u .left));
       }
 
-  -- the first m bits that a state gives out
-  given : (at : List ℕ) (m : ℕ) → length at ≡ 36 → m ≤ H .r′ → (high-first ≡ order H) ⊎ (m % 8 ≡ 0) → at ≡ stateBytes H (stateIn H at)
-      → take m (bitsIn high-first at) ≡ reordered (order H) high-first (take m (stateIn H at))
-  given at m la hm w e =
-      ap (λ (x : List ℕ). take m (bitsIn high-first x)) e
-      ∙ sym (output-bits (order H) (H .t) m (stateIn H at) (state-length v low high at la) (b .state-most) (omega (arith, b .output-fits)) w)
-
-  module _ (out at : List ℕ) (p n q : ℕ) (u : Squeezing v s out at p)
-      (en : n ≡ H .n / 8 * 2) (eq : q ≡ H .r′ / 4) where
-    lo : length out ≡ 32
-    lo = ap length (u .kept) ∙ length-pack high-first 32 _
-
-    la : length at ≡ 36
-    la = ap length (u .ready) ∙ length-pack (order H) 36 _
-
-    pub squeezing-more : (more next : List ℕ) → p + q < n
-        → more ≡ pack high-first 32 (unpack high-first (4 * p) out ++ take (4 * q) (bitsIn high-first at))
-        → next ≡ stateBytes H (permutation H forward (stateIn H at)) → Squeezing v s more next (p + q)
-    squeezing-more more next h em ex =
-        let S : List Bool = stateIn H at in
-        let lS : length S ≡ H .t = state-length v low high at la in
-        let fS : List Bool = permutation H forward S in
-        let lf : length fS ≡ H .t = lawful v low high .keeps forward S lS in
-        let whole : 4 * q ≡ H .r′ = omega (arith, b .output-quarters) in
-        let all : 4 * n ≡ H .n = omega (arith, b .digest-whole) in
-        let short : p ≤ 64 = omega (arith, b .digest-most) in
-        let X : List Bool = unpack high-first (4 * p) out in
-        let Y : List Bool = take (4 * q) (bitsIn high-first at) in
-        let again : unpack high-first (4 * (p + q)) more ≡ X ++ Y =
-        held-again 32 (4 * (p + q)) more (X ++ Y) em (fronted-length out at p q lo la short (omega (arith, b .output-most))) (omega (arith, b .digest-most)) in
-        let block : Y ≡ reordered (order H) high-first (take (H .r′) S) =
-        given at (4 * q) la (omega arith) (⊎-elim inl (λ (k : WholeBytes H). inr (ap (λ (m : ℕ). m % 8) whole ∙ k .output)) (layouts v low high)) (u .ready)
-        ∙ ap (λ (m : ℕ). reordered (order H) high-first (take m S)) whole in
-        let rest : H .n - 4 * p - H .r′ ≡ H .n - 4 * (p + q) = omega arith in
-        record {
-          ready = stored-ready v low high next fS lf ex;
-          kept = em ∙ ap (pack high-first 32) (sym again);
-          wanted = omega arith;
-          layout = ⊎-elim inl (λ e. ⊎-elim inl (λ (k : WholeBytes H). inr (omega (arith, k .output))) (layouts v low high)) (u .layout);
-          left =
-              ap₂ (λ (y z : List Bool). y ++ flatMap (reordered (order H) high-first) (outputs (permutation H forward) (H .r′) (H .n - 4 * (p + q)) (blocksFor (H .r′) (H .n - 4 * (p + q))) z))
-              again (stored v low high next fS lf ex)
-              ∙ ap₂ (λ (y : List Bool) (m : ℕ). (X ++ y) ++ flatMap (reordered (order H) high-first) (outputs (permutation H forward) (H .r′) m (blocksFor (H .r′) m) fS)) block (sym rest)
-              ∙ append-assoc X _ _
-              ∙ sym (ap (λ (l : List (List Bool)). X ++ flatMap (reordered (order H) high-first) l)
-              (outputs-more (permutation H forward) (H .r′) (H .n - 4 * p) (omega (arith, b .output-least)) S (omega arith)) ∙ flat (reordered (order H) high-first) X (take (H .r′) S) _)
-              ∙ u .left;
-        }
-
-    pub squeezing-last : (last : List ℕ) → n ≤ p + q
-        → last ≡ pack high-first 32 (unpack high-first (4 * p) out ++ take (4 * (n - p)) (bitsIn high-first at))
-        → last ≡ pack high-first 32 (squeezed H (stateIn H s))
-    squeezing-last last h el =
-        let S : List Bool = stateIn H at in
-        let m : ℕ = H .n - 4 * p in
-        let whole : 4 * q ≡ H .r′ = omega (arith, b .output-quarters) in
-        let all : 4 * n ≡ H .n = omega (arith, b .digest-whole) in
-        let size′ : 4 * (n - p) ≡ m = omega arith in
-        let X : List Bool = unpack high-first (4 * p) out in
-        el
-        ∙ ap (pack high-first 32)
-        (ap (λ (k : ℕ). X ++ take k (bitsIn high-first at)) size′
-        ∙ ap (λ (y : List Bool). X ++ y) (given at m la (omega arith) (u .layout) (u .ready))
-        ∙ sym (ap (λ (l : List (List Bool)). X ++ flatMap (reordered (order H) high-first) l)
-        (outputs-last (permutation H forward) (H .r′) m (omega (arith, b .output-least)) S (omega (arith, u .wanted)) (omega arith)) ∙ single (reordered (order H) high-first) X (take m S))
-        ∙ u .left)
+  pub squeezing-last : (last : List ℕ) → n ≤ p + q
+      → last ≡ pack high-first digestRoom (unpack high-first (4 * p) out ++ take (4 * (n - p)) (bitsIn high-first at))
+      → last ≡ pack high-first digestRoom (squeezed H (stateIn H s))
+  unfolding flatMap
+  squeezing-last last h el =
+      let S : List Bool = stateIn H at in
+      let m : ℕ = H .n - 4 * p in
+      let size : 4 * (n - p) ≡ m = omega arith in
+      rw (el, size, given m (omega arith) (u .layout))
+      (ap (pack high-first digestRoom)
+      (rw (outputs-last (permutation H forward) (H .r′) m (omega (arith, b .output-least)) S (omega arith) (omega arith), append-nil) at (u .left)))

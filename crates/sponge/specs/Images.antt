@@ -1,29 +1,31 @@
 -- The permutation on an image that a caller lends: its refusals in order, and the bytes that it leaves.
 -- Assumes nothing.
-use mathlib.Core.Bool.{Bool, cond, not, _&&_}
-use mathlib.Core.List.{List}
+use mathlib.Core.Bool.{Bool, _&&_}
+use mathlib.Core.List.{List, [], _∷_}
 use Prim.Native.Nat.{ℕ}
 use lib.Dec.{eqb}
 use lib.ListN.{length, drop}
+use Rattle.answers.specs.declared.Status.{Status}
+use Rattle.answers.specs.declared.Refusal.the-variants.{UnknownVariant, BadImage}
+use Rattle.answers.specs.Checks.{Check, unless, firstRefusal}
+use Rattle.answers.specs.Outputs.{whenDone}
 use Rattle.standard.specs.Bits.{bitsIn}
 use Rattle.standard.specs.Rounds.{Direction}
-use Rattle.standard.specs.Sponge.{Variant, order, permutation, imageBytes, imageOf, stateIn}
+use Rattle.standard.specs.Sponge.{Variant, order, permutation, imageSize, imageOf, stateIn}
 use Rattle.standard.specs.Variants.{variant, known}
-use Rattle.sponge.specs.declared.Status.{Status}
-use Rattle.sponge.specs.declared.Status.the-variants.{Done, UnknownVariant, BadImage}
-use Rattle.sponge.specs.Refusals.{whenDone}
 use Rattle.sponge.specs.Layout.{clear}
 
 -- bytes are an image if their length is that of one and no bit past the state's is set
 unfoldable pub isImage : Variant → List ℕ → Bool
-isImage H bytes = eqb (length bytes) (imageBytes H) && clear (drop (H .t) (bitsIn (order H) bytes))
+isImage H bytes = eqb (length bytes) (imageSize H) && clear (drop (H .t) (bitsIn (order H) bytes))
 
--- 1, then 6
+-- document 01, the permutation on an image: refusal 1, then 6
+abbrev pub imageChecks : ℕ → List ℕ → List Check
+imageChecks v bytes = unless (known v) UnknownVariant ∷ unless (isImage (variant v) bytes) BadImage ∷ []
+
+-- the answer
 unfoldable pub imageStatus : ℕ → List ℕ → Status
-imageStatus v bytes =
-    cond (not (known v)) UnknownVariant
-    (cond (not (isImage (variant v) bytes)) BadImage
-    Done)
+imageStatus v bytes = firstRefusal (imageChecks v bytes)
 
 -- the image of the permuted state; refused bytes stay
 unfoldable pub permutedImage : ℕ → Direction → List ℕ → List ℕ

@@ -1,22 +1,42 @@
--- How the code holds a state and a block: an image at the front of 36 bytes, and a block's bits at the front of 5 bytes.
+-- How the code holds a state and a block: an image, or a block's bits, at the front of bytes that have room for those of every variant.
 -- Assumes nothing.
+use mathlib.Core.Path.{_≡_}
 use mathlib.Core.Bool.{Bool, true, not, _&&_}
 use mathlib.Core.List.{List, [], _∷_}
 use Prim.Native.Nat.{ℕ}
 use Rattle.standard.specs.Bits.{high-first, pack, unpack}
-use Rattle.standard.specs.Sponge.{Variant, order}
+use Rattle.standard.specs.Sponge.{Variant, order, stateIn}
+use Rattle.standard.specs.Variants.{variant}
 
--- an image at the front of 36 bytes
-abbrev pub stateBytes : Variant → List Bool → List ℕ
-stateBytes H s = pack (order H) 36 s
+-- the bytes that have room for the state of every variant, for a block and for a digest
+abbrev pub stateRoom : ℕ
+stateRoom = 36
+
+abbrev pub blockRoom : ℕ
+blockRoom = 5
+
+abbrev pub digestRoom : ℕ
+digestRoom = 32
+
+-- an image at the front of the bytes that hold a state
+abbrev pub packedState : Variant → List Bool → List ℕ
+packedState H s = pack (order H) stateRoom s
 
 -- a block, or held bits, packed like an image: SPONGENT's are whole bytes, which both orders pack alike
-abbrev pub blockBytes : List Bool → List ℕ
-blockBytes b = pack high-first 5 b
+abbrev pub packedBlock : List Bool → List ℕ
+packedBlock b = pack high-first blockRoom b
 
 -- the block at the front of bytes
 abbrev pub blockIn : Variant → List ℕ → List Bool
 blockIn H bytes = unpack high-first (H .r) bytes
+
+-- the bytes hold a state of the variant v: its image, and zeros behind
+abbrev pub Holds : ℕ → List ℕ → Type 0
+Holds v bytes = bytes ≡ packedState (variant v) (stateIn (variant v) bytes)
+
+-- the bytes hold a block of the variant v, and zeros behind
+abbrev pub HoldsBlock : ℕ → List ℕ → Type 0
+HoldsBlock v bytes = bytes ≡ packedBlock (blockIn (variant v) bytes)
 
 -- no bit is set
 abbrev pub clear : List Bool → Bool

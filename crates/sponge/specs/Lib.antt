@@ -1,5 +1,6 @@
 -- The definitions that the contracts of this crate cite.
-pub mod Refusals
 pub mod Layout
 pub mod Cells
+pub mod Blocks
+pub mod Directions
 pub mod Images
