@@ -1,48 +1,61 @@
 -- Every operation gives a well-formed running hash where it was given one, refused or not, and a refusal gives back the one that it was given.
 -- Assumes nothing.
-use mathlib.Core.Path.{_≡_, refl, ap, _∙_}
+use mathlib.Core.Path.{_≡_, ap, _∙_}
 use mathlib.Core.Bool.{true}
-use mathlib.Core.List.{List, []}
-use mathlib.Core.Logic.{⊎-elim}
-use Prim.Native.Nat.{ℕ}
+use mathlib.Core.List.{List}
+use Prim.Native.Nat.{ℕ, _+_}
 use lib.ListN.{length}
-use Rattle.standard.specs.Bits.{high-first, bitsIn}
-use Rattle.standard.specs.Sponge.{padded, wholeBlocks}
-use Rattle.standard.specs.Variants.{variant, known}
-use Rattle.standard.proofs.BitLaws.{length-bitsIn}
-use Rattle.standard.proofs.OneBlock.{run-length}
-use Rattle.standard.proofs.Variants.{lawful}
-use Rattle.sponge.specs.declared.Status.the-variants.{Done}
-use Rattle.sponge.proofs.ImageLaws.{known-low, known-high}
+use borrow.Author.Tests.{not-true, ltb-false}
+use Rattle.answers.specs.declared.Status.{Status}
+use Rattle.answers.specs.declared.Status.the-variants.{Done}
+use Rattle.answers.specs.Checks.{firstRefusal}
+use Rattle.answers.specs.Outputs.{whenDone, most}
+use Rattle.answers.proofs.Statuses.{kept}
+use Rattle.answers.proofs.Rows.{passing-says, by-ways}
 use Rattle.hasher.specs.declared.Hasher.{Hasher}
-use Rattle.hasher.specs.declared.Advanced.{Advanced}
-use Rattle.hasher.specs.Running.{variantOf, heldIn, stateOf, wellFormed, started, updated, finished}
+use Rattle.hasher.specs.Running.{closed, wellFormed, Open, blank, fresh, ended, startChecks, updateChecks, finishChecks, startedOver, started, updated, finished}
 use Rattle.hasher.specs.Sized.{Sized}
-use Rattle.hasher.proofs.WellFormed.{either, facts, well-formed, state-long}
-use Rattle.hasher.proofs.Grown.{holding-sized, grown-sized, grown-facts}
-use Rattle.hasher.proofs.Ladders.{start-unknown, start-done, update-ways, finish-ways}
-use Rattle.hasher.proofs.Message.{begun-facts, closed-facts}
+use Rattle.hasher.proofs.WellFormed.{facts, well-formed}
+use Rattle.hasher.proofs.Next.{ended-sized, ended-facts, onward, onward-open, onward-sized}
+use Rattle.hasher.proofs.Message.{fresh-facts}
 
--- an answer whose running hash is well formed and of the code's sizes
-abbrev Good : Advanced → Type 0
-Good a = (wellFormed (a .hasher) ≡ true) × Sized (a .hasher)
+-- a running hash that is well formed and of the code's sizes
+abbrev Good : Hasher → Type 0
+Good h = (wellFormed h ≡ true) × Sized h
 
 -- a start that is Done gives a well-formed running hash
 pub start-well-formed : (v : ℕ) → started v .status ≡ Done → wellFormed (started v .hasher) ≡ true
+unfolding started startedOver
 start-well-formed v e =
-    ⊎-elim
-    (λ k. ap (λ (a : Advanced). wellFormed (a .hasher)) (start-done v k) ∙ well-formed _ (begun-facts v (known-low v k) (known-high v k)))
-    (λ k. let u = ap (λ (a : Advanced). a .status) (start-unknown v k) in cc)
-    (either (known v))
+    let k = passing-says (startChecks v) e .0 in
+    ap (λ (s : Status). wellFormed (whenDone s (fresh v) (blank 0))) e ∙ well-formed (fresh v) (fresh-facts v k)
+
+-- a start over a well-formed running hash leaves one, and a refused one leaves it as it was
+pub over-well-formed : (h : Hasher) → wellFormed h ≡ true → (v : ℕ) → wellFormed (startedOver h v .hasher) ≡ true
+unfolding startedOver
+over-well-formed h w v =
+    by-ways (λ s. wellFormed (whenDone s (fresh v) h) ≡ true) (startChecks v) ((λ e. w), λ k. well-formed (fresh v) (fresh-facts v k))
+
+pub start-unchanged : (h : Hasher) (v : ℕ) → (startedOver h v .status ≡ Done → ⊥) → startedOver h v .hasher ≡ h
+unfolding startedOver
+start-unchanged h v n = kept (firstRefusal (startChecks v)) (fresh v) h n
 
 module _ (h : Hasher) (z : Sized h) (w : wellFormed h ≡ true) where
-  update-good : (piece : List ℕ) → Good (updated h piece)
+  update-good : (piece : List ℕ) → Good (updated h piece .hasher)
+  unfolding updated
   update-good piece =
-      update-ways h piece Good (λ e. (w, z)) (λ e s. (w, z)) (λ e s l. (w, z))
-      (λ e s l. (
-        well-formed _ (grown-facts h (facts h e) z s (length piece) (bitsIn high-first piece) (length-bitsIn high-first piece) l),
-        grown-sized h (facts h e) z s (length piece) (bitsIn high-first piece) (length-bitsIn high-first piece),
-      ))
+      by-ways (λ s. Good (whenDone s (onward h piece) h)) (updateChecks h (length piece)) (
+        (λ e. (w, z)),
+        λ e. (
+          (λ c. (w, z)),
+          λ c. (
+            (λ l. (w, z)),
+            λ l.
+                let o : Open h = (w, not-true (closed h) c) in
+                (onward-open h z o piece (ltb-false most (h .total + length piece) (not-true _ l)) .0, onward-sized h z o piece),
+          ),
+        ),
+      )
 
   -- an update keeps a well-formed running hash well formed
   pub update-well-formed : (piece : List ℕ) → wellFormed (updated h piece .hasher) ≡ true
@@ -51,17 +64,11 @@ module _ (h : Hasher) (z : Sized h) (w : wellFormed h ≡ true) where
   pub update-sized : (piece : List ℕ) → Sized (updated h piece .hasher)
   update-sized piece = update-good piece .1
 
-  finish-good : Good (finished h)
+  finish-good : Good (finished h .hasher)
+  unfolding finished
   finish-good =
-      finish-ways h Good (λ e. (w, z)) (λ e s. (w, z))
-      (λ e s.
-      let f = facts h e in (
-        well-formed _
-            (closed-facts (h .variant) (h .total) _ (f .low) (f .high)
-            (run-length (variantOf h) (lawful (h .variant) (f .low) (f .high)) (wholeBlocks (variantOf h .r) (padded (variantOf h .r) (heldIn h))) (stateOf h) (state-long h f z))
-            (f .few)),
-        holding-sized (h .variant) 1 (h .total) _ [],
-      ))
+      by-ways (λ s. Good (whenDone s (ended h) h)) (finishChecks h)
+      ((λ e. (w, z)), λ e. ((λ c. (w, z)), λ c. (well-formed (ended h) (ended-facts h (facts h w) z), ended-sized h)))
 
   -- and so does finishing
   pub finish-well-formed : wellFormed (finished h .hasher) ≡ true
@@ -72,9 +79,10 @@ module _ (h : Hasher) (z : Sized h) (w : wellFormed h ≡ true) where
 
 -- a refused update gives back the running hash that it was given, well formed or not
 pub update-unchanged : (h : Hasher) (piece : List ℕ) → (updated h piece .status ≡ Done → ⊥) → updated h piece .hasher ≡ h
-update-unchanged h piece =
-    update-ways h piece (λ a. (a .status ≡ Done → ⊥) → a .hasher ≡ h) (λ e n. refl) (λ e s n. refl) (λ e s l n. refl) (λ e s l n. absurd (n refl))
+unfolding updated
+update-unchanged h piece n = kept (firstRefusal (updateChecks h (length piece))) _ h n
 
 -- and so does a refused finish
 pub finish-unchanged : (h : Hasher) → (finished h .status ≡ Done → ⊥) → finished h .hasher ≡ h
-finish-unchanged h = finish-ways h (λ a. (a .status ≡ Done → ⊥) → a .hasher ≡ h) (λ e n. refl) (λ e s n. refl) (λ e s n. absurd (n refl))
+unfolding finished
+finish-unchanged h n = kept (firstRefusal (finishChecks h)) (ended h) h n

@@ -1,13 +1,11 @@
--- The laws of the running hash, and the theorems on it: Keeps, UpdateAppend, Demand2.
-pub mod HeldBits
+-- The laws of the running hash, and the theorems on it: Keeps, UpdateAppend, Demand2, Apart.
 pub mod Owned
 pub mod WellFormed
-pub mod Grown
-pub mod OneMore
-pub mod Ladders
-pub mod ReadLaws
+pub mod Next
+pub mod Calls
 pub mod Message
+pub mod TakenBlocks
 pub mod Keeps
 pub mod UpdateAppend
-pub mod PieceByPiece
 pub mod Demand2
+pub mod Apart

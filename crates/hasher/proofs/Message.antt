@@ -1,151 +1,138 @@
 -- The running hash from its start over a message to the end: its state is the message's end state.
 -- Assumes nothing.
 use mathlib.Core.Path.{_≡_, refl, sym, ap, ap₂, _∙_}
-use mathlib.Core.Bool.{Bool, true, false, _&&_}
+use mathlib.Core.Bool.{Bool, true}
 use mathlib.Core.List.{List, [], _++_}
-use Prim.Native.Nat.{ℕ, _≤_}
-use native.Mathlib.Nat.{zero-add, mod-eq-of-lt}
+use Prim.Native.Nat.{ℕ, _+_, _≤_}
+use native.Mathlib.Nat.{mod-eq-of-lt}
 use native.Mathlib.Omega.{arith}
-use lib.ListN.{length}
-use borrow.Author.Tests.{le-ltb, le-leb}
-use Rattle.standard.specs.Bits.{high-first, bitsIn}
-use Rattle.standard.specs.Sponge.{Variant, startState, padded, wholeBlocks, restOf, run, messageBlocks, endState}
+use lib.ListN.{length, drop}
+use borrow.Author.Tests.{le-ltb}
+use Rattle.standard.specs.Bits.{high-first}
+use Rattle.standard.specs.Sponge.{Variant, startState}
+use Rattle.standard.specs.Chain.{messageBits, padding, wholeBlocks, restOf, run, endState}
 use Rattle.standard.specs.Variants.{variant, known}
 use Rattle.standard.proofs.BitLaws.{length-bitsIn}
-use Rattle.standard.proofs.Streaming.{whole-padded}
-use Rattle.standard.proofs.OneBlock.{Lawful, run-append, run-length}
-use Rattle.standard.proofs.Variants.{lawful}
-use Rattle.sponge.specs.declared.Status.{Status}
-use Rattle.sponge.specs.Layout.{stateBytes, blockBytes}
+use Rattle.standard.proofs.Streaming.{Streams, end-parts}
+use Rattle.standard.proofs.Variants.{streams}
+use Rattle.answers.specs.declared.Status.{Status}
+use Rattle.answers.specs.declared.Status.the-variants.{Done}
+use Rattle.answers.specs.Outputs.{written, most}
+use Rattle.sponge.specs.Layout.{packedState, packedBlock}
 use Rattle.hasher.specs.declared.Hasher.{Hasher}
 use Rattle.hasher.specs.declared.Advanced.{Advanced}
-use Rattle.hasher.specs.Running.{most, closed, heldCount, heldIn, stateOf, wellFormed, holding, done, grown, started, updated, finished}
-use Rattle.hasher.specs.Reading.{resultOf, readStatus, written, readInto, wholeStatus, wholeInto}
+use Rattle.hasher.specs.Running.{bitCount, heldCount, heldIn, stateOf, Open, blank, fresh, grown, ended, started, updated, finished}
+use Rattle.hasher.specs.declared.Wanted.{Wanted}
+use Rattle.hasher.specs.Reading.{resultOf, resultSize, readStatus, readInto, wholeStatus, wholeInto}
 use Rattle.hasher.specs.Sized.{Sized}
-use Rattle.hasher.proofs.WellFormed.{Facts, well-formed, open-count}
-use Rattle.hasher.proofs.Grown.{holding-sized, state-holding, held-holding, holding-facts, holding-same, grown-state, grown-held, grown-facts, grown-closed}
-use Rattle.hasher.proofs.Ladders.{start-done, update-done, finish-done}
+use Rattle.hasher.proofs.WellFormed.{Facts, facts, well-formed, open-count}
+use Rattle.hasher.proofs.Next.{going-sized, state-going, held-going, going-facts, ended-facts, ended-state, onward, onward-open, onward-sized, onward-state, onward-held}
+use Rattle.hasher.proofs.Calls.{start-done, update-done, finish-done, result-length}
 
-pub known-true : (v : ℕ) → 1 ≤ v → v ≤ 10 → known v ≡ true
-known-true v low high = ap₂ (λ (a b : Bool). a && b) (le-leb 1 v low) (le-leb v 10 high)
+-- the running hash of a message of bytes, so far
+abbrev pub taken : ℕ → List ℕ → Hasher
+taken v m = onward (fresh v) m
 
--- ---- closed: no bits are held
-
-module _ (v total : ℕ) (s : List Bool) (low : 1 ≤ v) (high : v ≤ 10) (ls : length s ≡ variant v .t) where
-  no-bits : length {A = Bool} [] ≡ heldCount (holding v 1 total s [])
-  unfolding heldCount
-  no-bits = refl
-
-  pub closed-facts : total ≤ most → Facts (holding v 1 total s [])
-  closed-facts few = holding-facts v 1 total s [] low high ls no-bits (omega arith) few
-
-  pub closed-state : stateOf (holding v 1 total s []) ≡ s
-  closed-state = state-holding v 1 total s [] low high ls no-bits
-
-module _ (v : ℕ) (low : 1 ≤ v) (high : v ≤ 10) where
+module _ (v : ℕ) (k : known v ≡ true) where
   abbrev H : Variant
   H = variant v
 
-  L : Lawful H
-  L = lawful v low high
+  S : Streams H
+  S = streams v k
 
   -- ---- the start
 
-  abbrev pub begun : Hasher
-  begun = holding v 0 0 (startState H) []
+  none-held : length {A = Bool} [] ≡ heldCount (fresh v)
+  none-held = sym (open-count (fresh v) refl ∙ mod-eq-of-lt (S .rate-pos))
 
-  none-held : length {A = Bool} [] ≡ heldCount begun
-  none-held = sym (open-count begun refl ∙ mod-eq-of-lt (L .rate-pos))
+  pub fresh-facts : Facts (fresh v)
+  fresh-facts = going-facts (blank v) 0 0 (startState H) [] k (S .start-length) none-held (omega arith) (omega arith)
 
-  pub begun-facts : Facts begun
-  begun-facts = holding-facts v 0 0 (startState H) [] low high (L .start-length) none-held (omega arith) (omega arith)
+  pub fresh-sized : Sized (fresh v)
+  fresh-sized = going-sized (blank v) 0 0 (startState H) []
 
-  pub begun-sized : Sized begun
-  begun-sized = holding-sized v 0 0 (startState H) []
+  pub fresh-open : Open (fresh v)
+  fresh-open = (well-formed (fresh v) fresh-facts, refl)
 
-  begun-state : stateOf begun ≡ startState H
-  begun-state = state-holding v 0 0 (startState H) [] low high (L .start-length) none-held
+  fresh-state : stateOf (fresh v) ≡ startState H
+  fresh-state = state-going (blank v) 0 0 (startState H) [] k (S .start-length) none-held
 
-  begun-held : heldIn begun ≡ []
-  begun-held = held-holding v 0 0 (startState H) [] low high (L .start-length) none-held
+  fresh-held : heldIn (fresh v) ≡ []
+  fresh-held = held-going (blank v) 0 0 (startState H) [] k (S .start-length) none-held
 
   -- its bytes are those of its state and of no held bits
-  pub begun-kept : begun .state ≡ stateBytes H (stateOf begun)
-  begun-kept = ap (stateBytes H) (sym begun-state)
+  pub fresh-kept : fresh v .state ≡ packedState (variant v) (stateOf (fresh v))
+  fresh-kept = ap (packedState H) (sym fresh-state)
 
-  pub none-kept : begun .held ≡ blockBytes (heldIn begun)
-  none-kept = ap blockBytes (sym begun-held)
+  pub none-kept : fresh v .held ≡ packedBlock (heldIn (fresh v))
+  none-kept = ap packedBlock (sym fresh-held)
 
   -- ---- a message
 
-  module _ (m : List ℕ) (few : length m ≤ most) where
+  module _ (m : List ℕ) where
     abbrev bits : List Bool
-    bits = bitsIn high-first m
+    bits = messageBits m
 
-    abbrev pub taken : Hasher
-    taken = grown begun (length m) bits
+    pub taken-open : length m ≤ most → Open (taken v m)
+    taken-open few = onward-open (fresh v) fresh-sized fresh-open m (omega arith)
 
-    pub taken-facts : Facts taken
-    taken-facts = grown-facts begun begun-facts begun-sized refl (length m) bits (length-bitsIn high-first m) (omega (arith, few))
+    taken-sized : Sized (taken v m)
+    taken-sized = onward-sized (fresh v) fresh-sized fresh-open m
 
-    pub taken-open : closed taken ≡ false
-    taken-open = grown-closed begun (length m) bits refl
-
-    taken-state : stateOf taken ≡ run H (startState H) (wholeBlocks (H .r) bits)
+    taken-state : stateOf (taken v m) ≡ run H (startState H) (wholeBlocks (H .r) bits)
     taken-state =
-        grown-state begun begun-facts begun-sized refl (length m) bits (length-bitsIn high-first m)
-        ∙ ap₂ (λ (s c : List Bool). run H s (wholeBlocks (H .r) (c ++ bits))) begun-state begun-held
+        onward-state (fresh v) fresh-sized fresh-open m
+        ∙ ap₂ (λ (s c : List Bool). run H s (wholeBlocks (H .r) (c ++ bits))) fresh-state fresh-held
 
-    taken-held : heldIn taken ≡ restOf (H .r) bits
-    taken-held =
-        grown-held begun begun-facts begun-sized refl (length m) bits (length-bitsIn high-first m)
-        ∙ ap (λ (c : List Bool). restOf (H .r) (c ++ bits)) begun-held
+    taken-held : heldIn (taken v m) ≡ restOf (H .r) bits
+    taken-held = onward-held (fresh v) fresh-sized fresh-open m ∙ ap (λ (c : List Bool). restOf (H .r) (c ++ bits)) fresh-held
 
-    -- the padded rest is the last of the message's blocks
-    taken-end : run H (stateOf taken) (wholeBlocks (H .r) (padded (H .r) (heldIn taken))) ≡ endState H m
-    unfolding endState messageBlocks
-    taken-end =
-        ap₂ (λ (s c : List Bool). run H s (wholeBlocks (H .r) (padded (H .r) c))) taken-state taken-held
-        ∙ sym (run-append H (startState H) (wholeBlocks (H .r) bits) (wholeBlocks (H .r) (padded (H .r) (restOf (H .r) bits))))
-        ∙ ap (run H (startState H)) (sym (whole-padded (H .r) (L .rate-pos) bits))
+    module _ (few : length m ≤ most) where
+      pub end-facts : Facts (ended (taken v m))
+      end-facts = ended-facts (taken v m) (facts (taken v m) (taken-open few .0)) taken-sized
 
-    abbrev pub ended : Hasher
-    ended = holding v 1 (length m) (endState H m) []
+      -- the end state is the standard's
+      pub end-reached : stateOf (ended (taken v m)) ≡ endState (variant v) (messageBits m)
+      unfolding grown
+      end-reached =
+          let total : bitCount (taken v m) ≡ length bits = omega (arith, length-bitsIn high-first m) in
+          ended-state (taken v m) (facts (taken v m) (taken-open few .0)) taken-sized
+          ∙ ap₂ (λ (s c : List Bool). run H s (wholeBlocks (H .r) (c ++ padding H (bitCount (taken v m))))) taken-state taken-held
+          ∙ ap (λ (n : ℕ). run H (run H (startState H) (wholeBlocks (H .r) bits)) (wholeBlocks (H .r) (restOf (H .r) bits ++ padding H n))) total
+          ∙ sym (end-parts H S bits)
 
-    pub finish-taken : finished taken ≡ done ended
-    unfolding grown
-    finish-taken =
-        finish-done taken (well-formed taken taken-facts) taken-open
-        ∙ ap done (holding-same v 1 (zero-add (length m)) taken-end refl)
+      -- ---- what is read at the end
 
-    end-long : length (endState H m) ≡ H .t
-    unfolding endState
-    end-long = run-length H L (messageBlocks H m) (startState H) (L .start-length)
+      pub end-status : (wanted : Wanted) (n : ℕ) → readStatus (ended (taken v m)) wanted n ≡ wholeStatus v m wanted n
+      unfolding readStatus wholeStatus ended grown
+      end-status wanted n = rw (well-formed (ended (taken v m)) end-facts, k, le-ltb most (length m) few)
 
-    pub ended-whole : wellFormed ended ≡ true
-    ended-whole = well-formed ended (closed-facts v (length m) (endState H m) low high end-long few)
+      pub end-into : (wanted : Wanted) (out : List ℕ) → readInto (ended (taken v m)) wanted out ≡ wholeInto v m wanted out
+      unfolding readInto wholeInto ended grown
+      end-into wanted out =
+          ap₂ (λ (s : Status) (x : List Bool). written s (resultOf H wanted x) out) (end-status wanted (length out)) end-reached
 
-    pub ended-state : stateOf ended ≡ endState H m
-    ended-state = closed-state v (length m) (endState H m) low high end-long
+      -- a whole message into an output that is long enough
+      pub whole-done : (wanted : Wanted) (out : List ℕ) → resultSize (variant v) wanted ≤ length out
+          → (wholeStatus v m wanted (length out) ≡ Done)
+          × (wholeInto v m wanted out ≡ resultOf (variant v) wanted (endState (variant v) (messageBits m)) ++ drop (resultSize (variant v) wanted) out)
+      unfolding wholeStatus wholeInto
+      whole-done wanted out l =
+          let result : List ℕ = resultOf H wanted (endState H bits) in
+          let e : wholeStatus v m wanted (length out) ≡ Done = rw (k, le-ltb _ _ few, le-ltb _ _ l) in (
+            e,
+            ap (λ (s : Status). written s result out) e ∙ ap (λ (n : ℕ). result ++ drop n out) (result-length H wanted (endState H bits)),
+          )
 
-    -- ---- the calls one after another
-
-    pub update-begun : updated begun m ≡ done taken
-    update-begun = update-done begun m (well-formed begun begun-facts) refl (omega (arith, few))
-
-    pub all-calls : (s u f : Advanced) → s ≡ started v → u ≡ updated (s .hasher) m → f ≡ finished (u .hasher) → f .hasher ≡ ended
-    all-calls s u f es eu ef =
-        let is : s .hasher ≡ begun = ap (λ (a : Advanced). a .hasher) (es ∙ start-done v (known-true v low high)) in
-        let iu : u .hasher ≡ taken = ap (λ (a : Advanced). a .hasher) (eu ∙ ap (λ (g : Hasher). updated g m) is ∙ update-begun) in
-        ap (λ (a : Advanced). a .hasher) (ef ∙ ap finished iu ∙ finish-taken)
-
-    -- ---- what is read at the end
-
-    pub ended-status : (image : Bool) (n : ℕ) → readStatus ended image n ≡ wholeStatus v m image n
-    unfolding readStatus wholeStatus
-    ended-status image n = rw (ended-whole, known-true v low high, le-ltb most (length m) few)
-
-    pub ended-into : (image : Bool) (out : List ℕ) → readInto ended image out ≡ wholeInto v m image out
-    unfolding readInto wholeInto
-    ended-into image out =
-        ap₂ (λ (s : Status) (x : List Bool). written s (resultOf H image x) out) (ended-status image (length out)) ended-state
+      -- the calls one after another
+      pub calls-read : (wanted : Wanted) (out : List ℕ) (s u f : Advanced) (r : Status) (after : List ℕ)
+          → s ≡ started v → u ≡ updated (s .hasher) m → f ≡ finished (u .hasher)
+          → (r ≡ readStatus (f .hasher) wanted (length out)) × (after ≡ readInto (f .hasher) wanted out)
+          → (r ≡ wholeStatus v m wanted (length out)) × (after ≡ wholeInto v m wanted out)
+      calls-read wanted out s u f r after es eu ef er =
+          let is : s .hasher ≡ fresh v = ap (λ (a : Advanced). a .hasher) (es ∙ start-done v k) in
+          let iu : u .hasher ≡ taken v m = ap (λ (a : Advanced). a .hasher) (eu ∙ ap (λ (g : Hasher). updated g m) is ∙ update-done (fresh v) m fresh-open (omega arith)) in
+          let end : f .hasher ≡ ended (taken v m) = ap (λ (a : Advanced). a .hasher) (ef ∙ ap finished iu ∙ finish-done (taken v m) (taken-open few)) in (
+            er .0 ∙ ap (λ (g : Hasher). readStatus g wanted (length out)) end ∙ end-status wanted (length out),
+            er .1 ∙ ap (λ (g : Hasher). readInto g wanted out) end ∙ end-into wanted out,
+          )

@@ -1,45 +1,36 @@
 -- What a well-formed running hash is: its sizes, how many bits it holds, and that its bytes are those of its state and held bits.
 -- Assumes nothing.
-use mathlib.Core.Path.{_≡_, refl, sym, ap, _∙_, subst}
-use mathlib.Core.Bool.{Bool, true, false, cond, _&&_, false≢true}
+use mathlib.Core.Path.{_≡_, sym, ap, _∙_, subst}
+use mathlib.Core.Bool.{Bool, true, false, cond, _&&_}
 use mathlib.Core.List.{List, _++_}
-use mathlib.Core.Logic.{_⊎_, inl, inr, ⊎-elim}
-use Prim.Native.Nat.{ℕ, _+_, _-_, _*_, _%_, _≤_, _<_}
+use mathlib.Core.Logic.{inl, inr, ⊎-elim}
+use Prim.Native.Nat.{ℕ, _-_, _*_, _%_, _≤_, _<_}
 use native.Mathlib.Nat.{mod-lt, dvd-mod-iff, dvd-of-mod-eq-zero, mod-eq-zero-of-dvd}
 use native.Mathlib.Omega.{arith}
 use lib.Dec.{leb}
 use lib.ListN.{length, take, drop, getD, replicate, length-drop, take-append-drop}
 use lib.Seq.{drop-at}
-use borrow.Author.Tests.{leb-true, le-leb, lt-leb}
+use borrow.Author.Tests.{leb-true, le-leb}
 use Rattle.standard.specs.Bits.{Order, high-first, bitsIn, pack, unpack}
 use Rattle.standard.specs.Sponge.{order, stateIn}
-use Rattle.standard.specs.Variants.{variant, known}
-use Rattle.standard.proofs.Tests.{lt-or-le}
+use Rattle.standard.specs.Variants.{known}
+use Rattle.standard.proofs.Tests.{and-true, either}
 use Rattle.standard.proofs.BitLaws.{length-bitsIn, length-unpack, image-eq}
 use Rattle.standard.proofs.Variants.{Bounds, bounds, WholeBytes, layouts}
-use Rattle.sponge.specs.Layout.{stateBytes, blockBytes, clear}
+use Rattle.answers.specs.Outputs.{most}
+use Rattle.sponge.specs.Layout.{stateRoom, blockRoom, packedState, packedBlock, clear}
 use Rattle.sponge.proofs.Clear.{clear-zeros, zeros-clear, clear-order}
 use Rattle.sponge.proofs.LayoutLaws.{packed-bits}
 use Rattle.sponge.proofs.States.{state-length}
-use Rattle.sponge.proofs.ImageLaws.{known-low, known-high}
 use Rattle.hasher.specs.declared.Hasher.{Hasher}
-use Rattle.hasher.specs.Running.{most, variantOf, closed, heldCount, heldIn, stateOf, wellFormed}
+use Rattle.hasher.specs.Running.{variantOf, closed, bitCount, heldCount, heldIn, stateOf, wellFormed}
 use Rattle.hasher.specs.Sized.{Sized}
 use Rattle.hasher.proofs.Owned.{Owned}
 
 -- ---- the five tests, to facts and from them
 
-pub and-left : (a b : Bool) → (a && b) ≡ true → a ≡ true
-and-left true b e = refl
-and-left false b e = absurd (false≢true e)
-
-pub and-right : (a b : Bool) → (a && b) ≡ true → b ≡ true
-and-right true b e = e
-and-right false b e = absurd (false≢true e)
-
 pub record Facts (h : Hasher) : Type 0 where
-  pub low : 1 ≤ h .variant
-  pub high : h .variant ≤ 10
+  pub named : known (h .variant) ≡ true
   pub stages : h .stage ≤ 1
   pub few : h .total ≤ most
   pub state-clear : clear (drop (variantOf h .t) (bitsIn (order (variantOf h)) (h .state))) ≡ true
@@ -52,87 +43,70 @@ facts h e =
     let b = leb (h .stage) 1 in
     let c = leb (h .total) most in
     let d = clear (drop (variantOf h .t) (bitsIn (order (variantOf h)) (h .state))) in
-    let abcd = and-left (a && b && c && d) (clear (drop (heldCount h) (bitsIn high-first (h .held)))) e in
-    let abc = and-left (a && b && c) d abcd in
-    let ab = and-left (a && b) c abc in
-    let k = and-left a b ab in
+    let all = and-true (a && b && c && d) (clear (drop (heldCount h) (bitsIn high-first (h .held)))) e in
+    let four = and-true (a && b && c) d (all .0) in
+    let three = and-true (a && b) c (four .0) in
+    let two = and-true a b (three .0) in
     record {
-      low = known-low (h .variant) k;
-      high = known-high (h .variant) k;
-      stages = leb-true (h .stage) 1 (and-right a b ab);
-      few = leb-true (h .total) most (and-right (a && b) c abc);
-      state-clear = and-right (a && b && c) d abcd;
-      held-clear = and-right (a && b && c && d) (clear (drop (heldCount h) (bitsIn high-first (h .held)))) e;
+      named = two .0;
+      stages = leb-true (h .stage) 1 (two .1);
+      few = leb-true (h .total) most (three .1);
+      state-clear = four .1;
+      held-clear = all .1;
     }
 
 pub well-formed : (h : Hasher) → Facts h → wellFormed h ≡ true
 unfolding wellFormed
-well-formed h f =
-    simp (le-leb 1 (h .variant) (f .low), le-leb (h .variant) 10 (f .high), le-leb (h .stage) 1 (f .stages), le-leb (h .total) most (f .few), f .state-clear, f .held-clear)
+well-formed h f = simp (f .named, le-leb (h .stage) 1 (f .stages), le-leb (h .total) most (f .few), f .state-clear, f .held-clear)
 
 -- ---- how many bits are held
 
-pub open-count : (h : Hasher) → closed h ≡ false → heldCount h ≡ 8 * h .total % variantOf h .r
+pub open-count : (h : Hasher) → closed h ≡ false → heldCount h ≡ bitCount h % variantOf h .r
 unfolding heldCount
-open-count h e = ap (λ (b : Bool). cond b 0 (8 * h .total % variantOf h .r)) e
-
-pub either : (b : Bool) → (b ≡ true) ⊎ (b ≡ false)
-either true = inl refl
-either false = inr refl
+open-count h e = ap (λ (b : Bool). cond b 0 (bitCount h % variantOf h .r)) e
 
 pub closed-count : (h : Hasher) → closed h ≡ true → heldCount h ≡ 0
 unfolding heldCount
-closed-count h e = ap (λ (b : Bool). cond b 0 (8 * h .total % variantOf h .r)) e
+closed-count h e = ap (λ (b : Bool). cond b 0 (bitCount h % variantOf h .r)) e
 
-module _ (h : Hasher) (low : 1 ≤ h .variant) (high : h .variant ≤ 10) where
+module _ (h : Hasher) (k : known (h .variant) ≡ true) where
   b : Bounds (variantOf h)
-  b = bounds (h .variant) low high
+  b = bounds (h .variant) k
 
   pub count-lt : heldCount h < variantOf h .r
   count-lt =
       ⊎-elim
       (λ e. omega (arith, closed-count h e, b .rate-least))
-      (λ e. subst (λ (n : ℕ). n < variantOf h .r) (sym (open-count h e)) (mod-lt (8 * h .total) {m = variantOf h .r} (omega (arith, b .rate-least))))
-      (either (closed h))
-
-  -- what divides the block and the bits taken in divides the held ones
-  count-divides : (k : ℕ) → 0 % k ≡ 0 → variantOf h .r % k ≡ 0 → 8 * h .total % k ≡ 0 → heldCount h % k ≡ 0
-  count-divides k none rate bits =
-      ⊎-elim
-      (λ e. ap (λ (n : ℕ). n % k) (closed-count h e) ∙ none)
-      (λ e. ap (λ (n : ℕ). n % k) (open-count h e)
-      ∙ mod-eq-zero-of-dvd k (dvd-mod-iff k {m = 8 * h .total} {n = variantOf h .r} (dvd-of-mod-eq-zero k rate) .1 (dvd-of-mod-eq-zero k {n = 8 * h .total} bits)))
+      (λ e. subst (λ (n : ℕ). n < variantOf h .r) (sym (open-count h e)) (mod-lt (bitCount h) {m = variantOf h .r} (omega (arith, b .rate-least))))
       (either (closed h))
 
   pub count-quarters : heldCount h % 4 ≡ 0
-  count-quarters = count-divides 4 refl (b .rate-quarters) (omega arith)
-
-  -- a byte more passes the block's end only from a whole byte on
-  pub count-whole : variantOf h .r < heldCount h + 8 → heldCount h % 8 ≡ 0
-  count-whole past =
+  count-quarters =
       ⊎-elim
-      (λ l. count-divides 8 refl (omega arith) (omega arith))
-      (λ l. omega (arith, b .rate-quarters, count-quarters, count-lt))
-      (lt-or-le (variantOf h .r % 8) 1)
+      (λ e. ap (λ (n : ℕ). n % 4) (closed-count h e))
+      (λ e. ap (λ (n : ℕ). n % 4) (open-count h e)
+      ∙ mod-eq-zero-of-dvd 4
+      (dvd-mod-iff 4 {m = bitCount h} {n = variantOf h .r} (dvd-of-mod-eq-zero 4 (b .rate-quarters)) .1 (dvd-of-mod-eq-zero 4 {n = bitCount h} (omega arith))))
+      (either (closed h))
 
   -- the state's spare bits, as the code looks at them
   pub spare : clear (drop (variantOf h .t) (bitsIn (order (variantOf h)) (h .state))) ≡ clear (drop (variantOf h .t) (bitsIn high-first (h .state)))
   spare =
       clear-order (order (variantOf h)) (h .state) (variantOf h .t)
-      (⊎-elim inl (λ (u : WholeBytes (variantOf h)). inr (u .state)) (layouts (h .variant) low high))
+      (⊎-elim inl (λ (u : WholeBytes (variantOf h)). inr (u .state)) (layouts (h .variant) k))
 
 -- ---- sizes
 
 module _ (h : Hasher) (f : Facts h) (z : Sized h) where
   pub state-long : length (stateOf h) ≡ variantOf h .t
   unfolding stateOf
-  state-long = state-length (h .variant) (f .low) (f .high) (h .state) (z .state-size)
+  state-long = state-length (h .variant) (f .named) (h .state) (z .state-size)
 
   pub held-long : length (heldIn h) ≡ heldCount h
   unfolding heldIn
   held-long =
       length-unpack high-first (heldCount h) (h .held)
-      (omega (arith, count-lt h (f .low) (f .high), bounds (h .variant) (f .low) (f .high) .rate-most, z .held-size))
+      (omega (arith, count-lt h (f .named), bounds (h .variant) (f .named) .rate-most, z .held-size))
 
 -- ---- bytes whose bits past t are clear are those of their first t bits, and the other way round
 
@@ -155,36 +129,14 @@ packed-clear o n t bs l h =
     ∙ zeros-clear (n * 8 - length bs)
 
 module _ (h : Hasher) (f : Facts h) (w : Owned h) where
-  pub state-kept : h .state ≡ stateBytes (variantOf h) (stateOf h)
-  unfolding stateOf stateIn
+  pub state-kept : h .state ≡ packedState (variantOf h) (stateIn (variantOf h) (h .state))
+  unfolding stateIn
   state-kept =
-      front-kept (order (variantOf h)) 36 (variantOf h .t) (h .state) (w .state-byte) (w .sized .state-size)
-      (bounds (h .variant) (f .low) (f .high) .state-most) (f .state-clear)
+      front-kept (order (variantOf h)) stateRoom (variantOf h .t) (h .state) (w .state-byte) (w .sized .state-size)
+      (bounds (h .variant) (f .named) .state-most) (f .state-clear)
 
-  pub held-kept : h .held ≡ blockBytes (heldIn h)
+  pub held-kept : h .held ≡ packedBlock (heldIn h)
   unfolding heldIn
   held-kept =
-      front-kept high-first 5 (heldCount h) (h .held) (w .held-byte) (w .sized .held-size)
-      (omega (arith, count-lt h (f .low) (f .high), bounds (h .variant) (f .low) (f .high) .rate-most)) (f .held-clear)
-
--- ---- the tests in the code's order
-
-module _ (h : Hasher) where
-  pub ill-variant : known (h .variant) ≡ false → wellFormed h ≡ false
-  unfolding wellFormed
-  ill-variant k = rw k
-
-  pub ill-stage : known (h .variant) ≡ true → 1 < h .stage → wellFormed h ≡ false
-  unfolding wellFormed
-  ill-stage k l = rw (k, lt-leb (h .stage) 1 l)
-
-  module _ (k : known (h .variant) ≡ true) (l : h .stage ≤ 1) where
-    pub ill-total : most < h .total → wellFormed h ≡ false
-    unfolding wellFormed
-    ill-total m = rw (k, le-leb (h .stage) 1 l, lt-leb (h .total) most m)
-
-    -- the first three hold: the bits decide
-    pub in-range : h .total ≤ most → wellFormed h ≡ (clear (drop (variantOf h .t) (bitsIn high-first (h .state))) && clear (drop (heldCount h) (bitsIn high-first (h .held))))
-    unfolding wellFormed
-    in-range m =
-        rw (k, le-leb (h .stage) 1 l, le-leb (h .total) most m, spare h (known-low (h .variant) k) (known-high (h .variant) k))
+      front-kept high-first blockRoom (heldCount h) (h .held) (w .held-byte) (w .sized .held-size)
+      (omega (arith, count-lt h (f .named), bounds (h .variant) (f .named) .rate-most)) (f .held-clear)

@@ -3,3 +3,4 @@ pub mod Running
 pub mod Reading
 pub mod Sized
 pub mod Pieces
+pub mod Apart

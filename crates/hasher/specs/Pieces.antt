@@ -1,19 +1,19 @@
 -- A message taken in pieces: start, an update for each piece in turn, finish, and a read. A refusal ends it: the calls behind it are not made.
 -- Assumes nothing.
 use mathlib.Core.Path.{_≡_}
-use mathlib.Core.Bool.{Bool, true, false}
 use mathlib.Core.List.{List, [], _∷_, _++_}
-use Prim.Native.Nat.{ℕ, _/_, _≤_}
+use Prim.Native.Nat.{ℕ, _≤_}
 use lib.ListN.{length, take, drop}
-use Rattle.standard.specs.Sponge.{endState, digestOf, imageBytes, imageOf}
+use Rattle.standard.specs.Chain.{messageBits, endState}
 use Rattle.standard.specs.Variants.{variant}
-use Rattle.sponge.specs.declared.Status.{Status}
-use Rattle.sponge.specs.declared.Status.the-variants.{Done}
-use Rattle.sponge.specs.Refusals.{whenDone}
+use Rattle.answers.specs.declared.Status.{Status}
+use Rattle.answers.specs.declared.Status.the-variants.{Done}
+use Rattle.answers.specs.Outputs.{whenDone}
 use Rattle.hasher.specs.declared.Hasher.{Hasher}
 use Rattle.hasher.specs.declared.Advanced.{Advanced}
+use Rattle.hasher.specs.declared.Wanted.{Wanted}
 use Rattle.hasher.specs.Running.{started, updated, finished}
-use Rattle.hasher.specs.Reading.{readStatus, readInto}
+use Rattle.hasher.specs.Reading.{resultOf, resultSize, readStatus, readInto}
 
 -- the pieces one behind the other
 unfoldable pub joined : List (List ℕ) → List ℕ
@@ -33,21 +33,20 @@ allUpdated a (p ∷ ps) = allUpdated (andThen a (λ h. updated h p)) ps
 unfoldable pub hashed : ℕ → List (List ℕ) → Advanced
 hashed v pieces = andThen (allUpdated (started v) pieces) finished
 
--- and then a read of the digest or, if `image`, of the end state: the answer, and the caller's output
-unfoldable pub hashedStatus : ℕ → List (List ℕ) → Bool → ℕ → Status
-hashedStatus v pieces image n = whenDone (hashed v pieces .status) (readStatus (hashed v pieces .hasher) image n) (hashed v pieces .status)
+-- and then a read of what is wanted: the answer, and the caller's output
+unfoldable pub hashedStatus : ℕ → List (List ℕ) → Wanted → ℕ → Status
+hashedStatus v pieces wanted n =
+    whenDone (hashed v pieces .status) (readStatus (hashed v pieces .hasher) wanted n) (hashed v pieces .status)
 
-unfoldable pub hashedInto : ℕ → List (List ℕ) → Bool → List ℕ → List ℕ
-hashedInto v pieces image out = whenDone (hashed v pieces .status) (readInto (hashed v pieces .hasher) image out) out
+unfoldable pub hashedInto : ℕ → List (List ℕ) → Wanted → List ℕ → List ℕ
+hashedInto v pieces wanted out = whenDone (hashed v pieces .status) (readInto (hashed v pieces .hasher) wanted out) out
 
 -- The pieces hash to what the standard says of the message that they make: each call is Done, and a read into an output that is long enough
 -- is Done and puts the digest, or the image of the end state, in front of the rest of the output.
 pub record Hashes (v : ℕ) (pieces : List (List ℕ)) : Type 0 where
   pub every-update : (k : ℕ) → allUpdated (started v) (take k pieces) .status ≡ Done
   pub finish : hashed v pieces .status ≡ Done
-  pub digest : (out : List ℕ) → variant v .n / 8 ≤ length out
-      → (readStatus (hashed v pieces .hasher) false (length out) ≡ Done)
-      × (readInto (hashed v pieces .hasher) false out ≡ digestOf (variant v) (joined pieces) ++ drop (variant v .n / 8) out)
-  pub end-state : (out : List ℕ) → imageBytes (variant v) ≤ length out
-      → (readStatus (hashed v pieces .hasher) true (length out) ≡ Done)
-      × (readInto (hashed v pieces .hasher) true out ≡ imageOf (variant v) (endState (variant v) (joined pieces)) ++ drop (imageBytes (variant v)) out)
+  pub read : (wanted : Wanted) (out : List ℕ) → resultSize (variant v) wanted ≤ length out
+      → (readStatus (hashed v pieces .hasher) wanted (length out) ≡ Done)
+      × (readInto (hashed v pieces .hasher) wanted out
+      ≡ resultOf (variant v) wanted (endState (variant v) (messageBits (joined pieces))) ++ drop (resultSize (variant v) wanted) out)

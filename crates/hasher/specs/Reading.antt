@@ -1,49 +1,60 @@
 -- What is read from a finished running hash into the caller's bytes, and the whole message in one call.
 -- Assumes nothing.
-use mathlib.Core.Bool.{Bool, cond, not}
-use mathlib.Core.List.{List, _++_}
+use mathlib.Core.Bool.{Bool}
+use mathlib.Core.List.{List, [], _∷_}
 use Prim.Native.Nat.{ℕ, _/_}
 use lib.Dec.{ltb}
-use lib.ListN.{length, drop}
-use Rattle.standard.specs.Sponge.{Variant, endState, digestFrom, imageBytes, imageOf}
+use lib.ListN.{length}
+use Rattle.standard.specs.Sponge.{Variant, digestFrom, imageSize, imageOf}
+use Rattle.standard.specs.Chain.{messageBits, endState}
 use Rattle.standard.specs.Variants.{variant, known}
-use Rattle.sponge.specs.declared.Status.{Status}
-use Rattle.sponge.specs.declared.Status.the-variants.{Done, UnknownVariant, Malformed, WrongStage, TooLong, OutputTooShort}
-use Rattle.sponge.specs.Refusals.{whenDone}
+use Rattle.answers.specs.declared.Refusal.the-variants.{UnknownVariant, Malformed, WrongStage, TooLong, OutputTooShort}
+use Rattle.answers.specs.declared.Status.{Status}
+use Rattle.answers.specs.Checks.{Check, unless, when, firstRefusal}
+use Rattle.answers.specs.Outputs.{written, most}
 use Rattle.hasher.specs.declared.Hasher.{Hasher}
-use Rattle.hasher.specs.Running.{most, variantOf, closed, stateOf, wellFormed}
+use Rattle.hasher.specs.declared.Wanted.{Wanted}
+use Rattle.hasher.specs.declared.Wanted.the-variants.{Digest, EndState}
+use Rattle.hasher.specs.Running.{variantOf, closed, stateOf, wellFormed}
 
--- what is asked for of an end state: its image, or the digest squeezed out of it
-unfoldable pub resultOf : Variant → Bool → List Bool → List ℕ
-resultOf H image s = cond image (imageOf H s) (digestFrom H s)
+-- what is wanted of an end state: its image, or the digest squeezed out of it
+abbrev pub resultOf : Variant → Wanted → List Bool → List ℕ
+resultOf H Digest s = digestFrom H s
+resultOf H EndState s = imageOf H s
 
 -- how many bytes that is
-unfoldable pub resultBytes : Variant → Bool → ℕ
-resultBytes H image = cond image (imageBytes H) (H .n / 8)
+abbrev pub resultSize : Variant → Wanted → ℕ
+resultSize H Digest = H .n / 8
+resultSize H EndState = imageSize H
 
--- Read digest or end state: 2, 3, 5, for an output of n bytes
-unfoldable pub readStatus : Hasher → Bool → ℕ → Status
-readStatus h image n =
-    cond (not (wellFormed h)) Malformed
-    (cond (not (closed h)) WrongStage
-    (cond (ltb n (resultBytes (variantOf h) image)) OutputTooShort
-    Done))
+-- Read digest or end state, into n bytes: 2, 3, 5
+abbrev pub readChecks : Hasher → Wanted → ℕ → List Check
+readChecks h wanted n =
+    unless (wellFormed h) Malformed
+    ∷ unless (closed h) WrongStage
+    ∷ when (ltb n (resultSize (variantOf h) wanted)) OutputTooShort
+    ∷ []
 
--- the result over the front of the output; bytes past it stay, and all of them where the call is refused
-abbrev pub written : Status → List ℕ → List ℕ → List ℕ
-written s result out = whenDone s (result ++ drop (length result) out) out
+-- the answer of a read
+unfoldable pub readStatus : Hasher → Wanted → ℕ → Status
+readStatus h wanted n = firstRefusal (readChecks h wanted n)
 
 -- the caller's output after a read
-unfoldable pub readInto : Hasher → Bool → List ℕ → List ℕ
-readInto h image out = written (readStatus h image (length out)) (resultOf (variantOf h) image (stateOf h)) out
+unfoldable pub readInto : Hasher → Wanted → List ℕ → List ℕ
+readInto h wanted out = written (readStatus h wanted (length out)) (resultOf (variantOf h) wanted (stateOf h)) out
 
--- Whole message: 1, 4, 5
-unfoldable pub wholeStatus : ℕ → List ℕ → Bool → ℕ → Status
-wholeStatus v m image n =
-    cond (not (known v)) UnknownVariant
-    (cond (ltb most (length m)) TooLong
-    (cond (ltb n (resultBytes (variant v) image)) OutputTooShort
-    Done))
+-- Whole message of n bytes, into so many bytes: 1, 4, 5
+abbrev pub wholeChecks : ℕ → ℕ → Wanted → ℕ → List Check
+wholeChecks v n wanted room =
+    unless (known v) UnknownVariant
+    ∷ when (ltb most n) TooLong
+    ∷ when (ltb room (resultSize (variant v) wanted)) OutputTooShort
+    ∷ []
 
-unfoldable pub wholeInto : ℕ → List ℕ → Bool → List ℕ → List ℕ
-wholeInto v m image out = written (wholeStatus v m image (length out)) (resultOf (variant v) image (endState (variant v) m)) out
+-- the answer for a whole message, and the caller's output after it
+unfoldable pub wholeStatus : ℕ → List ℕ → Wanted → ℕ → Status
+wholeStatus v m wanted room = firstRefusal (wholeChecks v (length m) wanted room)
+
+unfoldable pub wholeInto : ℕ → List ℕ → Wanted → List ℕ → List ℕ
+wholeInto v m wanted out =
+    written (wholeStatus v m wanted (length out)) (resultOf (variant v) wanted (endState (variant v) (messageBits m))) out

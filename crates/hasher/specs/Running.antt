@@ -1,23 +1,23 @@
 -- The running hash: when it is well formed, and what starting, updating and finishing make of it.
 -- Assumes nothing.
-use mathlib.Core.Bool.{Bool, cond, not, _&&_}
-use mathlib.Core.List.{List, [], _++_}
+use mathlib.Core.Path.{_≡_}
+use mathlib.Core.Bool.{Bool, true, false, cond, _&&_}
+use mathlib.Core.List.{List, [], _∷_, _++_}
 use Prim.Native.Nat.{ℕ, _+_, _*_, _%_}
 use lib.Dec.{eqb, ltb, leb}
 use lib.ListN.{length, drop, replicate}
 use Rattle.standard.specs.Bits.{high-first, bitsIn, unpack}
-use Rattle.standard.specs.Sponge.{Variant, order, startState, padded, wholeBlocks, restOf, run, stateIn}
+use Rattle.standard.specs.Sponge.{Variant, order, startState, stateIn}
+use Rattle.standard.specs.Chain.{messageBits, padding, wholeBlocks, restOf, run}
 use Rattle.standard.specs.Variants.{variant, known}
-use Rattle.sponge.specs.declared.Status.{Status}
-use Rattle.sponge.specs.declared.Status.the-variants.{Done, UnknownVariant, Malformed, WrongStage, TooLong}
-use Rattle.sponge.specs.Layout.{stateBytes, blockBytes, clear}
+use Rattle.answers.specs.declared.Refusal.the-variants.{UnknownVariant, Malformed, WrongStage, TooLong}
+use Rattle.answers.specs.Checks.{Check, unless, when, firstRefusal}
+use Rattle.answers.specs.Outputs.{whenDone, most}
+use Rattle.sponge.specs.Layout.{stateRoom, blockRoom, packedState, packedBlock, clear}
 use Rattle.hasher.specs.declared.Hasher.{Hasher}
 use Rattle.hasher.specs.declared.Advanced.{Advanced}
 
--- the most bytes that a message may have
-abbrev pub most : ℕ
-most = 16777215
-
+-- the variant that it names
 abbrev pub variantOf : Hasher → Variant
 variantOf h = variant (h .variant)
 
@@ -25,9 +25,13 @@ variantOf h = variant (h .variant)
 abbrev pub closed : Hasher → Bool
 closed h = eqb (h .stage) 1
 
--- how many bits of the message so far fill no block
+-- the bits of the message so far
+abbrev pub bitCount : Hasher → ℕ
+bitCount h = 8 * h .total
+
+-- how many of them fill no block; a closed running hash holds none
 unfoldable pub heldCount : Hasher → ℕ
-heldCount h = cond (closed h) 0 (8 * h .total % variantOf h .r)
+heldCount h = cond (closed h) 0 (bitCount h % variantOf h .r)
 
 -- those bits, and the state
 unfoldable pub heldIn : Hasher → List Bool
@@ -36,7 +40,7 @@ heldIn h = unpack high-first (heldCount h) (h .held)
 unfoldable pub stateOf : Hasher → List Bool
 stateOf h = stateIn (variantOf h) (h .state)
 
--- document 01, the running hash: the variant is one of the ten, the stage open or closed, the total within the limit, and no bit past the state's and past the held ones is set; a closed one holds none
+-- document 01, the running hash: the variant is known, the stage open or closed, the total within the limit, and no bit past the state's and past the held ones is set
 unfoldable pub wellFormed : Hasher → Bool
 wellFormed h =
     known (h .variant)
@@ -45,53 +49,75 @@ wellFormed h =
     && clear (drop (variantOf h .t) (bitsIn (order (variantOf h)) (h .state)))
     && clear (drop (heldCount h) (bitsIn high-first (h .held)))
 
--- a running hash of the variant v with the state s and the held bits b
-abbrev pub holding : ℕ → ℕ → ℕ → List Bool → List Bool → Hasher
-holding v stage total s b =
-    record { variant = v; stage = stage; total = total; state = stateBytes (variant v) s; held = blockBytes b }
+-- well formed and open: a piece may come, or the end
+abbrev pub Open : Hasher → Type 0
+Open h = (wellFormed h ≡ true) × (closed h ≡ false)
 
-abbrev pub refused : Status → Hasher → Advanced
-refused s h = record { status = s; hasher = h }
+-- ---- the next running hash, from the one before it
 
-abbrev pub done : Hasher → Advanced
-done h = record { status = Done; hasher = h }
+-- the running hash h with this stage, total, state and held bits; what else it records stays
+abbrev pub going : Hasher → ℕ → ℕ → List Bool → List Bool → Hasher
+going h stage total s b =
+    record { total = total; variant = h .variant; stage = stage; state = packedState (variantOf h) s; held = packedBlock b }
 
--- the running hash of no bytes yet
+-- a variant's number, open, and all else zero
+abbrev pub blank : ℕ → Hasher
+blank v = record { total = 0; variant = v; stage = 0; state = replicate stateRoom 0; held = replicate blockRoom 0 }
+
+-- the running hash of no bits yet
 abbrev pub fresh : ℕ → Hasher
-fresh v = holding v 0 0 (startState (variant v)) []
+fresh v = going (blank v) 0 0 (startState (variant v)) []
 
--- Start over a running hash that is there: 1
-unfoldable pub startedOver : Hasher → ℕ → Advanced
-startedOver h v = cond (not (known v)) (refused UnknownVariant h) (done (fresh v))
+-- the message goes on with these bits, which are so many bytes: the held bits and they together, their whole blocks run through the state, the rest held
+unfoldable pub grown : Hasher → ℕ → List Bool → Hasher
+grown h bytes bits =
+    going h (h .stage) (h .total + bytes)
+    (run (variantOf h) (stateOf h) (wholeBlocks (variantOf h .r) (heldIn h ++ bits)))
+    (restOf (variantOf h .r) (heldIn h ++ bits))
 
--- what a refused start yields where none is there: variant 0, open, all else zero
-abbrev pub nothing : Hasher
-nothing = record { variant = 0; stage = 0; total = 0; state = replicate 36 0; held = replicate 5 0 }
+-- the message has ended: its padding goes behind the held bits, and the blocks that they make run through the state
+unfoldable pub ended : Hasher → Hasher
+ended h =
+    going h 1 (h .total)
+    (run (variantOf h) (stateOf h) (wholeBlocks (variantOf h .r) (heldIn h ++ padding (variantOf h) (bitCount h)))) []
+
+-- ---- the calls
+
+-- the answer of a row of checks, with the next running hash where all pass, and the old one where one refuses
+abbrev pub advanced : List Check → Hasher → Hasher → Advanced
+advanced row next old = record { status = firstRefusal row; hasher = whenDone (firstRefusal row) next old }
 
 -- Start: 1
+abbrev pub startChecks : ℕ → List Check
+startChecks v = unless (known v) UnknownVariant ∷ []
+
+-- Take a piece of n bytes: 2, 3, 4
+abbrev pub updateChecks : Hasher → ℕ → List Check
+updateChecks h n =
+    unless (wellFormed h) Malformed
+    ∷ when (closed h) WrongStage
+    ∷ when (ltb most (h .total + n)) TooLong
+    ∷ []
+
+-- Close: 2, 3
+abbrev pub finishChecks : Hasher → List Check
+finishChecks h =
+    unless (wellFormed h) Malformed
+    ∷ when (closed h) WrongStage
+    ∷ []
+
+-- a start over a running hash that is there
+unfoldable pub startedOver : Hasher → ℕ → Advanced
+startedOver h v = advanced (startChecks v) (fresh v) h
+
+-- a start where none is there: a refused one yields variant 0, open, all else zero
 unfoldable pub started : ℕ → Advanced
-started = startedOver nothing
+started v = startedOver (blank 0) v
 
--- the message goes on with these bits: the held bits and they together, their whole blocks run through the state, the rest held
-unfoldable pub grown : Hasher → ℕ → List Bool → Hasher
-grown h bytes bs =
-    holding (h .variant) (h .stage) (h .total + bytes)
-    (run (variantOf h) (stateOf h) (wholeBlocks (variantOf h .r) (heldIn h ++ bs)))
-    (restOf (variantOf h .r) (heldIn h ++ bs))
-
--- Update (document 01: take a piece): 2, 3, 4
+-- a piece taken
 unfoldable pub updated : Hasher → List ℕ → Advanced
-updated h piece =
-    cond (not (wellFormed h)) (refused Malformed h)
-    (cond (closed h) (refused WrongStage h)
-    (cond (ltb most (h .total + length piece)) (refused TooLong h)
-    (done (grown h (length piece) (bitsIn high-first piece)))))
+updated h piece = advanced (updateChecks h (length piece)) (grown h (length piece) (messageBits piece)) h
 
--- Finish (document 01: close): 2, 3. The held bits are padded, and the last block runs through the state.
+-- the running hash closed
 unfoldable pub finished : Hasher → Advanced
-finished h =
-    cond (not (wellFormed h)) (refused Malformed h)
-    (cond (closed h) (refused WrongStage h)
-    (done
-    (holding (h .variant) 1 (h .total)
-    (run (variantOf h) (stateOf h) (wholeBlocks (variantOf h .r) (padded (variantOf h .r) (heldIn h)))) [])))
+finished h = advanced (finishChecks h) (ended h) h

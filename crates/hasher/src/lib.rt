@@ -1,26 +1,33 @@
 // The running hash by value: start, update, finish, digest and end state, and the whole message in one call.
 ghost use mathlib.Core.Path.{_≡_};
-ghost use mathlib.Core.Bool.{true, false};
-ghost use mathlib.Core.List.{[], _∷_, _++_};
-ghost use Prim.Native.Nat.{_+_, _/_, _%_, _≤_, _<_};
-ghost use lib.ListN.{length, drop};
-ghost use Rattle.standard.specs.Bits.{high-first, bitsOf, bitsIn, unpack};
+ghost use mathlib.Core.Bool.{true};
+ghost use Prim.Native.Nat.{_+_, _≤_};
+ghost use lib.ListN.{length};
 ghost use Rattle.standard.specs.Sponge.{stateIn};
-ghost use Rattle.standard.specs.Variants.{variant};
-ghost use Rattle.sponge.specs.Layout.{stateBytes, blockBytes};
-ghost use Rattle.hasher.specs.Running.{most, closed, heldCount, wellFormed, grown, startedOver, started, updated, finished};
-ghost use Rattle.hasher.specs.Reading.{resultBytes, resultOf, readStatus, readInto, wholeStatus, wholeInto};
-use sponge::Status;
+ghost use Rattle.standard.specs.Chain.{messageBits};
+ghost use Rattle.standard.specs.Variants.{variant, known};
+ghost use Rattle.answers.specs.declared.Status.the-variants.{Done};
+ghost use Rattle.answers.specs.Checks.{firstRefusal};
+ghost use Rattle.answers.specs.Outputs.{written, most};
+ghost use Rattle.sponge.specs.Layout.{Holds};
+ghost use Rattle.hasher.specs.Running.{heldCount, wellFormed, Open, fresh, grown, ended, updateChecks, finishChecks, startedOver, started, updated, finished};
+ghost use Rattle.hasher.specs.Reading.{resultOf, resultSize, readStatus, readInto, wholeChecks, wholeStatus, wholeInto};
+ghost use Rattle.hasher.specs.declared.Wanted.the-variants.{Digest, EndState};
+use answers::MOST;
+use answers::Refusal;
+use answers::Status;
+use sponge::BLOCK_BYTES;
+use sponge::STATE_BYTES;
 
-// Any 52 bytes are one. Stage 0 is open, 1 is closed. The state is an image at the front of its bytes; the held bits are those of
+// Any 48 bytes are one. Stage 0 is open, 1 is closed. The state is an image at the front of its bytes; the held bits are those of
 // the message so far that fill no block.
 #[repr(C)]
 pub struct Hasher {
+    pub total: u32,
     pub variant: u8,
     pub stage: u8,
-    pub total: u32,
-    pub state: [u8; 36],
-    pub held: [u8; 5],
+    pub state: [u8; STATE_BYTES],
+    pub held: [u8; BLOCK_BYTES],
 }
 
 // The answer of a call that gives a running hash: with a refusal, the one that it was given.
@@ -29,222 +36,196 @@ pub struct Advanced {
     pub hasher: Hasher,
 }
 
-const MOST: u32 = 16777215;
+// What is read at the end.
+pub enum Wanted {
+    Digest,
+    EndState,
+}
 
 // How many bits are held.
 fn held_count(h: Hasher) -> usize
-    requires { ⌜ (1 ≤ h .variant) × (h .variant ≤ 10) ⌝ }
+    requires { ⌜ known (h .variant) ≡ true ⌝ }
     requires { ⌜ h .total ≤ most ⌝ }
     ensures { λ r. ⌜ r ≡ heldCount h ⌝ }
 {
     if h.stage == 1 {
         return 0;
     }
-    (8 * h.total % sponge::block_bits(h.variant)) as usize
+    (8 * h.total % sponge::sizes::block_bits(h.variant)) as usize
 }
 
-// Whether the running hash is well formed.
 pub fn is_well_formed(h: Hasher) -> bool
     ensures { λ r. ⌜ r ≡ wellFormed h ⌝ }
 {
     let v = h.variant;
-    if !sponge::is_known(v) {
+    if !sponge::sizes::is_known(v as u32) {
         return false;
     }
     if 1 < h.stage {
         return false;
     }
-    if MOST < h.total {
+    if MOST < h.total as usize {
         return false;
     }
     let state = h.state;
-    if !sponge::clear_from(&state, sponge::state_bits(v)) {
+    if !sponge::images::clear_from(&state, sponge::sizes::state_bits(v)) {
         return false;
     }
     let held = h.held;
-    sponge::clear_from(&held, held_count(h))
+    sponge::images::clear_from(&held, held_count(h))
+}
+
+// ---- checks
+
+// Whether a running hash may go on or end: refusals 2, 3.
+pub fn check_open(h: Hasher) -> Status
+    ensures { λ r. ⌜ r ≡ firstRefusal (finishChecks h) ⌝ }
+{
+    if !is_well_formed(h) {
+        return Status::Refused(Refusal::Malformed);
+    }
+    if h.stage == 1 {
+        return Status::Refused(Refusal::WrongStage);
+    }
+    Status::Done
+}
+
+// Whether a piece of n bytes may come: refusals 2, 3, 4.
+pub fn check_update(h: Hasher, n: usize) -> Status
+    ensures { λ r. ⌜ r ≡ firstRefusal (updateChecks h n) ⌝ }
+{
+    let status = check_open(h);
+    if let Status::Done = status {
+        // The total is within the limit, and n is any number: no sum that could pass the word's end.
+        if MOST - (h.total as usize) < n {
+            return Status::Refused(Refusal::TooLong);
+        }
+        return Status::Done;
+    }
+    status
+}
+
+// Whether a result may be read into n bytes: refusals 2, 3, 5.
+pub fn check_read(h: Hasher, wanted: Wanted, n: usize) -> Status
+    ensures { λ r. ⌜ r ≡ readStatus h wanted n ⌝ }
+{
+    if !is_well_formed(h) {
+        return Status::Refused(Refusal::Malformed);
+    }
+    if h.stage != 1 {
+        return Status::Refused(Refusal::WrongStage);
+    }
+    if n < result_size(h.variant, wanted) {
+        return Status::Refused(Refusal::OutputTooShort);
+    }
+    Status::Done
+}
+
+// ---- start
+
+fn fresh(v: u8) -> Hasher
+    requires { ⌜ known v ≡ true ⌝ }
+    ensures { λ r. ⌜ r ≡ fresh v ⌝ }
+{
+    Hasher {
+        total: 0,
+        variant: v,
+        stage: 0,
+        state: sponge::step::start(v),
+        held: [0u8; BLOCK_BYTES],
+    }
 }
 
 // A start over a running hash that is there, which a refusal leaves: refusal 1.
-pub fn started_over(h: Hasher, variant: u8) -> Advanced
+pub fn started_over(h: Hasher, variant: u32) -> Advanced
     ensures { λ r. ⌜ r ≡ startedOver h variant ⌝ }
 {
-    if !sponge::is_known(variant) {
+    if !sponge::sizes::is_known(variant) {
         return Advanced {
-            status: Status::UnknownVariant,
+            status: Status::Refused(Refusal::UnknownVariant),
             hasher: h,
         };
     }
-    let state = sponge::start_bytes(variant);
-    let held = [0u8; 5];
-    let fresh = Hasher {
-        variant: variant,
-        stage: 0,
-        total: 0,
-        state: state,
-        held: held,
-    };
     Advanced {
         status: Status::Done,
-        hasher: fresh,
+        hasher: fresh(variant as u8),
     }
 }
 
 // Refusal 1, which yields variant 0.
-pub fn start(variant: u8) -> Advanced
+pub fn start(variant: u32) -> Advanced
     ensures { λ r. ⌜ r ≡ started variant ⌝ }
 {
-    let state = [0u8; 36];
-    let none = [0u8; 5];
-    let nothing = Hasher {
+    let blank = Hasher {
+        total: 0,
         variant: 0,
         stage: 0,
-        total: 0,
-        state: state,
-        held: none,
+        state: [0u8; STATE_BYTES],
+        held: [0u8; BLOCK_BYTES],
     };
-    started_over(nothing, variant)
+    started_over(blank, variant)
 }
 
-// The byte x behind c held bits: at a whole byte, or from the middle of one on.
-fn with_byte(held: [u8; 5], c: usize, x: u8) -> [u8; 5]
-    requires { ⌜ (c % 4 ≡ 0) × (c ≤ 32) ⌝ }
-    requires { ⌜ held ≡ blockBytes (unpack high-first c held) ⌝ }
-    ensures { λ r. ⌜ r ≡ blockBytes (unpack high-first c held ++ bitsOf high-first 8 x) ⌝ }
-{
-    let mut out = held;
-    let k = c / 8;
-    if c % 8 == 0 {
-        out[k] = out[k] ^ x;
-        return out;
-    }
-    out[k] = out[k] ^ (x / 16);
-    out[k + 1] = out[k + 1] ^ (x % 16 * 16);
-    out
-}
+// ---- update
 
-// The upper half of the byte x behind c held bits, which are whole bytes.
-fn with_upper(held: [u8; 5], c: usize, x: u8) -> [u8; 5]
-    requires { ⌜ (c % 8 ≡ 0) × (c ≤ 32) ⌝ }
-    requires { ⌜ held ≡ blockBytes (unpack high-first c held) ⌝ }
-    ensures { λ r. ⌜ r ≡ blockBytes (unpack high-first c held ++ bitsOf high-first 4 (x / 16)) ⌝ }
-{
-    let mut out = held;
-    let k = c / 8;
-    out[k] = out[k] ^ (x / 16 * 16);
-    out
-}
-
-// The lower half of the byte x alone.
-fn lower(x: u8) -> [u8; 5]
-    ensures { λ r. ⌜ r ≡ blockBytes (bitsOf high-first 4 x) ⌝ }
-{
-    [x % 16 * 16, 0, 0, 0, 0]
-}
-
-// The added 1 bit behind c held bits.
-fn with_one(held: [u8; 5], c: usize) -> [u8; 5]
-    requires { ⌜ (c % 4 ≡ 0) × (c < 40) ⌝ }
-    requires { ⌜ held ≡ blockBytes (unpack high-first c held) ⌝ }
-    ensures { λ r. ⌜ r ≡ blockBytes (unpack high-first c held ++ true ∷ []) ⌝ }
-{
-    let mut out = held;
-    let k = c / 8;
-    if c % 8 == 0 {
-        out[k] = out[k] ^ 128;
-        return out;
-    }
-    out[k] = out[k] ^ 8;
-    out
-}
-
-// One byte more.
-fn push(h: Hasher, x: u8) -> Hasher
-    requires { ⌜ (wellFormed h ≡ true) × (closed h ≡ false) ⌝ }
-    requires { ⌜ h .total < most ⌝ }
-    ensures { λ r. ⌜ r ≡ grown h 1 (bitsIn high-first (x ∷ [])) ⌝ }
+// The message goes on with the piece: the whole blocks of the held bits and the piece run through the state, and what is left is held.
+fn grown(h: Hasher, piece: &[u8]) -> Hasher
+    requires { ⌜ Open h ⌝ }
+    requires { ⌜ h .total + length (now piece) ≤ most ⌝ }
+    ensures { λ r. ⌜ r ≡ grown h (length (now (piece .entry))) (messageBits (now (piece .entry))) ⌝ }
 {
     let v = h.variant;
-    let r = sponge::block_bits(v) as usize;
-    let c = held_count(h);
-    let held = h.held;
     let state = h.state;
-    let total = h.total + 1;
-    if c + 8 < r {
-        let next = with_byte(held, c, x);
-        return Hasher {
-            variant: v,
-            stage: h.stage,
-            total: total,
-            state: state,
-            held: next,
-        };
-    }
-    if c + 8 == r {
-        let block = with_byte(held, c, x);
-        let s = sponge::stepped(v, state, block);
-        let none = [0u8; 5];
-        return Hasher {
-            variant: v,
-            stage: h.stage,
-            total: total,
-            state: s,
-            held: none,
-        };
-    }
-    let block = with_upper(held, c, x);
-    let s = sponge::stepped(v, state, block);
-    let rest = lower(x);
+    let held = h.held;
+    // In half bytes, since every block is so many of them.
+    let q = (sponge::sizes::block_bits(v) / 4) as usize;
+    let p = held_count(h) / 4;
+    let n = p + 2 * piece.len();
+    let count = n / q;
     Hasher {
+        total: h.total + piece.len() as u32,
         variant: v,
         stage: h.stage,
-        total: total,
-        state: s,
-        held: rest,
+        state: sponge::blocks::run_blocks(v, state, &held, p, piece, count),
+        held: sponge::blocks::block_at(&held, p, piece, count * q, n % q),
     }
-}
-
-// Every byte of the piece, in order.
-fn push_all(h: Hasher, piece: &[u8]) -> Hasher
-    requires { ⌜ (wellFormed h ≡ true) × (closed h ≡ false) ⌝ }
-    requires { ⌜ h .total + length (now piece) ≤ most ⌝ }
-    ensures { λ r. ⌜ r ≡ grown h (length (now (piece .entry))) (bitsIn high-first (now (piece .entry))) ⌝ }
-{
-    let mut g = h;
-    let mut i = 0;
-    while i < piece.len() {
-        g = push(g, piece[i]);
-        i += 1;
-    }
-    g
 }
 
 // Refusals 2, 3, 4.
 pub fn update(h: Hasher, piece: &[u8]) -> Advanced
     ensures { λ r. ⌜ r ≡ updated h (now (piece .entry)) ⌝ }
 {
-    if !is_well_formed(h) {
+    let status = check_update(h, piece.len());
+    if let Status::Done = status {
         return Advanced {
-            status: Status::Malformed,
-            hasher: h,
+            status: Status::Done,
+            hasher: grown(h, piece),
         };
     }
-    if h.stage == 1 {
-        return Advanced {
-            status: Status::WrongStage,
-            hasher: h,
-        };
-    }
-    if ((MOST - h.total) as usize) < piece.len() {
-        return Advanced {
-            status: Status::TooLong,
-            hasher: h,
-        };
-    }
-    let g = push_all(h, piece);
     Advanced {
-        status: Status::Done,
-        hasher: g,
+        status: status,
+        hasher: h,
+    }
+}
+
+// ---- finish
+
+// The message has ended: the held bits and the padding make one last block.
+fn ended(h: Hasher) -> Hasher
+    requires { ⌜ Open h ⌝ }
+    ensures { λ r. ⌜ r ≡ ended h ⌝ }
+{
+    let v = h.variant;
+    let state = h.state;
+    let held = h.held;
+    let p = held_count(h) / 4;
+    let none: [u8; 0] = [];
+    Hasher {
+        total: h.total,
+        variant: v,
+        stage: 1,
+        state: sponge::blocks::run_blocks(v, state, &held, p, &none, 1),
+        held: [0u8; BLOCK_BYTES],
     }
 }
 
@@ -252,112 +233,102 @@ pub fn update(h: Hasher, piece: &[u8]) -> Advanced
 pub fn finish(h: Hasher) -> Advanced
     ensures { λ r. ⌜ r ≡ finished h ⌝ }
 {
-    if !is_well_formed(h) {
+    let status = check_open(h);
+    if let Status::Done = status {
         return Advanced {
-            status: Status::Malformed,
-            hasher: h,
+            status: Status::Done,
+            hasher: ended(h),
         };
     }
-    if h.stage == 1 {
-        return Advanced {
-            status: Status::WrongStage,
-            hasher: h,
-        };
-    }
-    let v = h.variant;
-    let held = h.held;
-    let state = h.state;
-    let block = with_one(held, held_count(h));
-    let s = sponge::stepped(v, state, block);
-    let none = [0u8; 5];
-    let g = Hasher {
-        variant: v,
-        stage: 1,
-        total: h.total,
-        state: s,
-        held: none,
-    };
     Advanced {
-        status: Status::Done,
-        hasher: g,
+        status: status,
+        hasher: h,
     }
 }
 
-// The bytes of a result: of an image, or of a digest.
-pub fn result_bytes(v: u8, image: bool) -> usize
-    ensures { λ r. ⌜ r ≡ resultBytes (variant v) image ⌝ }
+// ---- results
+
+// The bytes of a result.
+pub fn result_size(v: u8, wanted: Wanted) -> usize
+    ensures { λ r. ⌜ r ≡ resultSize (variant v) wanted ⌝ }
 {
-    if image {
-        sponge::image_bytes(v)
-    } else {
-        sponge::digest_bytes(v)
+    match wanted {
+        Wanted::Digest => sponge::sizes::digest_bytes(v),
+        Wanted::EndState => sponge::sizes::image_bytes(v),
     }
 }
 
 // The result for an end state over the front of an output that is long enough.
-fn write_result(v: u8, image: bool, state: [u8; 36], out: &mut [u8])
-    requires { ⌜ (1 ≤ v) × (v ≤ 10) ⌝ }
-    requires { ⌜ state ≡ stateBytes (variant v) (stateIn (variant v) state) ⌝ }
-    requires { ⌜ resultBytes (variant v) image ≤ length (now out) ⌝ }
-    ensures { λ _. ⌜ now (out .exit) ≡ resultOf (variant v) image (stateIn (variant v) state)
-        ++ drop (length (resultOf (variant v) image (stateIn (variant v) state))) (now (out .entry)) ⌝ }
+fn write_result(v: u8, wanted: Wanted, state: [u8; STATE_BYTES], out: &mut [u8])
+    requires { ⌜ known v ≡ true ⌝ }
+    requires { ⌜ Holds v state ⌝ }
+    requires { ⌜ resultSize (variant v) wanted ≤ length (now out) ⌝ }
+    ensures { λ _. ⌜ now (out .exit) ≡ written Done (resultOf (variant v) wanted (stateIn (variant v) state)) (now (out .entry)) ⌝ }
 {
-    let n = result_bytes(v, image);
-    if image {
-        sponge::copy_front(&state, n, out);
-    } else {
-        let digest = sponge::squeezed_bytes(v, state);
-        sponge::copy_front(&digest, n, out);
+    let n = result_size(v, wanted);
+    match wanted {
+        Wanted::Digest => {
+            let digest = sponge::squeeze::squeezed(v, state);
+            sponge::images::copy_front(&digest, n, out);
+        }
+        Wanted::EndState => sponge::images::copy_front(&state, n, out),
     }
 }
 
 // The digest, or the image of the end state: refusals 2, 3, 5. Reading changes nothing of the running hash.
-fn read(h: Hasher, image: bool, out: &mut [u8]) -> Status
-    ensures { λ r. ⌜ (r ≡ readStatus h image (length (now (out .entry)))) × (now (out .exit) ≡ readInto h image (now (out .entry))) ⌝ }
+pub fn read(h: Hasher, wanted: Wanted, out: &mut [u8]) -> Status
+    ensures { λ r. ⌜ (r ≡ readStatus h wanted (length (now (out .entry)))) × (now (out .exit) ≡ readInto h wanted (now (out .entry))) ⌝ }
 {
-    if !is_well_formed(h) {
-        return Status::Malformed;
+    let status = check_read(h, wanted, out.len());
+    if let Status::Done = status {
+        let state = h.state;
+        write_result(h.variant, wanted, state, out);
+        return Status::Done;
     }
-    if h.stage != 1 {
-        return Status::WrongStage;
-    }
-    let v = h.variant;
-    if out.len() < result_bytes(v, image) {
-        return Status::OutputTooShort;
-    }
-    let state = h.state;
-    write_result(v, image, state, out);
-    Status::Done
+    status
 }
 
 pub fn digest(h: Hasher, out: &mut [u8]) -> Status
-    ensures { λ r. ⌜ (r ≡ readStatus h false (length (now (out .entry)))) × (now (out .exit) ≡ readInto h false (now (out .entry))) ⌝ }
+    ensures { λ r. ⌜ (r ≡ readStatus h Digest (length (now (out .entry)))) × (now (out .exit) ≡ readInto h Digest (now (out .entry))) ⌝ }
 {
-    read(h, false, out)
+    read(h, Wanted::Digest, out)
 }
 
 pub fn end_state(h: Hasher, out: &mut [u8]) -> Status
-    ensures { λ r. ⌜ (r ≡ readStatus h true (length (now (out .entry)))) × (now (out .exit) ≡ readInto h true (now (out .entry))) ⌝ }
+    ensures { λ r. ⌜ (r ≡ readStatus h EndState (length (now (out .entry)))) × (now (out .exit) ≡ readInto h EndState (now (out .entry))) ⌝ }
 {
-    read(h, true, out)
+    read(h, Wanted::EndState, out)
 }
 
-// A whole message: its digest or, if `image`, the image of its end state. Refusals 1, 4, 5.
-pub fn whole(variant: u8, message: &[u8], image: bool, out: &mut [u8]) -> Status
-    ensures { λ r. ⌜ (r ≡ wholeStatus variant (now (message .entry)) image (length (now (out .entry))))
-        × (now (out .exit) ≡ wholeInto variant (now (message .entry)) image (now (out .entry))) ⌝ }
+// ---- the whole message in one call
+
+// Whether a message of n bytes may be hashed into `room` bytes: refusals 1, 4, 5.
+pub fn check_whole(variant: u32, n: usize, wanted: Wanted, room: usize) -> Status
+    ensures { λ r. ⌜ r ≡ firstRefusal (wholeChecks variant n wanted room) ⌝ }
 {
-    if !sponge::is_known(variant) {
-        return Status::UnknownVariant;
+    if !sponge::sizes::is_known(variant) {
+        return Status::Refused(Refusal::UnknownVariant);
     }
-    if (MOST as usize) < message.len() {
-        return Status::TooLong;
+    if MOST < n {
+        return Status::Refused(Refusal::TooLong);
     }
-    if out.len() < result_bytes(variant, image) {
-        return Status::OutputTooShort;
+    if room < result_size(variant as u8, wanted) {
+        return Status::Refused(Refusal::OutputTooShort);
     }
-    let s = start(variant);
-    let u = update(s.hasher, message);
-    let f = finish(u.hasher);
-    read(f.hasher, image, out)
+    Status::Done
+}
+
+// A whole message: what is wanted of its end state. Refusals 1, 4, 5.
+pub fn whole(variant: u32, message: &[u8], wanted: Wanted, out: &mut [u8]) -> Status
+    ensures { λ r. ⌜ (r ≡ wholeStatus variant (now (message .entry)) wanted (length (now (out .entry))))
+        × (now (out .exit) ≡ wholeInto variant (now (message .entry)) wanted (now (out .entry))) ⌝ }
+{
+    let status = check_whole(variant, message.len(), wanted, out.len());
+    if let Status::Done = status {
+        let s = start(variant);
+        let u = update(s.hasher, message);
+        let f = finish(u.hasher);
+        return read(f.hasher, wanted, out);
+    }
+    status
 }

@@ -18,29 +18,21 @@ rem-fits x r pos small = omega (arith, mod-lt x {m = r} pos)
 returns : tie.Need-returns
 returns c = sym (closed-count (c .before .before .args .h) (eq-eqb _ _ (c .if1 .taken)))
 
-mul-result : tie.Need-mul-result
-mul-result c = search needs
-
-block-bits-requires : tie.Need-block-bits-requires
-block-bits-requires c κs = search needs
-
 rem-result : tie.Need-rem-result
 rem-result c =
     let s = c .before .before .before .before in
-    omega (arith, c .block-bits .ensures, bounds (s .args .h .variant) (s .pre .0 .0) (s .pre .0 .1) .rate-least)
+    omega (arith, c .block-bits .ensures, bounds (s .args .h .variant) (s .pre .0) .rate-least)
 
 cast-result : tie.Need-cast-result
 cast-result c =
     let s = c .before .before .before .before in
-    let b = bounds (s .args .h .variant) (s .pre .0 .0) (s .pre .0 .1) in
+    let b = bounds (s .args .h .variant) (s .pre .0) in
     rem-fits _ (c .block-bits .result) (omega (arith, c .block-bits .ensures, b .rate-least)) (omega (arith, c .block-bits .ensures, b .rate-most))
 
 returns-2 : tie.Need-returns-2
 returns-2 c =
-    let s = c .before .before .before .before in
-    ap (λ (n : ℕ). 8 * s .args .h .total % n) (c .block-bits .ensures)
-    ∙ sym (open-count (s .args .h) (ne-eqb _ _ (c .before .before .if1 .left)))
+    let h = c .before .before .before .before .args .h in
+    ap (λ (n : ℕ). 8 * h .total % n) (c .block-bits .ensures) ∙ sym (open-count h (ne-eqb _ _ (c .before .before .if1 .left)))
 
 pub held-count-spec : {M : Type 1} → statement M
-held-count-spec =
-    tie.close (tie.spec returns mul-result block-bits-requires rem-result cast-result returns-2)
+held-count-spec = tie.close (tie.spec returns (λ c. search needs) (λ c κs. search needs) rem-result cast-result returns-2)

@@ -1,15 +1,12 @@
--- `hasher::start` meets its contract: a start over nothing. Assumes nothing.
+-- `hasher::start` meets its contract: a start over the running hash of no variant. Assumes nothing.
 use borrow.Author.Needs.{needs}
 use Rattle.hasher.specs.Running.{started}
 use Rattle.hasher.proofs.start.Statement.{statement}
 use Rattle.hasher.proofs.start.Tie as tie
-
-started-over-requires : tie.Need-started-over-requires
-started-over-requires c κs = search needs
 
 returns : tie.Need-returns
 unfolding started
 returns c = c .started-over .ensures
 
 pub start-spec : {M : Type 1} → statement M
-start-spec = tie.close (tie.spec started-over-requires returns)
+start-spec = tie.close (tie.spec (λ c κs. search needs) returns)

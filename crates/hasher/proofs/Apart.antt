@@ -1,0 +1,100 @@
+-- What a caller reads of an end state tells states apart; so two messages that differ, and only within one block, are told apart by their end states.
+-- Assumes nothing.
+use mathlib.Core.Path.{_≡_, sym, ap, _∙_}
+use mathlib.Core.Bool.{Bool, true}
+use mathlib.Core.List.{List, _++_}
+use Prim.Native.Nat.{ℕ, _*_, _/_, _≤_, _<_}
+use native.Mathlib.Omega.{arith}
+use lib.ListN.{length, take, drop, getD}
+use lib.Seq.{take-at}
+use Rattle.standard.specs.Bits.{high-first}
+use Rattle.standard.specs.Sponge.{Variant, imageSize, imageOf}
+use Rattle.standard.specs.Chain.{messageBits, endState}
+use Rattle.standard.specs.Variants.{variant, known}
+use Rattle.standard.specs.Values.{DifferWithin, inOneBlock}
+use Rattle.standard.proofs.BitLaws.{length-bitsIn}
+use Rattle.standard.proofs.Streaming.{end-length}
+use Rattle.standard.proofs.Variants.{streams}
+use Rattle.standard.proofs.OneValue.{value-block, one-changed-part}
+use Rattle.standard.proofs.ImageStates.{imageOf-length, imageOf-injective}
+use Rattle.answers.specs.declared.Status.{Status}
+use Rattle.answers.specs.declared.Status.the-variants.{Done}
+use Rattle.answers.specs.Outputs.{written, most}
+use Rattle.hasher.specs.declared.Hasher.{Hasher}
+use Rattle.hasher.specs.declared.Wanted.the-variants.{EndState}
+use Rattle.hasher.specs.Running.{variantOf, stateOf}
+use Rattle.hasher.specs.Reading.{readStatus, readInto, wholeInto}
+use Rattle.hasher.specs.Pieces.{joined, hashedInto}
+use Rattle.hasher.specs.Sized.{Sized}
+use Rattle.hasher.specs.Apart.{Differ, ToldApart}
+use Rattle.hasher.proofs.WellFormed.{facts, state-long}
+use Rattle.hasher.proofs.Calls.{read-says}
+use Rattle.hasher.proofs.Message.{whole-done}
+use Rattle.hasher.proofs.Demand2.{whole-is-pieces}
+
+-- ---- images at the front of two outputs
+
+module _ (H : Variant) (s u : List Bool) (ls : length s ≡ H .t) (lu : length u ≡ H .t) (n : s ≡ u → ⊥) (x y : List ℕ) where
+  front : (z : List Bool) (rest : List ℕ) → take (imageSize H) (imageOf H z ++ rest) ≡ imageOf H z
+  front z rest = take-at (imageOf H z) rest (imageSize H) (imageOf-length H z)
+
+  fronts-differ : (a b : List ℕ) → a ≡ imageOf H s ++ x → b ≡ imageOf H u ++ y → Differ (imageSize H) a b
+  fronts-differ a b ea eb e =
+      n (imageOf-injective H s u ls lu
+      (sym (front s x) ∙ ap (take (imageSize H)) (sym ea) ∙ e ∙ ap (take (imageSize H)) eb ∙ front u y))
+
+-- ---- two running hashes
+
+read-image : (h : Hasher) (out : List ℕ) → readStatus h EndState (length out) ≡ Done
+    → readInto h EndState out ≡ imageOf (variantOf h) (stateOf h) ++ drop (length (imageOf (variantOf h) (stateOf h))) out
+unfolding readInto
+read-image h out d = ap (λ (s : Status). written s (imageOf (variantOf h) (stateOf h)) out) d
+
+-- Two running hashes of one variant with different states, of which the end state can be read: the bytes that are read differ.
+pub read-tells : (h g : Hasher) → Sized h → Sized g → h .variant ≡ g .variant → (stateOf h ≡ stateOf g → ⊥)
+    → (out out′ : List ℕ) → readStatus h EndState (length out) ≡ Done → readStatus g EndState (length out′) ≡ Done
+    → Differ (imageSize (variantOf h)) (readInto h EndState out) (readInto g EndState out′)
+read-tells h g zh zg same n out out′ dh dg =
+    let H : Variant = variantOf h in
+    let e : variantOf g ≡ H = ap variant (sym same) in
+    let lg : length (stateOf g) ≡ variantOf g .t = state-long g (facts g (read-says g EndState (length out′) dg .whole)) zg in
+    fronts-differ H (stateOf h) (stateOf g) (state-long h (facts h (read-says h EndState (length out) dh .whole)) zh) (lg ∙ ap (λ (K : Variant). K .t) e) n
+    _ _ _ _ (read-image h out dh) (read-image g out′ dg ∙ ap (λ (K : Variant). imageOf K (stateOf g) ++ drop (length (imageOf K (stateOf g))) out′) e)
+
+-- ---- two messages
+
+module _ (v : ℕ) (k : known v ≡ true) (x y : List ℕ) where
+  abbrev H : Variant
+  H = variant v
+
+  -- different end states are told apart
+  pub ends-tell : length x ≤ most → length y ≤ most → (endState (variant v) (messageBits x) ≡ endState (variant v) (messageBits y) → ⊥) → ToldApart v x y
+  ends-tell fx fy n = record { whole = whole; pieces = pieces }
+    where
+      whole : (out out′ : List ℕ) → imageSize H ≤ length out → imageSize H ≤ length out′
+          → Differ (imageSize H) (wholeInto v x EndState out) (wholeInto v y EndState out′)
+      whole out out′ l l′ =
+          fronts-differ H (endState H (messageBits x)) (endState H (messageBits y))
+          (end-length H (streams v k) (messageBits x)) (end-length H (streams v k) (messageBits y)) n
+          _ _ _ _ (whole-done v k x fx EndState out l .1) (whole-done v k y fy EndState out′ l′ .1)
+
+      -- the pieces of a message
+      cut : (ps : List (List ℕ)) (m : List ℕ) → joined ps ≡ m → (out : List ℕ) → wholeInto v m EndState out ≡ hashedInto v ps EndState out
+      cut ps m e out = ap (λ (l : List ℕ). wholeInto v l EndState out) (sym e) ∙ whole-is-pieces v ps EndState out .1
+
+      pieces : (xs ys : List (List ℕ)) → joined xs ≡ x → joined ys ≡ y → (out out′ : List ℕ) → imageSize H ≤ length out → imageSize H ≤ length out′
+          → Differ (imageSize H) (hashedInto v xs EndState out) (hashedInto v ys EndState out′)
+      pieces xs ys ex ey out out′ l l′ e =
+          whole out out′ l l′ (ap (take (imageSize H)) (cut xs x ex out) ∙ e ∙ sym (ap (take (imageSize H)) (cut ys y ey out′)))
+
+  module _ (few : length x ≤ most) where
+    -- Two messages of bytes of equal length within the limit whose bits differ, and only within the block j, are told apart.
+    pub block-told : (j : ℕ) → DifferWithin (j * variant v .r) (variant v .r) (messageBits x) (messageBits y) → ToldApart v x y
+    block-told j d =
+        ends-tell few (omega (arith, d .size, length-bitsIn high-first x, length-bitsIn high-first y))
+        (one-changed-part v k j (messageBits x) (messageBits y) d)
+
+    -- Two messages of bytes within the limit that differ only in the n bytes from p on, which lie in one block, are told apart.
+    pub value-told : ((i : ℕ) → getD x i 0 < 256) → ((i : ℕ) → getD y i 0 < 256) → (p n : ℕ) → DifferWithin p n x y → inOneBlock (variant v) p n ≡ true
+        → ToldApart v x y
+    value-told hx hy p n d o = block-told (8 * p / variant v .r) (value-block x y hx hy (variant v) p n d o)
