@@ -1,106 +1,143 @@
--- Running over a message's blocks one by one, forward and back, on the bytes that hold states and blocks.
+-- The blocks of a message, as the code makes them, run forward and taken back on the bytes that hold states; and two states xored.
 -- Assumes nothing.
-use mathlib.Core.Path.{_≡_, sym, ap, ap₂, _∙_}
-use mathlib.Core.Bool.{Bool, false}
+use mathlib.Core.Path.{_≡_, refl, sym, ap, ap₂, _∙_}
+use mathlib.Core.Bool.{Bool, true, false}
 use mathlib.Core.List.{List, [], _∷_, _++_}
-use Prim.Native.Nat.{ℕ, _+_, _-_, _≤_, _<_}
+use Prim.Native.Nat.{ℕ, _+_, _-_, _*_, _/_, _^_, _≤_, _<_}
+use native.Mathlib.Nat.{div-le-self}
 use native.Mathlib.Numerals.{add-one}
 use native.Mathlib.Omega.{arith}
+use mir.Syntax.{w64}
+use mir.Val.{Fits}
 use lib.ListN.{length, take, drop, getD, replicate}
-use lib.Seq.{take-suc, drop-cons, drop-length}
-use Rattle.standard.specs.Bits.{Order, high-first, bitsIn, pack, unpack, xorInto}
-use Rattle.standard.specs.Sponge.{Variant, order, startState, messageBlocks, step, unstep, run, unrun, stateIn}
-use Rattle.standard.specs.Variants.{variant}
-use Rattle.standard.proofs.BitLaws.{unpack-pack, length-xorInto, xorInto-append, xorInto-zeros}
-use Rattle.standard.proofs.OneBlock.{Lawful, run-append, run-one, run-none, run-length, block-length}
-use Rattle.standard.proofs.TakenBack.{unrun-one, unrun-none, unrun-length}
-use Rattle.standard.proofs.Padding.{message-blocks}
-use Rattle.standard.proofs.Variants.{Bounds, bounds, lawful}
-use Rattle.sponge.specs.Layout.{stateBytes, blockBytes, blockIn}
+use lib.Seq.{drop-cons, drop-length}
+use Rattle.answers.specs.Outputs.{most}
+use Rattle.standard.specs.Bits.{Order, bitsIn, filled, xorInto}
+use Rattle.standard.specs.Rounds.{backward}
+use Rattle.standard.specs.Sponge.{Variant, order, permutation, startState, spongePadding, unstep, unrun, stateIn}
+use Rattle.standard.specs.Chain.{messageBits, padded, wholeBlocks, blocksOf, run}
+use Rattle.standard.specs.Variants.{variant, known}
+use Rattle.standard.proofs.BitLaws.{length-filled, length-xorInto, xorInto-append, xorInto-zeros}
+use Rattle.standard.proofs.TakenBack.{unrun-one, unrun-none, unrun-length, before-length, wanted-length}
+use Rattle.standard.proofs.Streaming.{Streams}
+use Rattle.standard.proofs.Sponge.{sponge-count}
+use Rattle.standard.proofs.Variants.{bounds, streams, sponge, message-block-count}
+use Rattle.sponge.specs.Layout.{stateRoom, packedState, packedBlock, blockIn, Holds}
+use Rattle.sponge.specs.Blocks.{heldThen, withOne, firstBlocks}
+use Rattle.sponge.proofs.BlockRows.{padded-at, padded-take, heldThen-alone}
+use Rattle.sponge.proofs.BlockRuns.{block-read, block-is, place-le}
 use Rattle.sponge.proofs.LayoutLaws.{packed-bits, holds}
 use Rattle.sponge.proofs.States.{stored, stored-ready}
+use Rattle.recover.specs.Difference.{stateBefore, stateBehind, difference}
 
-module _ (v : ℕ) (low : 1 ≤ v) (high : v ≤ 10) (m : List ℕ) where
+module _ (v : ℕ) (k : known v ≡ true) (m : List ℕ) where
   abbrev H : Variant
   H = variant v
 
+  abbrev M : List Bool
+  M = messageBits m
+
   abbrev bs : List (List Bool)
-  bs = messageBlocks (variant v) m
+  bs = blocksOf (variant v) (messageBits m)
 
-  h : Lawful (variant v)
-  h = lawful v low high
+  -- there are few enough
+  pub few : length m ≤ most → length bs ≤ 2 ^ 32
+  few l = omega (arith, message-block-count v k m, div-le-self (8 * length m) (H .r))
 
-  b : Bounds (variant v)
-  b = bounds v low high
+  -- and the place of each, in half bytes, is far below the limits of the machine's numbers
+  module _ (q : ℕ) (eq : q ≡ H .r / 4) (j : ℕ) (short : length m ≤ most) (l : j ≤ length bs) where
+    pub place-low : j * q ≤ 2 ^ 40
+    place-low = place-le v k q eq j (omega (arith, few short))
 
-  -- a block read from its bytes
-  pub block-read : (j : ℕ) (x : List ℕ) → j < length bs → x ≡ blockBytes (getD bs j []) → blockIn H x ≡ getD bs j []
-  block-read j x l e =
-      let k : length (getD bs j []) ≡ H .r = block-length (H .r) bs j (message-blocks H m) l in
-      ap₂ (unpack high-first) (sym k) e ∙ unpack-pack high-first 5 (getD bs j []) (omega (arith, b .rate-most))
+    pub place-fits : Fits w64 (j * q)
+    place-fits = omega (arith, place-low)
 
-  pub block-ready : (j : ℕ) (x : List ℕ) → j < length bs → x ≡ blockBytes (getD bs j []) → x ≡ blockBytes (blockIn H x)
-  block-ready j x l e = e ∙ ap blockBytes (sym (block-read j x l e))
+  -- ---- the blocks of the padded message are those of the message and the added bit
 
-  -- ---- forward
+  count : length bs ≡ length M / H .r + 1
+  count = sponge-count H (streams v k) (sponge v k) M
 
-  pub run-start : startState H ≡ run H (startState H) (take 0 bs)
-  run-start = sym (run-none H (startState H))
+  row : bs ≡ wholeBlocks (H .r) (M ++ spongePadding (H .r) (length M))
+  unfolding blocksOf padded
+  row = ap (λ (p : List Bool). wholeBlocks (H .r) (M ++ p)) (sponge v k .padding-is (length M))
 
-  run-size : (j : ℕ) → length (run H (startState H) (take j bs)) ≡ H .t
-  run-size j = run-length H h (take j bs) (startState H) (h .start-length)
+  block-at : (j : ℕ) → j < length bs → getD bs j [] ≡ filled (H .r) (drop (j * H .r) (withOne M))
+  block-at j l = ap (λ (x : List (List Bool)). getD x j []) row ∙ padded-at (H .r) (streams v k .rate-pos) M (length M) j refl (omega (arith, count))
 
-  pub run-ready : (j : ℕ) (s : List ℕ) → s ≡ stateBytes H (run H (startState H) (take j bs)) → s ≡ stateBytes H (stateIn H s)
-  run-ready j s e = stored-ready v low high s _ (run-size j) e
+  first-blocks : (j : ℕ) → j ≤ length bs → take j bs ≡ firstBlocks (H .r) j (withOne M)
+  first-blocks j l = ap (take j) row ∙ padded-take (H .r) (streams v k .rate-pos) M (length M) j refl (omega (arith, count))
 
-  pub run-more : (j : ℕ) (s x next : List ℕ) → j < length bs → s ≡ stateBytes H (run H (startState H) (take j bs)) → x ≡ blockBytes (getD bs j [])
-      → next ≡ stateBytes H (step H (stateIn H s) (blockIn H x)) → next ≡ stateBytes H (run H (startState H) (take (j + 1) bs))
-  run-more j s x next l es ex en =
-      let S : List Bool = run H (startState H) (take j bs) in
-      en
-      ∙ ap₂ (λ (y z : List Bool). stateBytes H (step H y z)) (stored v low high s S (run-size j) es) (block-read j x l ex)
-      ∙ ap (stateBytes H)
-      (sym (ap (λ (n : ℕ). run H (startState H) (take n bs)) (add-one j)
-      ∙ ap (run H (startState H)) (take-suc bs j [] l)
-      ∙ run-append H (startState H) (take j bs) (getD bs j [] ∷ [])
-      ∙ run-one H S (getD bs j []) []
-      ∙ run-none H (step H S (getD bs j []))))
+  -- ---- run forward, with nothing held before the message
 
-  -- ---- and back
+  run-before : (s x held : List ℕ) (j : ℕ) → j ≤ length bs → s ≡ packedState H (startState H)
+      → x ≡ packedState H (run H (stateIn H s) (firstBlocks (H .r) j (withOne (heldThen held 0 m)))) → x ≡ packedState H (run H (startState H) (take j bs))
+  run-before s x held j l es ex =
+      ex
+      ∙ ap₂ (λ (y z : List Bool). packedState H (run H y (firstBlocks (H .r) j (withOne z)))) (stored v k s (startState H) (streams v k .start-length) es) (heldThen-alone held m)
+      ∙ ap (λ (z : List (List Bool)). packedState H (run H (startState H) z)) (sym (first-blocks j l))
+
+  -- ---- taken back from the state e
 
   module _ (e : List Bool) (le : length e ≡ H .t) where
-    unrun-size : (j : ℕ) → length (unrun H e (drop j bs)) ≡ H .t
-    unrun-size j = unrun-length H h (drop j bs) e le
+    -- the state before block j
+    abbrev before : ℕ → List Bool
+    before j = unrun H e (drop j bs)
 
-    pub unrun-start : (j : ℕ) → j ≡ length bs → e ≡ unrun H e (drop j bs)
-    unrun-start j q = sym (ap (λ (n : ℕ). unrun H e (drop n bs)) q ∙ ap (unrun H e) (drop-length bs) ∙ unrun-none H h e)
+    before-size : (j : ℕ) → length (before j) ≡ H .t
+    before-size j = unrun-length H (sponge v k) (drop j bs) e le
 
-    pub unrun-ready : (j : ℕ) (s : List ℕ) → s ≡ stateBytes H (unrun H e (drop j bs)) → s ≡ stateBytes H (stateIn H s)
-    unrun-ready j s q = stored-ready v low high s _ (unrun-size j) q
+    pub back-start : (j : ℕ) → j ≡ length bs → e ≡ before j
+    back-start j q = sym (ap before q ∙ ap (unrun H e) (drop-length bs) ∙ unrun-none H (sponge v k) e)
 
-    pub unrun-more : (j : ℕ) (s x next : List ℕ) → j < length bs → s ≡ stateBytes H (unrun H e (drop (j + 1) bs)) → x ≡ blockBytes (getD bs j [])
-        → next ≡ stateBytes H (unstep H (stateIn H s) (blockIn H x)) → next ≡ stateBytes H (unrun H e (drop j bs))
-    unrun-more j s x next l es ex en =
-        let S : List Bool = unrun H e (drop (j + 1) bs) in
+    pub back-ready : (j : ℕ) (s : List ℕ) → s ≡ packedState H (before j) → Holds v s
+    back-ready j s q = stored-ready v k s (before j) (before-size j) q
+
+    pub back-more : (q : ℕ) → q ≡ H .r / 4 → (j : ℕ) (s held x next : List ℕ) → j < length bs → s ≡ packedState H (before (j + 1))
+        → x ≡ packedBlock (filled (4 * q) (drop (4 * (j * q)) (withOne (heldThen held 0 m))))
+        → next ≡ packedState H (unstep H (stateIn H s) (blockIn H x)) → next ≡ packedState H (before j)
+    back-more q eq j s held x next l es ex en =
+        let B : List Bool = filled (H .r) (drop (j * H .r) (withOne M)) in
+        let block : x ≡ packedBlock B =
+        block-is v k q eq x (withOne (heldThen held 0 m)) j ex ∙ ap (λ (z : List Bool). packedBlock (filled (H .r) (drop (j * H .r) (withOne z)))) (heldThen-alone held m) in
         en
-        ∙ ap₂ (λ (y z : List Bool). stateBytes H (unstep H y z)) (stored v low high s S (unrun-size (j + 1)) es) (block-read j x l ex)
-        ∙ ap (stateBytes H)
+        ∙ ap₂ (λ (y z : List Bool). packedState H (unstep H y z)) (stored v k s (before (j + 1)) (before-size (j + 1)) es)
+        (block-read v k x B (length-filled (H .r) (drop (j * H .r) (withOne M))) block ∙ sym (block-at j l))
+        ∙ ap (packedState H)
         (sym (ap (unrun H e) (drop-cons bs j [] l ∙ ap (λ (n : ℕ). getD bs j [] ∷ drop n bs) (sym (add-one j)))
-        ∙ unrun-one H h e (getD bs j []) (drop (j + 1) bs)))
+        ∙ unrun-one H (sponge v k) e (getD bs j []) (drop (j + 1) bs)))
 
--- ---- two states xored
+-- ---- the difference of the two states
 
-pub states-xored : (v : ℕ) → 1 ≤ v → v ≤ 10 → (p q x : List ℕ) (S Z : List Bool) → length S ≡ variant v .t → length Z ≡ variant v .t
-    → ((i : ℕ) → getD x i 0 < 256) → length x ≡ 36 → p ≡ stateBytes (variant v) S → q ≡ stateBytes (variant v) Z
-    → ((o : Order) → bitsIn o x ≡ xorInto (bitsIn o p) (bitsIn o q)) → x ≡ stateBytes (variant v) (xorInto S Z)
-states-xored v low high p q x S Z lS lZ hx lx ep eq ex =
+states-xored : (v : ℕ) → known v ≡ true → (p q x : List ℕ) (S Z : List Bool) → length S ≡ variant v .t → length Z ≡ variant v .t
+    → ((i : ℕ) → getD x i 0 < 256) → length x ≡ stateRoom → p ≡ packedState (variant v) S → q ≡ packedState (variant v) Z
+    → ((o : Order) → bitsIn o x ≡ xorInto (bitsIn o p) (bitsIn o q)) → x ≡ packedState (variant v) (xorInto S Z)
+states-xored v k p q x S Z lS lZ hx lx ep eq ex =
     let o : Order = order (variant v) in
     let t : ℕ = variant v .t in
-    let small : t ≤ 288 = bounds v low high .state-most in
-    let bits : (y : List ℕ) (Y : List Bool) → length Y ≡ t → y ≡ pack o 36 Y → bitsIn o y ≡ Y ++ replicate (288 - t) false =
-    λ y Y l e. ap (bitsIn o) e ∙ packed-bits o 36 Y (omega arith) ∙ ap (λ (n : ℕ). Y ++ replicate (288 - n) false) l in
+    let small : t ≤ 288 = bounds v k .state-most in
+    let bits : (y : List ℕ) (Y : List Bool) → length Y ≡ t → y ≡ packedState (variant v) Y → bitsIn o y ≡ Y ++ replicate (288 - t) false =
+    λ y Y l e. ap (bitsIn o) e ∙ packed-bits o stateRoom Y (omega arith) ∙ ap (λ (n : ℕ). Y ++ replicate (288 - n) false) l in
     holds o t small x (xorInto S Z) hx lx (length-xorInto S Z ∙ lS)
     (ex o
     ∙ ap₂ xorInto (bits p S lS ep) (bits q Z lZ eq)
     ∙ xorInto-append S (replicate (288 - t) false) Z (replicate (288 - t) false) (lS ∙ sym lZ)
     ∙ ap (λ (l : List Bool). xorInto S Z ++ l) (xorInto-zeros (replicate (288 - t) false) (288 - t)))
+
+-- the state before the place, run forward, and the state behind it, permuted back, xored
+pub difference-held : (v : ℕ) → known v ≡ true → (m : List ℕ) (e : List Bool) → length e ≡ variant v .t → (place : ℕ) → place < length (blocksOf (variant v) (messageBits m))
+    → (s x held y z r : List ℕ) → s ≡ packedState (variant v) (startState (variant v))
+    → x ≡ packedState (variant v) (run (variant v) (stateIn (variant v) s) (firstBlocks (variant v .r) place (withOne (heldThen held 0 m))))
+    → y ≡ packedState (variant v) (stateBehind (variant v) (messageBits m) place e)
+    → z ≡ packedState (variant v) (permutation (variant v) backward (stateIn (variant v) y))
+    → ((i : ℕ) → getD r i 0 < 256) → length r ≡ stateRoom → ((o : Order) → bitsIn o r ≡ xorInto (bitsIn o x) (bitsIn o z))
+    → r ≡ packedState (variant v) (difference (variant v) (messageBits m) place e)
+difference-held v k m e le place within s x held y z r es ex ey ez hr lr er =
+    let H : Variant = variant v in
+    let M : List Bool = messageBits m in
+    let g : Streams H = streams v k in
+    states-xored v k x z r (stateBefore H M place) (permutation H backward (stateBehind H M place e))
+    (before-length H g (sponge v k) (startState H) (g .start-length) (blocksOf H M) place within e le)
+    (wanted-length H g (sponge v k) (startState H) (g .start-length) (blocksOf H M) place within e le)
+    hr lr (run-before v k m s x held place (omega arith) es ex)
+    (ez ∙ ap (λ (u : List Bool). packedState H (permutation H backward u)) (stored v k y (stateBehind H M place e) (unrun-length H (sponge v k) _ e le) ey))
+    er

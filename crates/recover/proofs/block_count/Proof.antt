@@ -9,17 +9,8 @@ use borrow.Author.Needs.{needs}
 use Rattle.recover.proofs.block_count.Statement.{statement}
 use Rattle.recover.proofs.block_count.Tie as tie
 
-mul-result : tie.Need-mul-result
-mul-result c = search needs
-
-block-bits-requires : tie.Need-block-bits-requires
-block-bits-requires c κs = search needs
-
-cast-result : tie.Need-cast-result
-cast-result c = search needs
-
 div-result : tie.Need-div-result
-div-result c = omega (arith, c .block-bits .ensures, bounds (c .before .before .args .v) (omega arith) (omega arith) .rate-least)
+div-result c = omega (arith, c .block-bits .ensures, bounds (c .before .before .args .v) (c .before .before .pre .0) .rate-least)
 
 add-result : tie.Need-add-result
 add-result c =
@@ -29,8 +20,7 @@ add-result c =
 returns : tie.Need-returns
 returns c =
     let a = c .before .before .args in
-    ap (λ (r : ℕ). 8 * length (a .message .now) / r + 1) (c .block-bits .ensures) ∙ sym (message-block-count (a .v) (omega arith) (omega arith) (a .message .now))
+    ap (λ (r : ℕ). 8 * length (a .message .now) / r + 1) (c .block-bits .ensures) ∙ sym (message-block-count (a .v) (c .before .before .pre .0) (a .message .now))
 
 pub block-count-spec : {M : Type 1} → statement M
-block-count-spec =
-    tie.close (tie.spec mul-result block-bits-requires cast-result div-result add-result returns)
+block-count-spec = tie.close (tie.spec (λ c. search needs) (λ c κs. search needs) (λ c. search needs) div-result add-result returns)

@@ -1,106 +1,115 @@
 -- `recover::run_back` meets its contract: the blocks passed, from the last on, are taken back. Assumes nothing.
 use mathlib.Core.Path.{_≡_, ap, _∙_}
-use Prim.Native.Nat.{ℕ, suc, _+_, _-_, _*_, _≤_, _<_}
-use native.Mathlib.Nat.{div-le-self}
+use mathlib.Core.List.{[]}
+use Prim.Native.Nat.{ℕ, suc, _+_, _-_, _/_, _^_, _≤_, _<_}
 use native.Mathlib.Omega.{arith}
 use lib.ListN.{length, drop}
-use Rattle.standard.specs.Sponge.{messageBlocks, unrun, stateIn}
+use Rattle.standard.specs.Sponge.{unrun, stateIn}
+use Rattle.standard.specs.Chain.{messageBits, blocksOf}
 use Rattle.standard.specs.Variants.{variant}
-use Rattle.standard.proofs.Variants.{message-block-count}
-use Rattle.sponge.specs.Layout.{stateBytes}
+use Rattle.sponge.specs.Layout.{packedState}
+use Rattle.sponge.specs.Blocks.{heldThen, withOne}
+use Rattle.sponge.proofs.BlockRuns.{few-halves, block-at-ready}
 use Rattle.sponge.proofs.States.{state-length}
-use Rattle.recover.proofs.Runs.{block-ready, unrun-start, unrun-ready, unrun-more}
+use Rattle.recover.proofs.Runs.{few, place-low, place-fits, back-start, back-ready, back-more}
+use borrow.Author.Needs.{needs}
 use Rattle.recover.proofs.run_back.Statement.{statement}
 use Rattle.recover.proofs.run_back.Tie as tie
 
+-- the state before the last block that is taken back
 abbrev Inv-loop : tie.InvT-loop
-Inv-loop v message place s₀ j₀ s j = (place < j) × (j ≤ length (messageBlocks (variant v) message)) × (s ≡ stateBytes (variant v) (unrun (variant v) (stateIn (variant v) s₀) (drop j (messageBlocks (variant v) message))))
+Inv-loop v message place q n s₀ i₀ t12 s i =
+    (place < i) × (i ≤ n) × (s ≡ packedState (variant v) (unrun (variant v) (stateIn (variant v) s₀) (drop (place + n - i + 1) (blocksOf (variant v) (messageBits message)))))
 
 abbrev μ-loop : tie.MeasureT-loop
-μ-loop v message place s₀ j₀ s j = j
+μ-loop v message place q n s₀ i₀ t12 s i = n - i
 
-block-count-requires : tie.Need-block-count-requires Inv-loop μ-loop
-block-count-requires c κs = (c .before .pre .0, c .before .pre .1 .0)
+few-blocks : (s : tie.Start Inv-loop μ-loop) → length (blocksOf (variant (s .args .v)) (messageBits (s .args .message .now))) ≤ 2 ^ 32
+few-blocks s = few (s .args .v) (s .pre .0) (s .args .message .now) (s .pre .1 .0)
+
+end-long : (s : tie.Start Inv-loop μ-loop) → length (stateIn (variant (s .args .v)) (s .args .end)) ≡ variant (s .args .v) .t
+end-long s = state-length (s .args .v) (s .pre .0) (s .args .end) (omega arith)
+
+quarter : (c : tie.After-block-bits Inv-loop μ-loop) → c .block-bits .result / 4 ≡ variant (c .before .before .args .v) .r / 4
+quarter c = ap (λ (n : ℕ). n / 4) (c .block-bits .ensures)
 
 loop-holds : tie.Need-loop-holds Inv-loop μ-loop
 loop-holds c =
-    let start = c .before .before in
-    let a = start .args in
-    let m = a .message .now in
-    let k = c .block-count .ensures in (
-      omega (arith, k, start .pre .1 .1 .0),
-      omega (arith, k),
-      start .pre .1 .1 .1 ∙ ap (stateBytes (variant (a .v))) (unrun-start (a .v) (omega arith) (omega arith) m (stateIn (variant (a .v)) (a .end)) (state-length (a .v) (omega arith) (omega arith) (a .end) (omega arith)) (c .block-count .result) k),
-    )
-
-add-loop : tie.Need-add-loop Inv-loop μ-loop
-add-loop c =
     let start = c .before .before .before in
     let a = start .args in
-    let m = a .message .now in
-    omega (arith, start .pre .1 .0, start .pre .1 .1 .0, message-block-count (a .v) (omega arith) (omega arith) m, div-le-self (8 * length m) (variant (a .v) .r))
+    let k = start .pre .0 in
+    let n = c .block-count .ensures in
+    let last : a .place + c .block-count .result - (a .place + 1) + 1 ≡ c .block-count .result = omega (arith, n, start .pre .1 .1 .0) in (
+      omega arith,
+      omega (arith, n, start .pre .1 .1 .0),
+      start .pre .1 .1 .1
+          ∙ ap (packedState (variant (a .v))) (back-start (a .v) k (a .message .now) (stateIn (variant (a .v)) (a .end)) (end-long start) _ (last ∙ n)),
+    )
 
-sub-j : tie.Need-sub-j Inv-loop μ-loop
-sub-j c = omega arith
+mul-block-at : tie.Need-mul-block-at Inv-loop μ-loop
+mul-block-at c =
+    let start = c .before .before .before .before .before .before in
+    let r = c .before .before .before .before in
+    place-fits (start .args .v) (start .pre .0) (start .args .message .now) (r .block-bits .result / 4) (quarter r) _ (start .pre .1 .0) (omega (arith, c .before .before .loop .inv))
 
 block-at-requires : tie.Need-block-at-requires Inv-loop μ-loop
 block-at-requires c κs =
-    let start = c .before .before .before .before in
+    let start = c .before .before .before .before .before .before in
     let a = start .args in
-    let m = a .message .now in
-    (start .pre .0, (start .pre .1 .0, omega (arith, c .before .loop .inv .1)))
+    let k = start .pre .0 in
+    let r = c .before .before .before .before .block-bits in
+    let q = quarter (c .before .before .before .before) in (
+      omega arith,
+      omega (arith, few-halves (a .v) k (r .result / 4) q),
+      place-low (a .v) k (a .message .now) (r .result / 4) q _ (start .pre .1 .0) (omega (arith, c .before .before .loop .inv, c .before .before .before .block-count .ensures)),
+    )
 
 unstepped-requires : tie.Need-unstepped-requires Inv-loop μ-loop
 unstepped-requires c κs =
-    let start = c .before .before .before .before .before in
+    let start = c .before .before .before .before .before .before .before in
     let a = start .args in
-    let m = a .message .now in
-    let l = c .before .before .loop in (
-      start .pre .0,
+    let k = start .pre .0 in
+    let r = c .before .before .before .before .before .block-bits in
+    let n = c .before .before .before .before .block-count in
+    let l = c .before .before .before .loop in
+    let x = c .block-at in (
+      k,
       (
-        unrun-ready (a .v) (omega arith) (omega arith) m (stateIn (variant (a .v)) (a .end)) (state-length (a .v) (omega arith) (omega arith) (a .end) (omega arith)) (l .j) (l .s) (l .inv .2),
-        block-ready (a .v) (omega arith) (omega arith) m (l .j - 1) (c .block-at .result) (omega (arith, l .inv .1)) (c .block-at .ensures),
+        back-ready (a .v) k (a .message .now) (stateIn (variant (a .v)) (a .end)) (end-long start) (a .place + n .result - l .i + 1) (l .s) (l .inv .2),
+        block-at-ready (a .v) k (r .result / 4) (quarter (c .before .before .before .before .before)) (x .result) (withOne (heldThen [] 0 (a .message .now))) _ (x .ensures),
       ),
     )
 
-loop-less : tie.Need-loop-less Inv-loop μ-loop
-loop-less c = omega arith
-
 loop-again : tie.Need-loop-again Inv-loop μ-loop
 loop-again c =
-    let start = c .before .before .before .before .before .before in
+    let start = c .before .before .before .before .before .before .before .before in
     let a = start .args in
-    let m = a .message .now in
-    let l = c .before .before .before .loop in
-    let e : l .j ≡ l .j - 1 + 1 = omega arith in (
+    let k = start .pre .0 in
+    let r = c .before .before .before .before .before .before .block-bits in
+    let n = c .before .before .before .before .before .block-count in
+    let l = c .before .before .before .before .loop in
+    let x = c .before .block-at in
+    let j : ℕ = a .place + n .result - l .i in
+    let e : j ≡ a .place + n .result - (l .i + 1) + 1 = omega (arith, l .inv) in (
+      omega (arith, l .inv),
       omega arith,
-      omega (arith, l .inv .1),
-      unrun-more (a .v) (omega arith) (omega arith) m (stateIn (variant (a .v)) (a .end)) (state-length (a .v) (omega arith) (omega arith) (a .end) (omega arith)) (l .j - 1) (l .s) (c .before .block-at .result) (c .unstepped .result) (omega (arith, l .inv .1))
-          (l .inv .2 ∙ ap (λ (j : ℕ). stateBytes (variant (a .v)) (unrun (variant (a .v)) (stateIn (variant (a .v)) (a .end)) (drop j (messageBlocks (variant (a .v)) m)))) e)
-          (c .before .block-at .ensures) (c .unstepped .ensures),
+      back-more (a .v) k (a .message .now) (stateIn (variant (a .v)) (a .end)) (end-long start) (r .result / 4)
+          (quarter (c .before .before .before .before .before .before)) j (l .s) [] (x .result) (c .unstepped .result) (omega (arith, n .ensures, l .inv)) (l .inv .2) (x .ensures) (c .unstepped .ensures)
+          ∙ ap (λ (i : ℕ). packedState (variant (a .v)) (unrun (variant (a .v)) (stateIn (variant (a .v)) (a .end)) (drop i (blocksOf (variant (a .v)) (messageBits (a .message .now)))))) e,
     )
 
 returns : tie.Need-returns Inv-loop μ-loop
 returns c =
-    let start = c .before .before .before .before in
-    let a = start .args in
-    let m = a .message .now in
+    let a = c .before .before .before .before .before .args in
+    let n = c .before .before .block-count in
     let l = c .before .loop in
-    let e : l .j ≡ suc (a .place) = omega arith in
-    l .inv .2 ∙ ap (λ (j : ℕ). stateBytes (variant (a .v)) (unrun (variant (a .v)) (stateIn (variant (a .v)) (a .end)) (drop j (messageBlocks (variant (a .v)) m)))) e
+    let e : a .place + n .result - l .i + 1 ≡ suc (a .place) = omega (arith, l .inv) in
+    l .inv .2 ∙ ap (λ (i : ℕ). packedState (variant (a .v)) (unrun (variant (a .v)) (stateIn (variant (a .v)) (a .end)) (drop i (blocksOf (variant (a .v)) (messageBits (a .message .now)))))) e
 
 pub run-back-spec : {M : Type 1} → statement M
 run-back-spec =
-    tie.close
-    (tie.spec
-    Inv-loop
-    μ-loop
-    block-count-requires
-    loop-holds
-    add-loop
-    sub-j
-    block-at-requires
-    unstepped-requires
-    loop-less
-    loop-again
-    returns)
+    tie.close (tie.spec Inv-loop μ-loop (λ c κs. tt) (λ c. omega arith) (λ c κs. (c .before .before .pre .0, c .before .before .pre .1 .0))
+    (λ c. omega (arith, few-blocks (c .before .before .before), c .before .before .before .pre .1 .1 .0)) loop-holds
+    (λ c. omega (arith, few-blocks (c .before .before .before .before .before), c .before .before .block-count .ensures, c .before .before .before .before .before .pre .1 .1 .0))
+    (λ c. omega (arith, c .before .loop .inv)) (λ c. search needs) mul-block-at block-at-requires unstepped-requires (λ c. omega arith) (λ c. omega arith)
+    loop-again returns)
