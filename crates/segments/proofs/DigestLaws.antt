@@ -1,131 +1,161 @@
 -- The digest over a list: what each way through its checks comes to, and that only the message counts.
 -- Assumes nothing.
-use mathlib.Core.Path.{_≡_, refl, sym, ap, ap₂, _∙_}
-use mathlib.Core.Bool.{Bool, true, false, cond, not}
-use mathlib.Core.List.{List}
-use Prim.Native.Nat.{ℕ, _≤_}
-use native.Mathlib.Omega.{arith}
+use mathlib.Core.Path.{_≡_, refl, sym, ap, ap₂, _∙_, subst}
+use mathlib.Core.Bool.{Bool, true, cond}
+use mathlib.Core.List.{List, [], _∷_, _++_, flatMap}
+use Prim.Native.Nat.{ℕ, _+_, _≤_, _<_}
 use lib.Dec.{ltb}
-use lib.ListN.{length}
-use borrow.Author.Tests.{not-false, ltb-false}
-use Rattle.standard.specs.Sponge.{endState}
+use lib.ListN.{length, length-append}
+use native.Mathlib.Numerals.{add-one}
+use native.Mathlib.Omega.{arith}
+use Rattle.answers.specs.declared.Refusal.{Refusal}
+use Rattle.answers.specs.declared.Refusal.the-variants.{UnknownVariant, TooLong, OutputTooShort, BadList}
+use Rattle.answers.specs.declared.Status.{Status}
+use Rattle.answers.specs.declared.Status.the-variants.{Done, Refused}
+use Rattle.answers.specs.Checks.{Check, unless, when, firstRefusal}
+use Rattle.answers.specs.Outputs.{written, most, whenDone}
+use Rattle.answers.proofs.Statuses.{not-done}
+use Rattle.answers.proofs.Rows.{passed-all, passing-says, row-first, row-second, row-both}
+use Rattle.standard.specs.Chain.{messageBits, endState}
 use Rattle.standard.specs.Variants.{variant, known}
-use Rattle.sponge.specs.declared.Status.{Status}
-use Rattle.sponge.specs.declared.Status.the-variants.{Done, UnknownVariant, TooLong, OutputTooShort, BadList}
-use Rattle.sponge.specs.Refusals.{whenDone}
-use Rattle.sponge.proofs.ImageLaws.{known-low, known-high}
 use Rattle.hasher.specs.declared.Hasher.{Hasher}
 use Rattle.hasher.specs.declared.Advanced.{Advanced}
-use Rattle.hasher.specs.Running.{most, closed, wellFormed, started, updated, finished}
-use Rattle.hasher.specs.Reading.{resultBytes, resultOf, readStatus, written, readInto, wholeStatus, wholeInto}
-use Rattle.hasher.proofs.WellFormed.{well-formed}
-use Rattle.hasher.proofs.Ladders.{start-done}
-use Rattle.hasher.proofs.Message.{begun-facts, all-calls, ended-status, ended-into}
-use Rattle.segments.specs.Entries.{isList, entriesStatus, messageOf}
+use Rattle.hasher.specs.declared.Wanted.{Wanted}
+use Rattle.hasher.specs.Running.{Open, fresh, started, updated, finished, stateOf}
+use Rattle.hasher.specs.Reading.{resultSize, resultOf, readStatus, readInto, wholeChecks, wholeStatus, wholeInto}
+use Rattle.hasher.proofs.Calls.{start-done, Hashable, whole-says, update-done}
+use Rattle.hasher.proofs.Message.{fresh-open, calls-read}
+use Rattle.standard.specs.Bits.{bitsIn}
+use Rattle.hasher.proofs.Owned.{Owned}
+use Rattle.hasher.proofs.WellFormed.{facts, state-kept, held-kept}
+use Rattle.hasher.proofs.Next.{onward-none, onward, onward-total, onward-open, onward-append}
+use Rattle.segments.specs.Entries.{isList, entriesChecks, entriesStatus, messageOf, totalOf, count, segmentIn, segmentOf}
 use Rattle.segments.specs.Digests.{listStatus, listInto}
-use Rattle.sponge.proofs.Answers.{not-done, kept, passed, row-done}
+use Rattle.segments.proofs.ListLaws.{message-length, messageUpTo, message-suc, message-up-to-within, passed-entries}
+
+module _ (h : Hasher) (w : Owned h) (o : Open h) (list buffer : List ℕ) (whole : isList list ≡ true) (all-fit : entriesStatus list (length buffer) ≡ Done)
+    (few : h .total + length (messageOf list buffer) ≤ most) where
+  -- the running hash after the first k segments
+  abbrev pub after : ℕ → Hasher
+  after k = onward h (messageUpTo list buffer k)
+
+  pub no-segment : h ≡ after 0
+  unfolding flatMap bitsIn stateOf
+  no-segment = sym (onward-none h (w .sized) o (state-kept h (facts h (o .0)) w) (held-kept h (facts h (o .0)) w))
+
+  -- the segment of an entry of a list that passes
+  segment-there : (k : ℕ) → k < count list → segmentOf list buffer k ≡ segmentIn list buffer k
+  unfolding segmentOf
+  segment-there k l = ap (λ (s : Status). whenDone s (segmentIn list buffer k) []) (passed-entries list (length buffer) whole all-fit k l)
+
+  -- an update with the next segment
+  pub next-segment : (k : ℕ) → k < count list → (g : Hasher) (s : List ℕ) → g ≡ after k → s ≡ segmentOf list buffer k → updated g s .hasher ≡ after (k + 1)
+  next-segment k l g s eg es =
+      let m : List ℕ = messageUpTo list buffer k in
+      let t : List ℕ = segmentIn list buffer k in
+      let j : messageUpTo list buffer (k + 1) ≡ m ++ t = ap (messageUpTo list buffer) (add-one k) ∙ message-suc list buffer k in
+      let room : h .total + (length m + length t) ≤ most = omega (arith, length-append m t, ap length j, message-up-to-within list buffer (k + 1) (omega arith)) in
+      ap (λ (a : Advanced). a .hasher)
+      (ap₂ updated eg (es ∙ segment-there k l)
+      ∙ update-done (after k) t (onward-open h (w .sized) o m (omega arith)) (omega (arith, onward-total h m)))
+      ∙ onward-append h (w .sized) o m t
+      ∙ ap (onward h) (sym j)
+
+  pub every-segment : after (count list) ≡ updated h (messageOf list buffer) .hasher
+  unfolding messageOf
+  every-segment = sym (ap (λ (a : Advanced). a .hasher) (update-done h (messageOf list buffer) o few))
 
 -- ---- the checks in order
 
-abbrev ladder : Bool → Bool → Status → Bool → Bool → Status
-ladder a b s c d = cond (not a) UnknownVariant (cond (not b) BadList (whenDone s (cond c TooLong (cond d OutputTooShort Done)) s))
+-- those before the checks of the entries, and those behind them
+abbrev before : ℕ → List ℕ → List Check
+before v list = unless (known v) UnknownVariant ∷ unless (isList list) BadList ∷ []
 
-module _ (v : ℕ) (list buffer : List ℕ) (image : Bool) (n : ℕ) where
-  abbrev m : List ℕ
-  m = messageOf list buffer
+abbrev behind : ℕ → List ℕ → Wanted → ℕ → List Check
+behind v m wanted n = when (ltb most (length m)) TooLong ∷ when (ltb n (resultSize (variant v) wanted)) OutputTooShort ∷ []
 
-  abbrev long : Bool
-  long = ltb most (length m)
-
-  abbrev short : Bool
-  short = ltb n (resultBytes (variant v) image)
-
-  abbrev entries : Status
-  entries = entriesStatus list (length buffer)
-
+module _ (v : ℕ) (list buffer : List ℕ) (wanted : Wanted) (n : ℕ) where
   -- the first refusal of an entry is the list's
-  pub list-entry : known v ≡ true → isList list ≡ true → (s : Status) → s ≡ entries → (s ≡ Done → ⊥) → s ≡ listStatus v list buffer image n
+  pub list-entry : known v ≡ true → isList list ≡ true → (r : Refusal) → entriesStatus list (length buffer) ≡ Refused r → listStatus v list buffer wanted n ≡ Refused r
   unfolding listStatus
-  list-entry k l s e r = e ∙ sym (ap₂ (λ (a b : Bool). ladder a b entries long short) k l ∙ kept entries _ entries (λ d. r (e ∙ d)))
-
-  -- what Done says
-  pub record Accepted : Type 0 where
-    pub variant-known : known v ≡ true
-    pub whole : isList list ≡ true
-    pub all-fit : entries ≡ Done
-    pub few : length m ≤ most
-
-  pub accepted : listStatus v list buffer image n ≡ Done → Accepted
-  unfolding listStatus
-  accepted e =
-      let a = passed (not (known v)) UnknownVariant _ (not-done _ (λ z. omega arith)) e in
-      let b = passed (not (isList list)) BadList _ (not-done _ (λ z. omega arith)) (a .1) in
-      let c = row-done entries (cond long TooLong (cond short OutputTooShort Done)) (b .1) in
-      let d = passed long TooLong _ (not-done _ (λ z. omega arith)) (c .1) in
-      record { variant-known = not-false _ (a .0); whole = not-false _ (b .0); all-fit = c .0; few = ltb-false _ _ (d .0) }
+  list-entry k l r e =
+      let rest = behind v (messageOf list buffer) wanted n in
+      row-second (before v list) (entriesChecks list (length buffer) ++ rest) (passed-all (before v list) (k, (l, tt)))
+      ∙ row-first (entriesChecks list (length buffer)) rest (λ d. not-done r (sym e ∙ d))
+      ∙ e
 
 -- ---- only the message counts
 
-module _ (v : ℕ) (list buffer : List ℕ) (image : Bool) (l : isList list ≡ true) (e : entriesStatus list (length buffer) ≡ Done) where
+module _ (v : ℕ) (list buffer : List ℕ) (wanted : Wanted) (l : isList list ≡ true) (e : entriesStatus list (length buffer) ≡ Done) where
   -- A list whose entries pass is refused as the whole message that it makes is, or neither is refused.
-  pub list-whole-status : (n : ℕ) → listStatus v list buffer image n ≡ wholeStatus v (messageOf list buffer) image n
+  pub list-whole-status : (n : ℕ) → listStatus v list buffer wanted n ≡ wholeStatus v (messageOf list buffer) wanted n
   unfolding listStatus wholeStatus
   list-whole-status n =
-      ap₂ (λ (b : Bool) (s : Status). ladder (known v) b s (long v list buffer image n) (short v list buffer image n)) l e
+      ap₂ (λ (b : Bool) (s : Status). cond (known v) (cond b s (Refused BadList)) (Refused UnknownVariant)) l
+      (row-second (entriesChecks list (length buffer)) (behind v (messageOf list buffer) wanted n) e)
+
+  -- the answer for a message of as many bytes as the entries name together
+  pub list-message : (n t : ℕ) (s : Status) → t ≡ totalOf list → s ≡ firstRefusal (wholeChecks v t wanted n) → s ≡ listStatus v list buffer wanted n
+  unfolding wholeStatus
+  list-message n t s et es =
+      es ∙ ap (λ (i : ℕ). firstRefusal (wholeChecks v i wanted n)) (et ∙ sym (message-length list buffer e)) ∙ sym (list-whole-status n)
 
   -- And the output is that of the whole message.
-  pub list-whole-into : (out : List ℕ) → listInto v list buffer image out ≡ wholeInto v (messageOf list buffer) image out
+  pub list-whole-into : (out : List ℕ) → listInto v list buffer wanted out ≡ wholeInto v (messageOf list buffer) wanted out
   unfolding listInto wholeInto
   list-whole-into out =
-      ap (λ (s : Status). written s (resultOf (variant v) image (endState (variant v) (messageOf list buffer))) out) (list-whole-status (length out))
+      ap (λ (s : Status). written s (resultOf (variant v) wanted (endState (variant v) (messageBits (messageOf list buffer)))) out) (list-whole-status (length out))
 
 -- The digest over a list sees the message alone: two lists over two buffers, whose entries pass and whose messages are equal, give the same
 -- answer and leave the same output.
-pub same-message : (v : ℕ) (list₁ buffer₁ list₂ buffer₂ : List ℕ) (image : Bool) (out : List ℕ)
+pub same-message : (v : ℕ) (list₁ buffer₁ list₂ buffer₂ : List ℕ) (wanted : Wanted) (out : List ℕ)
     → isList list₁ ≡ true → entriesStatus list₁ (length buffer₁) ≡ Done
     → isList list₂ ≡ true → entriesStatus list₂ (length buffer₂) ≡ Done
     → messageOf list₁ buffer₁ ≡ messageOf list₂ buffer₂
-    → (listStatus v list₁ buffer₁ image (length out) ≡ listStatus v list₂ buffer₂ image (length out))
-    × (listInto v list₁ buffer₁ image out ≡ listInto v list₂ buffer₂ image out)
-same-message v list₁ buffer₁ list₂ buffer₂ image out l₁ e₁ l₂ e₂ same = (
-  list-whole-status v list₁ buffer₁ image l₁ e₁ (length out)
-      ∙ ap (λ (x : List ℕ). wholeStatus v x image (length out)) same
-      ∙ sym (list-whole-status v list₂ buffer₂ image l₂ e₂ (length out)),
-  list-whole-into v list₁ buffer₁ image l₁ e₁ out
-      ∙ ap (λ (x : List ℕ). wholeInto v x image out) same
-      ∙ sym (list-whole-into v list₂ buffer₂ image l₂ e₂ out),
+    → (listStatus v list₁ buffer₁ wanted (length out) ≡ listStatus v list₂ buffer₂ wanted (length out))
+    × (listInto v list₁ buffer₁ wanted out ≡ listInto v list₂ buffer₂ wanted out)
+same-message v list₁ buffer₁ list₂ buffer₂ wanted out l₁ e₁ l₂ e₂ same = (
+  list-whole-status v list₁ buffer₁ wanted l₁ e₁ (length out)
+      ∙ ap (λ (x : List ℕ). wholeStatus v x wanted (length out)) same
+      ∙ sym (list-whole-status v list₂ buffer₂ wanted l₂ e₂ (length out)),
+  list-whole-into v list₁ buffer₁ wanted l₁ e₁ out
+      ∙ ap (λ (x : List ℕ). wholeInto v x wanted out) same
+      ∙ sym (list-whole-into v list₂ buffer₂ wanted l₂ e₂ out),
 )
 
 -- ---- the calls of the code
 
--- a start that is to be updated
-pub start-ready : (v : ℕ) → known v ≡ true → (s : Advanced) → s ≡ started v
-    → (wellFormed (s .hasher) ≡ true) × (closed (s .hasher) ≡ false) × (s .hasher .total ≡ 0)
-start-ready v k s e =
-    let b = ap (λ (a : Advanced). a .hasher) (e ∙ start-done v k) in
-    (ap wellFormed b ∙ well-formed _ (begun-facts v (known-low v k) (known-high v k)), ap closed b, ap (λ (h : Hasher). h .total) b)
+module _ (v : ℕ) (list buffer : List ℕ) (wanted : Wanted) (n : ℕ) where
+  -- what Done says
+  pub record Accepted : Type 0 where
+    pub whole : isList list ≡ true
+    pub all-fit : entriesStatus list (length buffer) ≡ Done
+    pub message : Hashable v (length (messageOf list buffer)) wanted n
 
-module _ (v : ℕ) (list buffer : List ℕ) (image : Bool) (out : List ℕ) where
+  pub accepted : listStatus v list buffer wanted n ≡ Done → Accepted
+  unfolding listStatus wholeStatus
+  accepted e =
+      let m = messageOf list buffer in
+      let a = row-both (before v list) (entriesChecks list (length buffer) ++ behind v m wanted n) e in
+      let l = passing-says (before v list) (a .0) .1 .0 in
+      let f = row-both (entriesChecks list (length buffer)) (behind v m wanted n) (a .1) .0 in
+      record { whole = l; all-fit = f; message = whole-says v (length m) wanted n (sym (list-whole-status v list buffer wanted l f n) ∙ e) }
+
+-- a start that is to be updated
+pub start-ready : (v : ℕ) → known v ≡ true → (s : Advanced) → s ≡ started v → Open (s .hasher) × (s .hasher .total ≡ 0)
+start-ready v k s e =
+    let b : fresh v ≡ s .hasher = sym (ap (λ (a : Advanced). a .hasher) (e ∙ start-done v k)) in
+    (subst Open b (fresh-open v k), ap (λ (h : Hasher). h .total) (sym b))
+
+module _ (v : ℕ) (list buffer : List ℕ) (wanted : Wanted) (out : List ℕ) where
   -- status and output after a call
   abbrev pub Left : Status → List ℕ → Type 0
-  Left s after = (s ≡ listStatus v list buffer image (length out)) × (after ≡ listInto v list buffer image out)
+  Left s after = (s ≡ listStatus v list buffer wanted (length out)) × (after ≡ listInto v list buffer wanted out)
 
-  pub left-refused : (s : Status) → s ≡ listStatus v list buffer image (length out) → (s ≡ Done → ⊥) → Left s out
-  unfolding listInto
-  left-refused s e r = (e, sym (kept (listStatus v list buffer image (length out)) _ out (λ d. r (e ∙ d))))
-
-  pub left-hashed : Accepted v list buffer image (length out) → (begun : Advanced) (h : Hasher) (ended : Advanced)
-      → begun ≡ started v → h ≡ updated (begun .hasher) (messageOf list buffer) .hasher → ended ≡ finished h
-      → (s : Status) (after : List ℕ) → s ≡ readStatus (ended .hasher) image (length out) → after ≡ readInto (ended .hasher) image out → Left s after
-  left-hashed a begun h ended eb eh ee s after es eo =
-      let low = known-low v (a .variant-known) in
-      let high = known-high v (a .variant-known) in
-      let m = messageOf list buffer in
-      let last = all-calls v low high m (a .few) begun (updated (begun .hasher) m) ended eb refl (ee ∙ ap finished eh) in (
-        es ∙ ap (λ (g : Hasher). readStatus g image (length out)) last
-            ∙ ended-status v low high m (a .few) image (length out)
-            ∙ sym (list-whole-status v list buffer image (a .whole) (a .all-fit) (length out)),
-        eo ∙ ap (λ (g : Hasher). readInto g image out) last
-            ∙ ended-into v low high m (a .few) image out
-            ∙ sym (list-whole-into v list buffer image (a .whole) (a .all-fit) out),
-      )
+  pub left-hashed : Accepted v list buffer wanted (length out) → (begun : Advanced) (h : Hasher) (last : Advanced)
+      → begun ≡ started v → h ≡ updated (begun .hasher) (messageOf list buffer) .hasher → last ≡ finished h
+      → (s : Status) (after : List ℕ) → (s ≡ readStatus (last .hasher) wanted (length out)) × (after ≡ readInto (last .hasher) wanted out) → Left s after
+  left-hashed a begun h last eb eh el s after er =
+      let m : List ℕ = messageOf list buffer in
+      let r = calls-read v (a .message .named) m (a .message .few) wanted out begun (updated (begun .hasher) m) last s after eb refl (el ∙ ap finished eh) er in
+      (r .0 ∙ sym (list-whole-status v list buffer wanted (a .whole) (a .all-fit) (length out)), r .1 ∙ sym (list-whole-into v list buffer wanted (a .whole) (a .all-fit) out))

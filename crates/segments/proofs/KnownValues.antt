@@ -1,11 +1,19 @@
--- Every known value is what the definitions give: one statement for the list, which computes.
+-- Every known value of document 01 is what the definitions give: one statement for the one list.
 -- Assumes nothing.
-use mathlib.Core.Path.{_≡_, refl}
-use mathlib.Core.List.{map, flatMap}
-use Rattle.standard.specs.KnownValues.{Row}
-use Rattle.segments.specs.Entries.{bigEndian, offsetOf, lengthOf, endOf, formerEnd, isList, segmentIn, entryStatus, segmentStatus, segmentOf, entriesStatus, messageOf}
-use Rattle.segments.specs.KnownValues.{knownValues}
+use mathlib.Core.Path.{refl}
+use mathlib.Core.List.{flatMap}
+use Rattle.answers.specs.Numbers.{bigEndian}
+use Rattle.standard.specs.KnownValues as standard
+use Rattle.standard.specs.KnownValues.{AllHold}
+use Rattle.standard.proofs.KnownValues as proved
+use Rattle.standard.proofs.KnownValues.{holds-append}
+use Rattle.segments.specs.Entries.{formerEnd, isList, segmentIn, entryChecks, segmentChecks, segmentOf, messageOf}
+use Rattle.segments.specs.KnownValues.{listValues, knownValues}
 
-pub known-values : map (λ (row : Row). row .gives) knownValues ≡ map (λ (row : Row). row .stated) knownValues
-unfolding flatMap bigEndian offsetOf lengthOf endOf formerEnd isList segmentIn entryStatus segmentStatus segmentOf entriesStatus messageOf
-known-values = refl
+-- the rows for lists compute
+list-values : AllHold listValues
+unfolding flatMap bigEndian formerEnd isList segmentIn entryChecks segmentChecks segmentOf messageOf
+list-values = refl
+
+pub known-values : AllHold knownValues
+known-values = holds-append standard.knownValues listValues proved.known-values list-values

@@ -1,6 +1,6 @@
-pub mod FirstRefusal
+-- Laws about lists of segments, and the digest over them.
 pub mod EntryLaws
 pub mod ListLaws
-pub mod UpdateLaws
+pub mod OneValue
 pub mod DigestLaws
 pub mod KnownValues

@@ -1,38 +1,30 @@
 -- The check of a whole list against that of its entries, and the length of its message.
 -- Assumes nothing.
-use mathlib.Core.Path.{_≡_, refl, sym, ap, ap₂, _∙_}
-use mathlib.Core.Bool.{Bool, true, false, cond}
+use mathlib.Core.Path.{_≡_, refl, sym, ap, ap₂, _∙_, subst}
+use mathlib.Core.Bool.{true}
 use mathlib.Core.List.{List, [], _∷_, _++_, append-assoc, append-nil, flatMap, sum}
 use Prim.Native.Nat.{ℕ, zero, suc, _+_, _-_, _≤_, _<_}
 use native.Mathlib.Nat.{add-assoc}
+use native.Mathlib.Numerals.{add-one}
 use native.Mathlib.Omega.{arith}
-use lib.Dec.{ltb}
 use lib.ListN.{length, length-append, length-take, length-drop}
+use Rattle.answers.specs.declared.Refusal.{Refusal}
+use Rattle.answers.specs.declared.Status.{Status}
+use Rattle.answers.specs.declared.Status.the-variants.{Done, Refused}
+use Rattle.answers.specs.Checks.{firstRefusal}
+use Rattle.answers.specs.Refusals.{entry}
+use Rattle.answers.proofs.Statuses.{not-done}
+use Rattle.answers.proofs.Rows.{by-ways, each-done, done-each, each-first, First, first-of}
 use Rattle.standard.specs.Grid.{tab}
 use Rattle.standard.proofs.Tab.{tab-snoc}
-use Rattle.sponge.specs.declared.Status.{Status}
-use Rattle.sponge.specs.declared.Status.the-variants.{Done, Misordered, PastEnd}
-use Rattle.sponge.specs.Refusals.{entry}
-use Rattle.segments.specs.Entries.{offsetOf, lengthOf, endOf, formerEnd, isList, count, segmentIn, entryStatus, segmentStatus, entriesStatus, StopsAt, messageOf, totalOf}
-use Rattle.sponge.proofs.Answers.{not-done}
-use Rattle.segments.proofs.FirstRefusal.{every-done, first-done, first-at, First, first-of}
+use Rattle.segments.specs.Entries.{lengthOf, endOf, formerEnd, isList, count, segmentIn, entryChecks, segmentStatus, entriesStatus, StopsAt, messageOf, totalUpTo, totalOf}
 use Rattle.segments.proofs.EntryLaws.{Fits, entry-fits, segment-checked, segment-entry}
-
--- ---- the entries of a list that passes
-
-pub entries-done : (list : List ℕ) (n : ℕ) → entriesStatus list n ≡ Done → (k : ℕ) → k < count list → entryStatus list n k ≡ Done
-unfolding entriesStatus
-entries-done list n e = every-done (count list) (entryStatus list n) e
 
 -- ---- joined segments, and the sum of their lengths
 
 -- the message of the first k entries
 abbrev pub messageUpTo : List ℕ → List ℕ → ℕ → List ℕ
 messageUpTo list buffer k = flatMap (λ s. s) (tab k (segmentIn list buffer))
-
--- the sum of their lengths
-abbrev pub totalUpTo : List ℕ → ℕ → ℕ
-totalUpTo list k = sum _+_ 0 (tab k (lengthOf list))
 
 flat-snoc : (xs : List (List ℕ)) (x : List ℕ) → flatMap (λ s. s) (xs ++ (x ∷ [])) ≡ flatMap (λ s. s) xs ++ x
 unfolding flatMap
@@ -47,11 +39,14 @@ sum-snoc (y ∷ xs) x = ap (λ (r : ℕ). y + r) (sum-snoc xs x) ∙ sym (add-as
 pub message-suc : (list buffer : List ℕ) (k : ℕ) → messageUpTo list buffer (suc k) ≡ messageUpTo list buffer k ++ segmentIn list buffer k
 message-suc list buffer k = ap (flatMap (λ s. s)) (tab-snoc k (segmentIn list buffer)) ∙ flat-snoc (tab k (segmentIn list buffer)) (segmentIn list buffer k)
 
-pub total-suc : (list : List ℕ) (k : ℕ) → totalUpTo list (suc k) ≡ totalUpTo list k + lengthOf list k
+total-suc : (list : List ℕ) (k : ℕ) → totalUpTo list (suc k) ≡ totalUpTo list k + lengthOf list k
 total-suc list k = ap (sum _+_ 0) (tab-snoc k (lengthOf list)) ∙ sum-snoc (tab k (lengthOf list)) (lengthOf list k)
 
+pub total-next : (list : List ℕ) (k : ℕ) → totalUpTo list (k + 1) ≡ totalUpTo list k + lengthOf list k
+total-next list k = ap (totalUpTo list) (add-one k) ∙ total-suc list k
+
 pub segment-length : (list buffer : List ℕ) (k : ℕ) → endOf list k ≤ length buffer → length (segmentIn list buffer k) ≡ lengthOf list k
-unfolding segmentIn endOf
+unfolding segmentIn
 segment-length list buffer k h = simp (length-take, length-drop) (omega arith)
 
 -- the first k segments are no longer than those of more entries
@@ -70,7 +65,7 @@ message-up-to-within list buffer k h =
 module _ (list buffer : List ℕ) where
   -- the first k entries pass
   abbrev Passed : ℕ → Type 0
-  Passed k = (j : ℕ) → j < k → entryStatus list (length buffer) j ≡ Done
+  Passed k = (j : ℕ) → j < k → firstRefusal (entryChecks list (length buffer) j) ≡ Done
 
   fewer : (k : ℕ) → Passed (suc k) → Passed k
   fewer k p j h = p j (omega arith)
@@ -93,71 +88,66 @@ module _ (list buffer : List ℕ) where
   former-within (suc k) p = fits k p .within
 
   total-former : (k : ℕ) → Passed k → totalUpTo list k ≤ formerEnd list k
-  unfolding formerEnd endOf sum
+  unfolding formerEnd sum
   total-former zero p = omega arith
   total-former (suc k) p = omega (arith, total-suc list k, total-former k (fewer k p), fits k p .ordered)
+
+  all-passed : entriesStatus list (length buffer) ≡ Done → Passed (count list)
+  all-passed e = done-each (count list) (entryChecks list (length buffer)) e
 
   -- The message of an accepted list has as many bytes as its entries name together.
   pub message-length : entriesStatus list (length buffer) ≡ Done → length (messageOf list buffer) ≡ totalOf list
   unfolding messageOf totalOf
-  message-length e = message-up-to-length (count list) (entries-done list (length buffer) e)
+  message-length e = message-up-to-length (count list) (all-passed e)
 
   -- It never has more bytes than the buffer.
   pub message-within : entriesStatus list (length buffer) ≡ Done → length (messageOf list buffer) ≤ length buffer
   unfolding totalOf
   message-within e =
-      let p = entries-done list (length buffer) e in
+      let p = all-passed e in
       omega (arith, message-length e, total-former (count list) p, former-within (count list) p)
 
 -- ---- the list's check and that of its entries
 
-answer-entry : (t u : Bool) (k : ℕ) → (cond t (Misordered k) (cond u (PastEnd k) Done) ≡ Done → ⊥) → entry (cond t (Misordered k) (cond u (PastEnd k) Done)) ≡ k
-answer-entry true u k r = refl
-answer-entry false true k r = refl
-answer-entry false false k r = absurd (r refl)
+-- the entry that an answer names
+abbrev named : Status → ℕ
+named Done = 0
+named (Refused r) = entry r
 
--- a refusal names the entry that it is of
-entry-named : (list : List ℕ) (n k : ℕ) → (entryStatus list n k ≡ Done → ⊥) → entry (entryStatus list n k) ≡ k
-unfolding entryStatus
-entry-named list n k = answer-entry (ltb (offsetOf list k) (formerEnd list k)) (ltb n (endOf list k)) k
+module _ (list : List ℕ) (n : ℕ) where
+  -- a refusal names the entry that it is of
+  entry-named : (k : ℕ) (r : Refusal) → firstRefusal (entryChecks list n k) ≡ Refused r → entry r ≡ k
+  unfolding entryChecks
+  entry-named k =
+      by-ways (λ (s : Status). (r : Refusal) → s ≡ Refused r → entry r ≡ k) (entryChecks list n k)
+      (λ e r q. sym (ap named q), λ e. (λ e r q. sym (ap named q), λ e r q. absurd (not-done r (sym q))))
 
-module _ (list : List ℕ) (n : ℕ) (whole : isList list ≡ true) where
-  -- A list that passes has no entry that is refused by itself.
-  pub passed-entries : entriesStatus list n ≡ Done → (k : ℕ) → k < count list → segmentStatus list n k ≡ Done
-  passed-entries e k h = segment-entry list n k whole h ∙ entries-done list n e k h
+  module _ (whole : isList list ≡ true) where
+    -- A list that passes has no entry that is refused by itself.
+    pub passed-entries : entriesStatus list n ≡ Done → (k : ℕ) → k < count list → segmentStatus list n k ≡ Done
+    passed-entries e k h = segment-entry list n k whole h ∙ done-each (count list) (entryChecks list n) e k h
 
-  -- A list is refused for the first entry that is refused by itself, with the same answer, which names that entry.
-  pub refused-entry : (entriesStatus list n ≡ Done → ⊥) → StopsAt list n (entry (entriesStatus list n)) (entriesStatus list n)
-  unfolding entriesStatus
-  refused-entry r =
-      rw (sym (ap entry (w .same)) ∙ entry-named list n (w .place) (λ d. r (sym (w .same) ∙ d)))
-      (record {
-        there = w .there;
-        earlier = λ j h. segment-entry list n j whole (omega (arith, w .there)) ∙ w .earlier j h;
-        refused = segment-entry list n (w .place) whole (w .there) ∙ w .same;
-      })
-    where
-      w : First (count list) (entryStatus list n)
-      w = first-of (count list) (entryStatus list n) r
+    -- And back: a list whose entries all pass, passes.
+    pub entries-passed : ((k : ℕ) → k < count list → segmentStatus list n k ≡ Done) → entriesStatus list n ≡ Done
+    entries-passed h = each-done (count list) (entryChecks list n) (λ k l. segment-checked list n k (h k l) .entry)
 
-  -- Refusal 10 of a list at entry k: entry k by itself is refused so, and every earlier one passes.
-  pub misordered-entry : (k : ℕ) → entriesStatus list n ≡ Misordered k → StopsAt list n k (Misordered k)
-  misordered-entry k e = rw e at (refused-entry (λ d. not-done (Misordered k) (λ z. omega arith) (sym e ∙ d)))
+    -- A refusal, 10 or 11, of a list names an entry: that entry by itself is refused so, and every earlier one passes.
+    pub refused-entry : (r : Refusal) → entriesStatus list n ≡ Refused r → StopsAt list n (entry r) (Refused r)
+    refused-entry r e =
+        subst (λ (k : ℕ). StopsAt list n k (Refused r)) (sym (entry-named (w .place) r (w .same ∙ e)))
+        (record {
+          there = w .there;
+          earlier = λ j h. segment-entry list n j whole (omega (arith, w .there)) ∙ w .earlier j h;
+          refused = segment-entry list n (w .place) whole (w .there) ∙ w .same ∙ e;
+        })
+      where
+        w : First (count list) (entryChecks list n)
+        w = first-of (count list) (entryChecks list n) (λ d. not-done r (sym e ∙ d))
 
-  -- Refusal 11 likewise.
-  pub past-end-entry : (k : ℕ) → entriesStatus list n ≡ PastEnd k → StopsAt list n k (PastEnd k)
-  past-end-entry k e = rw e at (refused-entry (λ d. not-done (PastEnd k) (λ z. omega arith) (sym e ∙ d)))
-
-  -- And back: a list whose entries all pass, passes.
-  pub entries-passed : ((k : ℕ) → k < count list → segmentStatus list n k ≡ Done) → entriesStatus list n ≡ Done
-  unfolding entriesStatus
-  entries-passed h = first-done (count list) (entryStatus list n) (λ k l. segment-checked list n k (h k l) .entry)
-
-  -- A list whose first refused entry is refused by s, is refused by s.
-  pub entry-refused : (k : ℕ) (s : Status) → (s ≡ Done → ⊥) → StopsAt list n k s → entriesStatus list n ≡ s
-  unfolding entriesStatus
-  entry-refused k s r w =
-      first-at (count list) (entryStatus list n) k (w .there) (λ j l. segment-checked list n j (w .earlier j l) .entry) (λ d. r (sym here ∙ d)) ∙ here
-    where
-      here : entryStatus list n k ≡ s
-      here = sym (segment-entry list n k whole (w .there)) ∙ w .refused
+    -- And back: a list whose first refused entry is refused by r, is refused by r.
+    pub entry-refused : (k : ℕ) (r : Refusal) → StopsAt list n k (Refused r) → entriesStatus list n ≡ Refused r
+    entry-refused k r w =
+        each-first (count list) (entryChecks list n) k (w .there) (λ j l. segment-checked list n j (w .earlier j l) .entry) (λ d. not-done r (sym here ∙ d)) ∙ here
+      where
+        here : firstRefusal (entryChecks list n k) ≡ Refused r
+        here = sym (segment-entry list n k whole (w .there)) ∙ w .refused

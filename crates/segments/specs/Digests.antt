@@ -1,31 +1,34 @@
 -- The digest or end state over the segments of a list (document 01: mark of a sheet).
 -- Assumes nothing.
-use mathlib.Core.Bool.{Bool, cond, not}
-use mathlib.Core.List.{List}
+use mathlib.Core.List.{List, [], _∷_, _++_}
 use Prim.Native.Nat.{ℕ}
 use lib.Dec.{ltb}
 use lib.ListN.{length}
-use Rattle.standard.specs.Sponge.{endState}
+use Rattle.answers.specs.declared.Refusal.the-variants.{UnknownVariant, TooLong, OutputTooShort, BadList}
+use Rattle.answers.specs.declared.Status.{Status}
+use Rattle.answers.specs.Checks.{Check, unless, when, firstRefusal}
+use Rattle.answers.specs.Outputs.{written, most}
+use Rattle.standard.specs.Chain.{messageBits, endState}
 use Rattle.standard.specs.Variants.{variant, known}
-use Rattle.sponge.specs.declared.Status.{Status}
-use Rattle.sponge.specs.declared.Status.the-variants.{Done, UnknownVariant, TooLong, OutputTooShort, BadList}
-use Rattle.sponge.specs.Refusals.{whenDone}
-use Rattle.hasher.specs.Running.{most}
-use Rattle.hasher.specs.Reading.{resultBytes, resultOf, written}
-use Rattle.segments.specs.Entries.{isList, entriesStatus, messageOf}
+use Rattle.hasher.specs.declared.Wanted.{Wanted}
+use Rattle.hasher.specs.Reading.{resultSize, resultOf}
+use Rattle.segments.specs.Entries.{isList, entriesChecks, messageOf}
 
--- 1; 9; entry by entry 10, then 11; 4; 5
-unfoldable pub listStatus : ℕ → List ℕ → List ℕ → Bool → ℕ → Status
-listStatus v list buffer image n =
-    cond (not (known v)) UnknownVariant
-    (cond (not (isList list)) BadList
-    (whenDone (entriesStatus list (length buffer))
-    (cond (ltb most (length (messageOf list buffer))) TooLong
-    (cond (ltb n (resultBytes (variant v) image)) OutputTooShort
-    Done))
-    (entriesStatus list (length buffer))))
+-- Mark of a sheet: 1; 9; entry by entry 10, then 11; 4; 5
+abbrev pub listChecks : ℕ → List ℕ → List ℕ → Wanted → ℕ → List Check
+listChecks v list buffer wanted n =
+    unless (known v) UnknownVariant
+    ∷ unless (isList list) BadList
+    ∷ (entriesChecks list (length buffer)
+    ++ when (ltb most (length (messageOf list buffer))) TooLong
+    ∷ when (ltb n (resultSize (variant v) wanted)) OutputTooShort
+    ∷ [])
 
--- the caller's output: the standard's digest, or end state, of the message
-unfoldable pub listInto : ℕ → List ℕ → List ℕ → Bool → List ℕ → List ℕ
-listInto v list buffer image out =
-    written (listStatus v list buffer image (length out)) (resultOf (variant v) image (endState (variant v) (messageOf list buffer))) out
+-- its answer
+unfoldable pub listStatus : ℕ → List ℕ → List ℕ → Wanted → ℕ → Status
+listStatus v list buffer wanted n = firstRefusal (listChecks v list buffer wanted n)
+
+-- the caller's output: the standard's digest, or the image of the end state, of the message
+unfoldable pub listInto : ℕ → List ℕ → List ℕ → Wanted → List ℕ → List ℕ
+listInto v list buffer wanted out =
+    written (listStatus v list buffer wanted (length out)) (resultOf (variant v) wanted (endState (variant v) (messageBits (messageOf list buffer)))) out

@@ -1,28 +1,28 @@
 -- A segment list (document 01: cut sheet): entries (pairs) of eight bytes that name segments (parts) of a buffer.
 -- Assumes nothing.
 use mathlib.Core.Path.{_≡_}
-use mathlib.Core.Bool.{Bool, cond, not, _&&_}
-use mathlib.Core.List.{List, [], _∷_, foldl, flatMap, sum}
-use Prim.Native.Nat.{ℕ, zero, suc, _+_, _*_, _/_, _%_, _<_}
+use mathlib.Core.Bool.{Bool, _&&_}
+use mathlib.Core.List.{List, [], _∷_, flatMap, sum}
+use Prim.Native.Nat.{ℕ, zero, suc, _+_, _-_, _*_, _/_, _%_, _≤_, _<_}
 use lib.Dec.{eqb, ltb, leb}
 use lib.ListN.{length, take, drop}
+use Rattle.answers.specs.declared.Refusal.the-variants.{OutOfRange, BadList, Misordered, PastEnd}
+use Rattle.answers.specs.declared.Status.{Status}
+use Rattle.answers.specs.declared.Status.the-variants.{Done}
+use Rattle.answers.specs.Checks.{Check, unless, when, firstRefusal, each}
+use Rattle.answers.specs.Numbers.{bigEndian}
+use Rattle.answers.specs.Outputs.{whenDone}
 use Rattle.standard.specs.Grid.{tab}
-use Rattle.sponge.specs.declared.Status.{Status}
-use Rattle.sponge.specs.declared.Status.the-variants.{Done, OutOfRange, BadList, Misordered, PastEnd}
-use Rattle.sponge.specs.Refusals.{whenDone}
-
--- the number that bytes stand for, the first the most significant
-unfoldable pub bigEndian : List ℕ → ℕ
-bigEndian bytes = foldl (λ n b. n * 256 + b) 0 bytes
 
 -- offset and length of entry k: four bytes each
-unfoldable pub offsetOf : List ℕ → ℕ → ℕ
+abbrev pub offsetOf : List ℕ → ℕ → ℕ
 offsetOf list k = bigEndian (take 4 (drop (8 * k) list))
 
-unfoldable pub lengthOf : List ℕ → ℕ → ℕ
+abbrev pub lengthOf : List ℕ → ℕ → ℕ
 lengthOf list k = bigEndian (take 4 (drop (8 * k + 4) list))
 
-unfoldable pub endOf : List ℕ → ℕ → ℕ
+-- where it ends
+abbrev pub endOf : List ℕ → ℕ → ℕ
 endOf list k = offsetOf list k + lengthOf list k
 
 -- where the entry before entry k ends: 0 for entry 0
@@ -34,6 +34,7 @@ formerEnd list (suc k) = endOf list k
 unfoldable pub isList : List ℕ → Bool
 isList list = eqb (length list % 8) 0 && leb (length list) 4096
 
+-- how many entries a list has
 abbrev pub count : List ℕ → ℕ
 count list = length list / 8
 
@@ -41,32 +42,37 @@ count list = length list / 8
 unfoldable pub segmentIn : List ℕ → List ℕ → ℕ → List ℕ
 segmentIn list buffer k = take (lengthOf list k) (drop (offsetOf list k) buffer)
 
--- an entry against a buffer of n bytes: 10, then 11
-unfoldable pub entryStatus : List ℕ → ℕ → ℕ → Status
-entryStatus list n k =
-    cond (ltb (offsetOf list k) (formerEnd list k)) (Misordered k)
-    (cond (ltb n (endOf list k)) (PastEnd k)
-    Done)
+-- the checks of an entry against a buffer of n bytes: 10, then 11
+unfoldable pub entryChecks : List ℕ → ℕ → ℕ → List Check
+entryChecks list n k = when (ltb (offsetOf list k) (formerEnd list k)) (Misordered k) ∷ when (ltb n (endOf list k)) (PastEnd k) ∷ []
 
 -- Part of a pair: 9, 7, then 10 and 11 for that entry alone
-unfoldable pub segmentStatus : List ℕ → ℕ → ℕ → Status
-segmentStatus list n k =
-    cond (not (isList list)) BadList
-    (cond (not (ltb k (count list))) OutOfRange
-    (entryStatus list n k))
+unfoldable pub segmentChecks : List ℕ → ℕ → ℕ → List Check
+segmentChecks list n k = unless (isList list) BadList ∷ unless (ltb k (count list)) OutOfRange ∷ entryChecks list n k
+
+-- the checks of all entries, entry by entry
+abbrev pub entriesChecks : List ℕ → ℕ → List Check
+entriesChecks list n = each (count list) (entryChecks list n)
+
+-- the answer for an entry
+abbrev pub segmentStatus : List ℕ → ℕ → ℕ → Status
+segmentStatus list n k = firstRefusal (segmentChecks list n k)
+
+-- the first refusal of the entries
+abbrev pub entriesStatus : List ℕ → ℕ → Status
+entriesStatus list n = firstRefusal (entriesChecks list n)
 
 -- the segment, empty where the check refuses
 unfoldable pub segmentOf : List ℕ → List ℕ → ℕ → List ℕ
 segmentOf list buffer k = whenDone (segmentStatus list (length buffer) k) (segmentIn list buffer k) []
 
--- the first refusal of a row of answers
-abbrev pub firstOf : List Status → Status
-firstOf [] = Done
-firstOf (s ∷ ss) = whenDone s (firstOf ss) s
+-- the byte of the buffer at which it begins: the first where the check refuses
+unfoldable pub segmentAt : List ℕ → ℕ → ℕ → ℕ
+segmentAt list n k = whenDone (segmentStatus list n k) (offsetOf list k) 0
 
--- the refusal of all entries: the first that one of them gives
-unfoldable pub entriesStatus : List ℕ → ℕ → Status
-entriesStatus list n = firstOf (tab (count list) (entryStatus list n))
+-- the place in memory a bytes on, in the same block
+abbrev pub further : ℕ → ℕ × ℕ → ℕ × ℕ
+further a place = (place .0, a + place .1)
 
 -- the entries before entry k pass, and it is refused by s
 pub record StopsAt (list : List ℕ) (n k : ℕ) (s : Status) : Type 0 where
@@ -78,6 +84,19 @@ pub record StopsAt (list : List ℕ) (n k : ℕ) (s : Status) : Type 0 where
 unfoldable pub messageOf : List ℕ → List ℕ → List ℕ
 messageOf list buffer = flatMap (λ s. s) (tab (count list) (segmentIn list buffer))
 
--- the bytes that the entries name together
+-- the bytes that the first k entries name together, and those of all
+abbrev pub totalUpTo : List ℕ → ℕ → ℕ
+totalUpTo list k = sum _+_ 0 (tab k (lengthOf list))
+
 unfoldable pub totalOf : List ℕ → ℕ
-totalOf list = sum _+_ 0 (tab (count list) (lengthOf list))
+totalOf list = totalUpTo list (count list)
+
+-- where in the message the byte p of the buffer stands, which entry k names
+unfoldable pub placeOf : List ℕ → ℕ → ℕ → ℕ
+placeOf list k p = totalUpTo list k + (p - offsetOf list k)
+
+-- entry k names the n bytes of the buffer from p on, all of them
+pub record Names (list : List ℕ) (k p n : ℕ) : Type 0 where
+  pub there : k < count list
+  pub begins : offsetOf list k ≤ p
+  pub ends : p + n ≤ endOf list k

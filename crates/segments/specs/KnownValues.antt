@@ -1,10 +1,11 @@
--- The known values of document 01 for segment lists of a buffer of 6 bytes: rows of what the definitions give and what the paper states.
+-- All known values of document 01 that are proved: those of the standard, and those for segment lists of a buffer of 6 bytes.
 -- Assumes nothing.
 use mathlib.Core.List.{List, [], _∷_, _++_}
-use Prim.Native.Nat.{ℕ}
+use Prim.Native.Nat.{ℕ, _/_, _%_}
+use Rattle.answers.specs.declared.Status.{Status}
+use Rattle.answers.specs.Refusals.{answer}
+use Rattle.standard.specs.KnownValues as standard
 use Rattle.standard.specs.KnownValues.{Row}
-use Rattle.sponge.specs.declared.Status.{Status}
-use Rattle.sponge.specs.Refusals.{number, entry}
 use Rattle.segments.specs.Entries.{segmentStatus, segmentOf, entriesStatus, messageOf}
 
 -- an entry of an offset and a length below 256
@@ -16,15 +17,16 @@ abbrev pub sixBytes : List ℕ
 sixBytes = 0 ∷ 1 ∷ 2 ∷ 3 ∷ 4 ∷ 5 ∷ []
 
 -- the number of an answer and the entry that it names
-abbrev pub answer : Status → List ℕ
-answer s = number s ∷ entry s ∷ []
+abbrev pub parts : Status → List ℕ
+parts s = answer s % 256 ∷ answer s / 256 ∷ []
 
 -- those of a list over six bytes
 abbrev pub answerOf : List ℕ → List ℕ
-answerOf list = answer (entriesStatus list 6)
+answerOf list = parts (entriesStatus list 6)
 
-abbrev pub knownValues : List Row
-knownValues =
+-- the rows for lists
+abbrev pub listValues : List Row
+listValues =
     -- (0, 2), (3, 2) take the bytes 0, 1, 3, 4
     record { gives = answerOf (entryOf 0 2 ++ entryOf 3 2); stated = 0 ∷ 0 ∷ [] }
     ∷ record { gives = messageOf (entryOf 0 2 ++ entryOf 3 2) sixBytes; stated = 0 ∷ 1 ∷ 3 ∷ 4 ∷ [] }
@@ -32,9 +34,13 @@ knownValues =
     ∷ record { gives = segmentOf (entryOf 0 2 ++ entryOf 3 2) sixBytes 1; stated = 3 ∷ 4 ∷ [] }
     -- (0, 2), (1, 2) gives 10 at entry 1
     ∷ record { gives = answerOf (entryOf 0 2 ++ entryOf 1 2); stated = 10 ∷ 1 ∷ [] }
-    ∷ record { gives = answer (segmentStatus (entryOf 0 2 ++ entryOf 1 2) 6 1); stated = 10 ∷ 1 ∷ [] }
+    ∷ record { gives = parts (segmentStatus (entryOf 0 2 ++ entryOf 1 2) 6 1); stated = 10 ∷ 1 ∷ [] }
     -- (5, 2) gives 11 at entry 0
     ∷ record { gives = answerOf (entryOf 5 2); stated = 11 ∷ 0 ∷ [] }
     -- (6, 0) passes
     ∷ record { gives = answerOf (entryOf 6 0); stated = 0 ∷ 0 ∷ [] }
     ∷ []
+
+-- the one list
+abbrev pub knownValues : List Row
+knownValues = standard.knownValues ++ listValues

@@ -1,28 +1,26 @@
 -- `segments::check` meets its contract: refusals 9, 7, then those of the entry. Assumes nothing.
-use mathlib.Core.Path.{sym, _∙_}
-use borrow.Author.Tests.{le-ltb, not-false}
+use mathlib.Core.Path.{_≡_, sym, _∙_}
+use mathlib.Core.Bool.{true}
+use borrow.Author.Tests.{not-true, not-false, le-ltb}
 use borrow.Author.Needs.{needs}
-use Rattle.segments.specs.Entries.{segmentStatus}
+use Rattle.segments.specs.Entries.{isList, segmentChecks}
 use Rattle.segments.proofs.EntryLaws.{segment-entry}
 use Rattle.segments.proofs.check.Statement.{statement}
 use Rattle.segments.proofs.check.Tie as tie
 
-is-list-requires : tie.Need-is-list-requires
-is-list-requires c κs = search needs
+whole : (c : tie.Else1) → isList (c .before .before .before .before .args .list .now) ≡ true
+whole c = sym (c .before .is-list .ensures) ∙ not-false _ (c .if1 .left)
 
 returns : tie.Need-returns
-unfolding segmentStatus
-returns c = sym (simp (← c .before .is-list .ensures, c .if1 .taken))
+unfolding segmentChecks
+returns c = rw (sym (c .before .is-list .ensures) ∙ not-true _ (c .if1 .taken))
 
 returns-2 : tie.Need-returns-2
-unfolding segmentStatus
-returns-2 c = sym (simp (← c .before .before .is-list .ensures, c .before .if1 .left, le-ltb _ _ (c .if2 .taken)))
-
-check-entry-requires : tie.Need-check-entry-requires
-check-entry-requires c κs = (sym (c .before .before .is-list .ensures) ∙ not-false _ (c .before .if1 .left), c .if2 .left)
+unfolding segmentChecks
+returns-2 c = rw (whole (c .before), le-ltb _ _ (c .if2 .taken))
 
 returns-3 : tie.Need-returns-3
-returns-3 c = c .check-entry .ensures ∙ sym (segment-entry _ _ _ (sym (c .before .before .before .is-list .ensures) ∙ not-false _ (c .before .before .if1 .left)) (c .before .if2 .left))
+returns-3 c = c .check-entry .ensures ∙ sym (segment-entry _ _ _ (whole (c .before .before)) (c .before .if2 .left))
 
 pub check-spec : {M : Type 1} → statement M
-check-spec = tie.close (tie.spec is-list-requires returns returns-2 check-entry-requires returns-3)
+check-spec = tie.close (tie.spec (λ c κs. search needs) returns returns-2 (λ c κs. (whole (c .before), c .if2 .left)) returns-3)

@@ -10,14 +10,8 @@ returns : tie.Need-returns
 unfolding formerEnd
 returns c = rw (c .if1 .taken)
 
-sub-end-at : tie.Need-sub-end-at
-sub-end-at c = search needs
-
-end-at-requires : tie.Need-end-at-requires
-end-at-requires c κs = search needs
-
 returns-2 : tie.Need-returns-2
 returns-2 c = c .end-at .ensures ∙ sym (former-behind _ _ (c .before .if1 .left))
 
 pub former-end-spec : {M : Type 1} → statement M
-former-end-spec = tie.close (tie.spec returns sub-end-at end-at-requires returns-2)
+former-end-spec = tie.close (tie.spec returns (λ c. search needs) (λ c κs. search needs) returns-2)
