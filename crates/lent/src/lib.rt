@@ -1,15 +1,16 @@
 // The running hash that a caller lends and finds advanced, and the cursor that carries a lent segment list.
 ghost use mathlib.Core.Path.{_≡_};
-ghost use mathlib.Core.Bool.{true, false};
 ghost use lib.ListN.{length};
 ghost use Rattle.hasher.specs.Running.{startedOver, updated, finished};
 ghost use Rattle.hasher.specs.Reading.{readStatus, readInto};
-ghost use Rattle.lent.specs.Cursors.{stepNumber, foundAt, movedOn};
+ghost use Rattle.hasher.specs.declared.Wanted.the-variants.{Digest, EndState};
+ghost use Rattle.lent.specs.Cursors.{stepAnswer, foundAt, movedOn};
+use answers::Refusal;
+use answers::Status;
 use hasher::Hasher;
-use sponge::Status;
 
 // Refusal 1.
-pub fn start(h: &mut Hasher, variant: u8) -> Status
+pub fn start(h: &mut Hasher, variant: u32) -> Status
     ensures { λ r. ⌜ (r ≡ startedOver (now (h .entry)) variant .status) × (now (h .exit) ≡ startedOver (now (h .entry)) variant .hasher) ⌝ }
 {
     let a = hasher::started_over(*h, variant);
@@ -38,16 +39,16 @@ pub fn finish(h: &mut Hasher) -> Status
 
 // Refusals 2, 3, 5.
 pub fn digest(h: &Hasher, out: &mut [u8]) -> Status
-    ensures { λ r. ⌜ (r ≡ readStatus (now (h .entry)) false (length (now (out .entry))))
-        × (now (out .exit) ≡ readInto (now (h .entry)) false (now (out .entry))) ⌝ }
+    ensures { λ r. ⌜ (r ≡ readStatus (now (h .entry)) Digest (length (now (out .entry))))
+        × (now (out .exit) ≡ readInto (now (h .entry)) Digest (now (out .entry))) ⌝ }
 {
     hasher::digest(*h, out)
 }
 
 // Refusals 2, 3, 5.
 pub fn end_state(h: &Hasher, out: &mut [u8]) -> Status
-    ensures { λ r. ⌜ (r ≡ readStatus (now (h .entry)) true (length (now (out .entry))))
-        × (now (out .exit) ≡ readInto (now (h .entry)) true (now (out .entry))) ⌝ }
+    ensures { λ r. ⌜ (r ≡ readStatus (now (h .entry)) EndState (length (now (out .entry))))
+        × (now (out .exit) ≡ readInto (now (h .entry)) EndState (now (out .entry))) ⌝ }
 {
     hasher::end_state(*h, out)
 }
@@ -55,16 +56,16 @@ pub fn end_state(h: &Hasher, out: &mut [u8]) -> Status
 // What a step gives: an entry's offset and length, or refusal 9 or 7.
 pub enum Step {
     Entry(u32, u32),
-    Refused(Status),
+    Refused(Refusal),
 }
 
-// The number of a step's refusal, 0 where it gives an entry.
-pub fn number_of_step(s: Step) -> u8
-    ensures { λ r. ⌜ r ≡ stepNumber s ⌝ }
+// A step as one number: 0 where it gives an entry.
+pub fn answer_of_step(s: Step) -> u32
+    ensures { λ r. ⌜ r ≡ stepAnswer s ⌝ }
 {
     match s {
         Step::Entry(_, _) => 0,
-        Step::Refused(refusal) => sponge::number_of(refusal),
+        Step::Refused(refusal) => answers::answer_of(Status::Refused(refusal)),
     }
 }
 
@@ -80,25 +81,24 @@ pub fn entry_at(list: &[u8], k: usize) -> Found
 {
     if !segments::is_list(list) {
         return Found {
-            step: Step::Refused(Status::BadList),
+            step: Step::Refused(Refusal::BadList),
             next: k,
         };
     }
     if list.len() / 8 <= k {
         return Found {
-            step: Step::Refused(Status::OutOfRange),
+            step: Step::Refused(Refusal::OutOfRange),
             next: k,
         };
     }
-    let offset = segments::offset_at(list, k) as u32;
-    let length = segments::length_at(list, k) as u32;
     Found {
-        step: Step::Entry(offset, length),
+        step: Step::Entry(segments::offset_at(list, k), segments::length_at(list, k)),
         next: k + 1,
     }
 }
 
 // A lent segment list and the number of its next entry.
+#[repr(C)]
 pub struct Cursor<'a> {
     pub list: &'a [u8],
     pub next: usize,

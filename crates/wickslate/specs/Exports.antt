@@ -1,37 +1,22 @@
--- What the exported functions write through the numbers that a caller lends, and how they read a choice.
+-- How the exported functions read a choice, and what they write through the numbers that a caller lends.
 -- Assumes nothing.
-use mathlib.Core.Bool.{Bool, not}
+use mathlib.Core.Bool.{cond}
 use Prim.Native.Nat.{ℕ}
 use lib.Dec.{eqb}
-use Rattle.sponge.specs.declared.Status.{Status}
-use Rattle.sponge.specs.declared.Status.the-variants.{Done, UnknownVariant, Malformed, WrongStage, TooLong, OutputTooShort, BadImage, OutOfRange, NoBlock, BadList, Misordered, PastEnd}
+use Rattle.hasher.specs.declared.Wanted.{Wanted}
+use Rattle.hasher.specs.declared.Wanted.the-variants.{Digest, EndState}
 use Rattle.lent.specs.declared.Step.{Step}
 use Rattle.lent.specs.declared.Step.the-variants.{Entry, Refused}
 
 -- 0 asks for the digest, any other number for the end state
-abbrev pub asksImage : ℕ → Bool
-asksImage n = not (eqb n 0)
-
--- the entry that refusals 10 and 11 name; any other answer leaves what was there
-abbrev pub entryNamed : Status → ℕ → ℕ
-entryNamed Done old = old
-entryNamed UnknownVariant old = old
-entryNamed Malformed old = old
-entryNamed WrongStage old = old
-entryNamed TooLong old = old
-entryNamed OutputTooShort old = old
-entryNamed BadImage old = old
-entryNamed OutOfRange old = old
-entryNamed NoBlock old = old
-entryNamed BadList old = old
-entryNamed (Misordered k) old = k
-entryNamed (PastEnd k) old = k
+abbrev pub wantedOf : ℕ → Wanted
+wantedOf n = cond (eqb n 0) Digest EndState
 
 -- an entry's offset, and its length; a refusal leaves what was there
 abbrev pub offsetGiven : Step → ℕ → ℕ
 offsetGiven (Entry offset length) old = offset
-offsetGiven (Refused s) old = old
+offsetGiven (Refused r) old = old
 
 abbrev pub lengthGiven : Step → ℕ → ℕ
 lengthGiven (Entry offset length) old = length
-lengthGiven (Refused s) old = old
+lengthGiven (Refused r) old = old

@@ -1,5 +1,5 @@
 -- `lent::advance` meets its contract: a walk of its MIR, by hand. The borrow of the cursor is opened, the slice and the number are copied out of it and passed to `entry_at`, the next number is stored, and the borrow is closed at the cursor with that number. Assumes nothing.
-use mathlib.Core.Path.{_≡_, refl, ap}
+use mathlib.Core.Path.{_≡_, refl, ap, _∙_}
 use Prim.Native.Nat.{ℕ, _<_, _^_}
 use mathlib.Core.List.{List, [], _∷_}
 use lib.ListN.{length}
@@ -12,6 +12,7 @@ use base.Fml.{Lft, Fml, fat, flft}
 use prog.Wp.{Heap, Tables}
 use ghost.Atoms.{Atoms}
 use contract.Lifetimes.{toks}
+use contract.Monad.{fact-mono}
 use contract.Running.{givenOf, tables, tablesOf}
 use types.Kit.{Given, ‵, raw, given, _⊛_, _$_, _∵_, !, qed, by, move, drop, use1, use2, split, learn, rewrite, fsplit, fsplit3, fjoin, fjoin3, feqI}
 use types.Part.{whole, sub, look-in, store-in}
@@ -22,19 +23,18 @@ use denote.Laws.{Is, shows}
 use denote.Memory.{mem, cellAt}
 use denote.Plain.{uint-vals, uint-tells, uint-makes}
 use denote.Builtin.{u8, usize}
-use denote.Ref.{NamedLft, now, ptr-vals, mut-tells}
-use denote.Signature.{Slot, plain, mutRefTo, shrSliceOf, namedLft, typesAt}
+use denote.Ref.{NamedLft, now}
+use denote.Signature.{plain, shrSliceOf, typesAt}
 use denote.Slice.{slice-vals, shr-slice-tells, Room}
 use denote.Steps.{only, opens, closes, owned, peeks}
 use denote.Struct.Laws as LL
 use denote.Struct.Rest.{own-put, own-open, all-own}
 use denote.Struct.Steps.{spelt}
 use denote.Enum.Laws as EL
-use denote.Triple.Spec.{tripleOf}
 use denote.Triple.Statement.{Contract, Triple}
-use denote.Triple.Table.{entered, cited}
+use denote.Triple.Table.{cited}
 use denote.Triple.Walked.{Stays, stay-ref, goes-ref}
-use Rattle.lent.specs.Cursors.{foundAt, movedOn}
+use Rattle.lent.specs.Cursors.{foundAt}
 use Rattle.lent.specs.declared.Cursor.{Cursor}
 use Rattle.lent.specs.declared.Found.{Found}
 use Rattle.lent.specs.declared.Step.{Step}
@@ -44,14 +44,11 @@ use Rattle.lent.proofs.Found as D
 use Rattle.lent.proofs.Found.Laws as D′
 use Rattle.lent.proofs.Step as S
 use Rattle.lent.proofs.Step.Laws as S′
-use Rattle.lent.proofs.entry_at.Symbol as callee-def
-use Rattle.lent.proofs.entry_at.Symbol.{name as #lent·entry-at}
-use Rattle.lent.proofs.entry_at.Met as callee-thm
-use Rattle.lent.proofs.Passed.{Passed, kept, values, Promises, calls, ends, Walk, meets}
-use Rattle.lent.proofs.advance.Key.{name as #lent·advance}
+use Rattle.lent.proofs.entry_at as callee
+use Rattle.lent.proofs.Passed.{Passed, kept, values, Promises, Promised, calls, ends, Walk, proved}
+use Rattle.lent.proofs.Beside.{none}
+use Rattle.lent.proofs.Advancing.{cursor, advancing}
 use Rattle.lent.proofs.advance as self
-use Rattle.lent.proofs.advance.Statement as stated
-use Rattle.lent.proofs.advance.Code as code
 
 -- 'a, and the struct's type at it
 abbrev α : Lft → NamedLft
@@ -60,22 +57,9 @@ abbrev α : Lft → NamedLft
 abbrev B : Lft → RattleType
 B κ′ = T.the-row (α κ′)
 
-abbrev behind : Slot 2
-behind = plain (λ κs. T.the-row (namedLft 2 1 tt κs))
-
 -- what is passed: the lent cursor here, and its list and number to the callee
-abbrev cursor : Passed
-cursor = record {
-  lifetimes = 2;
-  outlives = self.signature .outlives;
-  slots = mutRefTo (0 ∷ []) tt behind ∷ [];
-  spells = λ κs. (ptr-vals, tt);
-  tells = λ κs. (mut-tells (named 0) (κs .0) (B (κs .1 .0)), tt);
-  Before = Cursor;
-  before = λ κs a. now (a .0);
-  After = Cursor;
-  after = λ κs e. now (e .0);
-}
+abbrev lent : Passed
+lent = advancing cursor none
 
 abbrev place : Passed
 place = record {
@@ -90,24 +74,29 @@ place = record {
   after = λ κs e. tt;
 }
 
--- what is promised, and the contract that the proof cites
-abbrev Moves : Cursor → Step → Cursor → Type 0
-Moves c r z = (r ≡ foundAt (now (c .list)) (c .next) .step) × (z ≡ movedOn c)
+-- the cursor with another number
+abbrev placed : Cursor → ℕ → Cursor
+placed w k = record { list = w .list; next = k }
 
+-- what the callee promises, and what is then known of the step and of the last cursor
 abbrev Finds : List ℕ × ℕ → Found → Unit {0} → Type 0
 Finds p r _ = r ≡ foundAt (p .0) (p .1)
+
+abbrev Moves : Cursor × none {n = 2} .Value → Step → Cursor → Type 0
+Moves c r z = (f : Found) × (f ≡ foundAt (now (c .0 .list)) (c .0 .next)) × (r ≡ f .step) × (z ≡ placed (c .0) (f .next))
+
+-- from it, what is promised here
+promised : {M : Type 1} → Promised lent S.the-row Moves M self.clauses
+promised 𝓤 H A mem run κs a g r e = fact-mono 𝓤 _ _ (λ k. (k .2 ∙ ap (λ (f : Found). f .step) (k .1), k .3 ∙ ap (λ (f : Found). placed (now (a .0)) (f .next)) (k .1)))
 
 abbrev EntryAt : {M : Type 1} (𝓤 : URA M) (H : Heap 𝓤) (A : Atoms 𝓤) → Contract 𝓤
 EntryAt = Promises place D.the-row Finds
 
-abbrev had : Stays (cursor .slots) (kept cursor)
-had = (stay-ref (0 ∷ []) tt behind, tt)
+abbrev had : Stays (lent .slots) (kept lent)
+had = (stay-ref (0 ∷ []) tt (cursor .slot), tt)
 
 abbrev mach : Cursor → Val
 mach = T′.lowered
-
-abbrev placed : Cursor → ℕ → Cursor
-placed w k = record { list = w .list; next = k }
 
 -- what an answer's relation says of its parts
 next-of : (r : Found) (u : Val) → Is D.the-row r (u ∷ []) → r .next < 2 ^ 64
@@ -123,8 +112,8 @@ n-fits κ′ h g = LL.owed (T.the-type (α κ′)) (T′.the-laws (α κ′)) h 
 room : (κ′ : Lft) (h : Cursor) → Is (B κ′) h (mach h ∷ []) → Room u8 (length (h .list .now))
 room κ′ h g = LL.owed (T.the-type (α κ′)) (T′.the-laws (α κ′)) h _ g .0 .0 .1
 
-module _ {M : Type 1} (𝓤 : URA M) (H : Heap 𝓤) (A : Atoms 𝓤) (W : Given 𝓤 H A) (𝓣 : Tables 𝓤 H) (known : Triple 𝓤 (𝓣 .C #lent·entry-at) (EntryAt 𝓤 H A)) where
-  walk : Walk cursor S.the-row Moves had 𝓤 H A W 𝓣 code.function
+module _ {M : Type 1} (𝓤 : URA M) (H : Heap 𝓤) (A : Atoms 𝓤) (W : Given 𝓤 H A) (𝓣 : Tables 𝓤 H) (known : Triple 𝓤 (𝓣 .C callee.Symbol.name) (EntryAt 𝓤 H A)) where
+  walk : Walk lent S.the-row Moves had 𝓤 H A W 𝓣 self.Code.function
   walk κs qs bounds a are =
       let b : ℕ = a .0 .ptr .0 in
       let o : ℕ = a .0 .ptr .1 in
@@ -133,7 +122,7 @@ module _ {M : Type 1} (𝓤 : URA M) (H : Heap 𝓤) (A : Atoms 𝓤) (W : Given
       let at : Denots (typesAt (place .slots) (κs .1)) = (h .list, (h .next, tt)) in
       let Own : Fml = B κ′ .own h (mach h ∷ []) in
       let All : Fml = all-own (T.the-type (α κ′) .parts) (T′.the-laws (α κ′)) at in
-      qed W (raw (toks 𝓤 A 2 κs qs) ∷ ‵ (owns (typesAt (cursor .slots) κs) a (values cursor κs a)) ∷ []) ∵ enter ! (𝓣 .C) (𝓣 .Λ) code.function (vptr b o ∷ []) _ $
+      qed W (raw (toks 𝓤 A 2 κs qs) ∷ ‵ (owns (typesAt (lent .slots) κs) a (values lent κs a)) ∷ []) ∵ enter ! (𝓣 .C) (𝓣 .Λ) self.Code.function (vptr b o ∷ []) _ $
       alloc1 ! (λ l₀. alloc1 ! (λ l₁. alloc1 ! (λ l₂. alloc1 ! (λ l₃. alloc1 ! (λ l₄. alloc0 ! $ params1 ! $ pass1 ! (init ! 6 refl (tt, tt)) $ pass0 ! $
       move ! (11 ∷ []) $ fsplit ! $ fsplit3 ! $ drop ! $ move ! (13 ∷ []) $ use1 W (‵ (flft (κs .0) (qs .0)) ⊛ raw (toks 𝓤 A 1 (κs .1) (qs .1))) (id⊢ 𝓤 _) $ split ! $ move ! (2 ∷ 3 ∷ 0 ∷ []) $
       opens ! tt (B κ′) {h = h} b o (λ vs. spelt ! (B κ′) (Is (B κ′)) (shows 𝓤 H A (B κ′)) (LL.vals (T.the-type (α κ′)) (T′.the-laws (α κ′))) (LL.tells (T.the-type (α κ′)) (T′.the-laws (α κ′))) fullShare h vs b o $
@@ -162,13 +151,12 @@ module _ {M : Type 1} (𝓤 : URA M) (H : Heap 𝓤) (A : Atoms 𝓤) (W : Given
       -- [obs; the borrow; the token; 'a's token; …]
       feqI ! (List Val) (vptr b o ∷ []) (vptr b o ∷ []) refl $ fjoin3 ! $ move ! (0 ∷ 3 ∷ []) $ fjoin ! $ move ! (1 ∷ 2 ∷ []) $ use2 W (raw (toks 𝓤 A 2 κs qs)) (id⊢ 𝓤 _) $
       owned ! S.the-row (Is S.the-row) (EL.makes S.the-type S′.the-plain 𝓤 H A) (r .step) _ (step-of r u is) $ move ! (1 ∷ 2 ∷ []) $
-      by ! (ends cursor S.the-row Moves had 𝓤 H A W κs qs bounds a (r .step) (placed h (r .next), tt) (EL.val S.the-type S′.the-laws (r .step)) (tt, tt) (ap (λ (f : Found). f .step) e, ap (λ (f : Found). placed h (f .next)) e)))))))))))
+      by ! (ends lent S.the-row Moves had 𝓤 H A W κs qs bounds a (r .step) (placed h (r .next), tt) (EL.val S.the-type S′.the-laws (r .step)) (tt, tt) (r, e, refl, refl)))))))))))
 
-pub advance-spec : {M : Type 1} → stated.statement M
-unfolding code.routine tablesOf
+pub advance-spec : {M : Type 1} → self.Statement.statement M
+unfolding self.Code.routine tablesOf
 advance-spec 𝓤 H 𝓜 𝓖 𝓡 =
-    entered 𝓤 H (tripleOf 𝓤 H (𝓖 .A) self.signature (self.spec 𝓤 H (𝓖 .A) (𝓜 .mem) (𝓡 .run)))
-    (tables 𝓤 H 𝓜 𝓡 code.env .C) (tables 𝓤 H 𝓜 𝓡 code.env .Λ) #lent·advance code.function (code.unfolded 𝓤 H 𝓜 𝓡)
-    (meets cursor S.the-row Moves had 𝓤 H (𝓖 .A) (givenOf 𝓤 H 𝓜 𝓖) (goes-ref 𝓤 H (𝓖 .A) (givenOf 𝓤 H 𝓜 𝓖) 2 0 tt behind, tt) (tablesOf 𝓤 H 𝓜 (tables 𝓤 H 𝓜 𝓡 code.env)) code.function
-    (walk 𝓤 H (𝓖 .A) (givenOf 𝓤 H 𝓜 𝓖) (tablesOf 𝓤 H 𝓜 (tables 𝓤 H 𝓜 𝓡 code.env))
-    (cited 𝓤 H (EntryAt 𝓤 H (𝓖 .A)) 𝓜 𝓡 code.env #lent·entry-at callee-def.routine code.calls-lent·entry-at (callee-thm.met 𝓤 H 𝓜 𝓖 𝓡))))
+    let W = givenOf 𝓤 H 𝓜 𝓖 in
+    proved lent S.the-row Moves 𝓤 H 𝓜 𝓖 𝓡 self.Code.env self.Key.name self.Code.function (self.Code.unfolded 𝓤 H 𝓜 𝓡) had (goes-ref 𝓤 H (𝓖 .A) W 2 0 tt (cursor .slot), tt)
+    (walk 𝓤 H (𝓖 .A) W (tablesOf 𝓤 H 𝓜 (tables 𝓤 H 𝓜 𝓡 self.Code.env)) (cited 𝓤 H (EntryAt 𝓤 H (𝓖 .A)) 𝓜 𝓡 self.Code.env callee.Symbol.name callee.Symbol.routine self.Code.calls-lent·entry-at (callee.Met.met 𝓤 H 𝓜 𝓖 𝓡)))
+    (self.clauses 𝓤 H (𝓖 .A) (𝓜 .mem) (𝓡 .run)) (promised 𝓤 H (𝓖 .A) (𝓜 .mem) (𝓡 .run))

@@ -1,21 +1,19 @@
 -- `lent::digest` meets its contract: `hasher::digest` on what is lent. Assumes nothing.
-use mathlib.Core.Bool.{false}
-use contract.Running.{givenOf, tables, tablesOf}
-use denote.Triple.Spec.{tripleOf}
-use denote.Triple.Table.{entered, cited}
-use Rattle.hasher.proofs.digest.Symbol as callee-def
-use Rattle.hasher.proofs.digest.Symbol.{name as #hasher·digest}
-use Rattle.hasher.proofs.digest.Met as callee-thm
-use Rattle.lent.proofs.ReadThrough.{Called, read-meets}
-use Rattle.lent.proofs.digest.Key.{name as #lent·digest}
+use contract.Monad.{fact-mono}
+use Rattle.answers.proofs.Status as S
+use Rattle.hasher.specs.declared.Wanted.the-variants.{Digest}
+use Rattle.hasher.proofs.digest as callee
+use Rattle.lent.proofs.Passed.{Promised}
+use Rattle.lent.proofs.Beside.{none}
+use Rattle.lent.proofs.ReadThrough.{reading, read-meets}
+use Rattle.lent.proofs.Operations.{Reads}
 use Rattle.lent.proofs.digest as self
-use Rattle.lent.proofs.digest.Statement as stated
-use Rattle.lent.proofs.digest.Code as code
 
-pub digest-spec : {M : Type 1} → stated.statement M
-unfolding code.routine tablesOf
+-- from what the callee promises, what is promised here
+promised : {M : Type 1} → Promised (reading (none {n = 2})) S.the-row (Reads Digest) M self.clauses
+promised 𝓤 H A mem run κs a g r e = fact-mono 𝓤 _ _ (λ k. (k .0, k .1))
+
+pub digest-spec : {M : Type 1} → self.Statement.statement M
+unfolding self.Code.routine
 digest-spec 𝓤 H 𝓜 𝓖 𝓡 =
-    entered 𝓤 H (tripleOf 𝓤 H (𝓖 .A) self.signature (self.spec 𝓤 H (𝓖 .A) (𝓜 .mem) (𝓡 .run)))
-    (tables 𝓤 H 𝓜 𝓡 code.env .C) (tables 𝓤 H 𝓜 𝓡 code.env .Λ) #lent·digest code.function (code.unfolded 𝓤 H 𝓜 𝓡)
-    (read-meets false #hasher·digest 𝓤 H (𝓖 .A) (givenOf 𝓤 H 𝓜 𝓖) (tablesOf 𝓤 H 𝓜 (tables 𝓤 H 𝓜 𝓡 code.env))
-    (cited 𝓤 H (Called false 𝓤 H (𝓖 .A)) 𝓜 𝓡 code.env #hasher·digest callee-def.routine code.calls-hasher·digest (callee-thm.met 𝓤 H 𝓜 𝓖 𝓡)))
+    read-meets (none {n = 2}) (Reads Digest) callee.Symbol.name 𝓤 H 𝓜 𝓖 𝓡 self.Code.env self.Key.name (self.Code.unfolded 𝓤 H 𝓜 𝓡) callee.Symbol.routine self.Code.calls-hasher·digest (λ κ. callee.Met.met 𝓤 H 𝓜 𝓖 𝓡) (self.clauses 𝓤 H (𝓖 .A) (𝓜 .mem) (𝓡 .run)) (promised 𝓤 H (𝓖 .A) (𝓜 .mem) (𝓡 .run))

@@ -1,21 +1,19 @@
 -- `lent::end_state` meets its contract: `hasher::end_state` on what is lent. Assumes nothing.
-use mathlib.Core.Bool.{true}
-use contract.Running.{givenOf, tables, tablesOf}
-use denote.Triple.Spec.{tripleOf}
-use denote.Triple.Table.{entered, cited}
-use Rattle.hasher.proofs.end_state.Symbol as callee-def
-use Rattle.hasher.proofs.end_state.Symbol.{name as #hasher·end-state}
-use Rattle.hasher.proofs.end_state.Met as callee-thm
-use Rattle.lent.proofs.ReadThrough.{Called, read-meets}
-use Rattle.lent.proofs.end_state.Key.{name as #lent·end-state}
+use contract.Monad.{fact-mono}
+use Rattle.answers.proofs.Status as S
+use Rattle.hasher.specs.declared.Wanted.the-variants.{EndState}
+use Rattle.hasher.proofs.end_state as callee
+use Rattle.lent.proofs.Passed.{Promised}
+use Rattle.lent.proofs.Beside.{none}
+use Rattle.lent.proofs.ReadThrough.{reading, read-meets}
+use Rattle.lent.proofs.Operations.{Reads}
 use Rattle.lent.proofs.end_state as self
-use Rattle.lent.proofs.end_state.Statement as stated
-use Rattle.lent.proofs.end_state.Code as code
 
-pub end-state-spec : {M : Type 1} → stated.statement M
-unfolding code.routine tablesOf
+-- from what the callee promises, what is promised here
+promised : {M : Type 1} → Promised (reading (none {n = 2})) S.the-row (Reads EndState) M self.clauses
+promised 𝓤 H A mem run κs a g r e = fact-mono 𝓤 _ _ (λ k. (k .0, k .1))
+
+pub end-state-spec : {M : Type 1} → self.Statement.statement M
+unfolding self.Code.routine
 end-state-spec 𝓤 H 𝓜 𝓖 𝓡 =
-    entered 𝓤 H (tripleOf 𝓤 H (𝓖 .A) self.signature (self.spec 𝓤 H (𝓖 .A) (𝓜 .mem) (𝓡 .run)))
-    (tables 𝓤 H 𝓜 𝓡 code.env .C) (tables 𝓤 H 𝓜 𝓡 code.env .Λ) #lent·end-state code.function (code.unfolded 𝓤 H 𝓜 𝓡)
-    (read-meets true #hasher·end-state 𝓤 H (𝓖 .A) (givenOf 𝓤 H 𝓜 𝓖) (tablesOf 𝓤 H 𝓜 (tables 𝓤 H 𝓜 𝓡 code.env))
-    (cited 𝓤 H (Called true 𝓤 H (𝓖 .A)) 𝓜 𝓡 code.env #hasher·end-state callee-def.routine code.calls-hasher·end-state (callee-thm.met 𝓤 H 𝓜 𝓖 𝓡)))
+    read-meets (none {n = 2}) (Reads EndState) callee.Symbol.name 𝓤 H 𝓜 𝓖 𝓡 self.Code.env self.Key.name (self.Code.unfolded 𝓤 H 𝓜 𝓡) callee.Symbol.routine self.Code.calls-hasher·end-state (λ κ. callee.Met.met 𝓤 H 𝓜 𝓖 𝓡) (self.clauses 𝓤 H (𝓖 .A) (𝓜 .mem) (𝓡 .run)) (promised 𝓤 H (𝓖 .A) (𝓜 .mem) (𝓡 .run))

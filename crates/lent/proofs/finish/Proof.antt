@@ -1,22 +1,19 @@
 -- `lent::finish` meets its contract: `hasher::finish` on what is lent. Assumes nothing.
-use contract.Running.{givenOf, tables, tablesOf}
-use denote.Triple.Spec.{tripleOf}
-use denote.Triple.Table.{entered, cited}
-use Rattle.hasher.specs.Running.{finished}
-use Rattle.hasher.proofs.finish.Symbol as callee-def
-use Rattle.hasher.proofs.finish.Symbol.{name as #hasher·finish}
-use Rattle.hasher.proofs.finish.Met as callee-thm
+use contract.Monad.{fact-mono}
+use Rattle.answers.proofs.Status as S
+use Rattle.hasher.proofs.finish as callee
+use Rattle.lent.proofs.Passed.{Promised}
 use Rattle.lent.proofs.Beside.{none}
-use Rattle.lent.proofs.Advances.{ByValue, advance-meets}
-use Rattle.lent.proofs.finish.Key.{name as #lent·finish}
+use Rattle.lent.proofs.Advancing.{hash, advancing}
+use Rattle.lent.proofs.Advances.{Advances, advance-meets}
+use Rattle.lent.proofs.Operations.{finishing}
 use Rattle.lent.proofs.finish as self
-use Rattle.lent.proofs.finish.Statement as stated
-use Rattle.lent.proofs.finish.Code as code
 
-pub finish-spec : {M : Type 1} → stated.statement M
-unfolding code.routine tablesOf
+-- from what the callee promises, what is promised here
+promised : {M : Type 1} → Promised (advancing hash (none {n = 1})) S.the-row (Advances (none {n = 1}) finishing) M self.clauses
+promised 𝓤 H A mem run κs a g r e = fact-mono 𝓤 _ _ (λ k. (k .0, k .1))
+
+pub finish-spec : {M : Type 1} → self.Statement.statement M
+unfolding self.Code.routine
 finish-spec 𝓤 H 𝓜 𝓖 𝓡 =
-    entered 𝓤 H (tripleOf 𝓤 H (𝓖 .A) self.signature (self.spec 𝓤 H (𝓖 .A) (𝓜 .mem) (𝓡 .run)))
-    (tables 𝓤 H 𝓜 𝓡 code.env .C) (tables 𝓤 H 𝓜 𝓡 code.env .Λ) #lent·finish code.function (code.unfolded 𝓤 H 𝓜 𝓡)
-    (advance-meets none (λ h _. finished h) #hasher·finish 𝓤 H (𝓖 .A) (givenOf 𝓤 H 𝓜 𝓖) (tablesOf 𝓤 H 𝓜 (tables 𝓤 H 𝓜 𝓡 code.env))
-    (λ κ. cited 𝓤 H (ByValue none (λ h _. finished h) 𝓤 H (𝓖 .A) κ) 𝓜 𝓡 code.env #hasher·finish callee-def.routine code.calls-hasher·finish (callee-thm.met 𝓤 H 𝓜 𝓖 𝓡)))
+    advance-meets (none {n = 1}) finishing callee.Symbol.name 𝓤 H 𝓜 𝓖 𝓡 self.Code.env self.Key.name (self.Code.unfolded 𝓤 H 𝓜 𝓡) callee.Symbol.routine self.Code.calls-hasher·finish (λ κ. callee.Met.met 𝓤 H 𝓜 𝓖 𝓡) (self.clauses 𝓤 H (𝓖 .A) (𝓜 .mem) (𝓡 .run)) (promised 𝓤 H (𝓖 .A) (𝓜 .mem) (𝓡 .run))

@@ -1,27 +1,25 @@
--- `wickslate::wickslate_finish` meets its contract: the number of `lent::finish`'s refusal. Assumes nothing.
-use contract.Running.{givenOf, tables, tablesOf}
-use denote.Triple.Spec.{tripleOf}
-use denote.Triple.Table.{entered, cited}
-use Rattle.sponge.proofs.number_of.Symbol as number-def
-use Rattle.sponge.proofs.number_of.Symbol.{name as #sponge·number-of}
-use Rattle.sponge.proofs.number_of.Met as number-thm
-use Rattle.hasher.specs.Running.{finished}
-use Rattle.lent.proofs.finish.Symbol as callee-def
-use Rattle.lent.proofs.finish.Symbol.{name as #lent·finish}
-use Rattle.lent.proofs.finish.Met as callee-thm
+-- `wickslate::wickslate_finish` meets its contract: the answer of `lent::finish` as a number. Assumes nothing.
+use mathlib.Core.Path.{ap, _∙_}
+use contract.Monad.{fact-mono}
+use denote.Builtin.{u32}
+use Rattle.answers.specs.Refusals.{answer}
+use Rattle.answers.proofs.answer_of as numberer
+use Rattle.lent.proofs.finish as callee
+use Rattle.lent.proofs.Passed.{Promised}
 use Rattle.lent.proofs.Beside.{none}
-use Rattle.wickslate.proofs.Number.{Numbered}
-use Rattle.wickslate.proofs.AdvanceNumber.{Called, advance-meets}
-use Rattle.wickslate.proofs.wickslate_finish.Key.{name as #wickslate·wickslate-finish}
+use Rattle.lent.proofs.Advancing.{hash, advancing}
+use Rattle.lent.proofs.Advances.{Advances}
+use Rattle.lent.proofs.Operations.{finishing}
+use Rattle.wickslate.proofs.Number.{status}
+use Rattle.wickslate.proofs.AdvanceNumber.{Counts, advance-meets}
 use Rattle.wickslate.proofs.wickslate_finish as self
-use Rattle.wickslate.proofs.wickslate_finish.Statement as stated
-use Rattle.wickslate.proofs.wickslate_finish.Code as code
 
-pub wickslate-finish-spec : {M : Type 1} → stated.statement M
-unfolding code.routine tablesOf
+-- from what the callee promises, what is promised here
+promised : {M : Type 1} → Promised (advancing hash (none {n = 1})) u32 (Counts hash status (none {n = 1}) (Advances (none {n = 1}) finishing)) M self.clauses
+promised 𝓤 H A mem run κs a g r e = fact-mono 𝓤 _ _ (λ k. (k .2 ∙ ap answer (k .1 .0), k .1 .1))
+
+pub wickslate-finish-spec : {M : Type 1} → self.Statement.statement M
+unfolding self.Code.routine
 wickslate-finish-spec 𝓤 H 𝓜 𝓖 𝓡 =
-    entered 𝓤 H (tripleOf 𝓤 H (𝓖 .A) self.signature (self.spec 𝓤 H (𝓖 .A) (𝓜 .mem) (𝓡 .run)))
-    (tables 𝓤 H 𝓜 𝓡 code.env .C) (tables 𝓤 H 𝓜 𝓡 code.env .Λ) #wickslate·wickslate-finish code.function (code.unfolded 𝓤 H 𝓜 𝓡)
-    (advance-meets none (λ h _. finished h) #lent·finish 𝓤 H (𝓖 .A) (givenOf 𝓤 H 𝓜 𝓖) (tablesOf 𝓤 H 𝓜 (tables 𝓤 H 𝓜 𝓡 code.env))
-    (cited 𝓤 H (Called none (λ h _. finished h) 𝓤 H (𝓖 .A)) 𝓜 𝓡 code.env #lent·finish callee-def.routine code.calls-lent·finish (callee-thm.met 𝓤 H 𝓜 𝓖 𝓡))
-    (cited 𝓤 H (Numbered 𝓤 H (𝓖 .A)) 𝓜 𝓡 code.env #sponge·number-of number-def.routine code.calls-sponge·number-of (number-thm.met 𝓤 H 𝓜 𝓖 𝓡)))
+    advance-meets hash status (none {n = 1}) (Advances (none {n = 1}) finishing) callee.Symbol.name 𝓤 H 𝓜 𝓖 𝓡 self.Code.env self.Key.name (self.Code.unfolded 𝓤 H 𝓜 𝓡) callee.Symbol.routine self.Code.calls-lent·finish (callee.Met.met 𝓤 H 𝓜 𝓖 𝓡) numberer.Symbol.routine self.Code.calls-answers·answer-of (numberer.Met.met 𝓤 H 𝓜 𝓖 𝓡) (self.clauses 𝓤 H (𝓖 .A) (𝓜 .mem) (𝓡 .run))
+    (promised 𝓤 H (𝓖 .A) (𝓜 .mem) (𝓡 .run))

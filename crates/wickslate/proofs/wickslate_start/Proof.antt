@@ -1,27 +1,24 @@
--- `wickslate::wickslate_start` meets its contract: the number of `lent::start`'s refusal. Assumes nothing.
-use contract.Running.{givenOf, tables, tablesOf}
-use denote.Triple.Spec.{tripleOf}
-use denote.Triple.Table.{entered, cited}
-use Rattle.sponge.proofs.number_of.Symbol as number-def
-use Rattle.sponge.proofs.number_of.Symbol.{name as #sponge·number-of}
-use Rattle.sponge.proofs.number_of.Met as number-thm
-use Rattle.hasher.specs.Running.{startedOver}
-use Rattle.lent.proofs.start.Symbol as callee-def
-use Rattle.lent.proofs.start.Symbol.{name as #lent·start}
-use Rattle.lent.proofs.start.Met as callee-thm
-use Rattle.lent.proofs.Beside.{byte}
-use Rattle.wickslate.proofs.Number.{Numbered}
-use Rattle.wickslate.proofs.AdvanceNumber.{Called, advance-meets}
-use Rattle.wickslate.proofs.wickslate_start.Key.{name as #wickslate·wickslate-start}
+-- `wickslate::wickslate_start` meets its contract: the answer of `lent::start` as a number. Assumes nothing.
+use mathlib.Core.Path.{ap, _∙_}
+use contract.Monad.{fact-mono}
+use denote.Builtin.{u32}
+use Rattle.answers.specs.Refusals.{answer}
+use Rattle.answers.proofs.answer_of as numberer
+use Rattle.lent.proofs.start as callee
+use Rattle.lent.proofs.Passed.{Promised}
+use Rattle.lent.proofs.Advancing.{hash, advancing}
+use Rattle.lent.proofs.Advances.{Advances}
+use Rattle.lent.proofs.Operations.{variant, starting}
+use Rattle.wickslate.proofs.Number.{status}
+use Rattle.wickslate.proofs.AdvanceNumber.{Counts, advance-meets}
 use Rattle.wickslate.proofs.wickslate_start as self
-use Rattle.wickslate.proofs.wickslate_start.Statement as stated
-use Rattle.wickslate.proofs.wickslate_start.Code as code
 
-pub wickslate-start-spec : {M : Type 1} → stated.statement M
-unfolding code.routine tablesOf
+-- from what the callee promises, what is promised here
+promised : {M : Type 1} → Promised (advancing hash variant) u32 (Counts hash status variant (Advances variant starting)) M self.clauses
+promised 𝓤 H A mem run κs a g r e = fact-mono 𝓤 _ _ (λ k. (k .2 ∙ ap answer (k .1 .0), k .1 .1))
+
+pub wickslate-start-spec : {M : Type 1} → self.Statement.statement M
+unfolding self.Code.routine
 wickslate-start-spec 𝓤 H 𝓜 𝓖 𝓡 =
-    entered 𝓤 H (tripleOf 𝓤 H (𝓖 .A) self.signature (self.spec 𝓤 H (𝓖 .A) (𝓜 .mem) (𝓡 .run)))
-    (tables 𝓤 H 𝓜 𝓡 code.env .C) (tables 𝓤 H 𝓜 𝓡 code.env .Λ) #wickslate·wickslate-start code.function (code.unfolded 𝓤 H 𝓜 𝓡)
-    (advance-meets byte startedOver #lent·start 𝓤 H (𝓖 .A) (givenOf 𝓤 H 𝓜 𝓖) (tablesOf 𝓤 H 𝓜 (tables 𝓤 H 𝓜 𝓡 code.env))
-    (cited 𝓤 H (Called byte startedOver 𝓤 H (𝓖 .A)) 𝓜 𝓡 code.env #lent·start callee-def.routine code.calls-lent·start (callee-thm.met 𝓤 H 𝓜 𝓖 𝓡))
-    (cited 𝓤 H (Numbered 𝓤 H (𝓖 .A)) 𝓜 𝓡 code.env #sponge·number-of number-def.routine code.calls-sponge·number-of (number-thm.met 𝓤 H 𝓜 𝓖 𝓡)))
+    advance-meets hash status variant (Advances variant starting) callee.Symbol.name 𝓤 H 𝓜 𝓖 𝓡 self.Code.env self.Key.name (self.Code.unfolded 𝓤 H 𝓜 𝓡) callee.Symbol.routine self.Code.calls-lent·start (callee.Met.met 𝓤 H 𝓜 𝓖 𝓡) numberer.Symbol.routine self.Code.calls-answers·answer-of (numberer.Met.met 𝓤 H 𝓜 𝓖 𝓡) (self.clauses 𝓤 H (𝓖 .A) (𝓜 .mem) (𝓡 .run))
+    (promised 𝓤 H (𝓖 .A) (𝓜 .mem) (𝓡 .run))
