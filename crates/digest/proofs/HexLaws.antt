@@ -9,7 +9,7 @@ use lib.ListN.{length, getD, List·getD-eq-default}
 use Rattle.io.specs.Digits.{glyph}
 use Rattle.standard.specs.Variants.{variant, variants, none}
 use Rattle.standard.proofs.Tests.{lt-or-le}
-use Rattle.standard.proofs.Variants.{bounds}
+use Rattle.standard.proofs.Variants.{bounds, known-true}
 use Rattle.digest.specs.Hex.{hexOf}
 
 pub length-hexOf : (bytes : List ℕ) → length (hexOf bytes) ≡ 2 * length bytes
@@ -41,7 +41,7 @@ digest-short v =
     (λ l. let e : v ≡ 0 = omega arith in omega (arith, ap (λ (w : ℕ). variant w .n) e))
     (λ l.
     ⊎-elim
-    (λ h. omega (arith, bounds v l (omega arith) .digest-most))
+    (λ h. omega (arith, bounds v (known-true v l (omega arith)) .digest-most))
     (λ h. omega (arith, ap (λ H. H .n) (List·getD-eq-default variants none {n = v} h)))
     (lt-or-le v 11))
     (lt-or-le v 1)

@@ -2,11 +2,13 @@
 // hexadecimal or, where a call is refused, "refused" and the number. The message is read in pieces and never held.
 mod text;
 
+ghost use Prim.Native.Nat.{_≤_};
+use answers::Refusal;
+use answers::Status;
 use hasher::Hasher;
 use libc::STDERR_FILENO;
 use libc::STDIN_FILENO;
 use libc::STDOUT_FILENO;
-use sponge::Status;
 
 // How the input stands after a read of it.
 struct Fed {
@@ -20,7 +22,7 @@ struct Fed {
 const MOST_READS: u32 = 16777217;
 
 fn is_done(s: Status) -> bool {
-    sponge::number_of(s) == 0
+    if let Status::Done = s { true } else { false }
 }
 
 // Reads once, and updates the running hash with what came.
@@ -50,9 +52,18 @@ fn feed_all(h: Hasher) -> Fed {
     fed
 }
 
-fn show_refusal(s: Status) {
+fn show_refusal(r: Refusal) {
     io::write_all(STDOUT_FILENO, b"refused ");
-    io::print_decimal(STDOUT_FILENO, sponge::number_of(s) as u64);
+    io::print_decimal(STDOUT_FILENO, answers::number_of(r) as u64);
+    io::write_all(STDOUT_FILENO, b"\n");
+}
+
+// The front of a digest that has n digits.
+fn show_digits(digest: [u8; 32], n: usize)
+    requires { ⌜ n ≤ 64 ⌝ }
+{
+    let digits = text::hex(digest);
+    io::write_all(STDOUT_FILENO, &digits[0..n]);
     io::write_all(STDOUT_FILENO, b"\n");
 }
 
@@ -61,32 +72,32 @@ fn show_digest(h: Hasher) {
     let mut digest = [0u8; 32];
     let ended = hasher::finish(h);
     let status = hasher::digest(ended.hasher, &mut digest);
-    if !is_done(status) {
-        show_refusal(status);
-        return;
+    match status {
+        Status::Done => show_digits(digest, text::digest_digits(h.variant)),
+        Status::Refused(r) => show_refusal(r),
     }
-    let n = text::digest_digits(h.variant);
-    let digits = text::hex(digest);
-    io::write_all(STDOUT_FILENO, &digits[0..n]);
-    io::write_all(STDOUT_FILENO, b"\n");
 }
 
-// The hash of the rest of the input. Nothing but a complaint is printed where the input cannot be read.
-fn hash_input(variant: u8) {
-    let begun = hasher::start(variant);
-    let known = begun.status;
-    if !is_done(known) {
-        show_refusal(known);
-        return;
-    }
-    let fed = feed_all(begun.hasher);
-    let status = fed.status;
+// The digest of what was fed. Nothing but a complaint is printed where the input cannot be read.
+fn show_fed(fed: Fed) {
     if fed.failed {
         complain();
-    } else if is_done(status) {
-        show_digest(fed.hasher);
-    } else {
-        show_refusal(status);
+        return;
+    }
+    let status = fed.status;
+    match status {
+        Status::Done => show_digest(fed.hasher),
+        Status::Refused(r) => show_refusal(r),
+    }
+}
+
+// The hash of the rest of the input.
+fn hash_input(variant: u8) {
+    let begun = hasher::start(variant as u32);
+    let status = begun.status;
+    match status {
+        Status::Done => show_fed(feed_all(begun.hasher)),
+        Status::Refused(r) => show_refusal(r),
     }
 }
 
@@ -100,7 +111,7 @@ fn main() {
     if got < 0 {
         complain();
     } else if got == 0 {
-        show_refusal(Status::UnknownVariant);
+        show_refusal(Refusal::UnknownVariant);
     } else {
         hash_input(first[0]);
     }

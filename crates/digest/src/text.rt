@@ -42,5 +42,5 @@ pub fn hex(bytes: [u8; 32]) -> [u8; 64]
 pub fn digest_digits(v: u8) -> usize
     ensures { λ r. ⌜ (r ≡ 2 * (variant v .n / 8)) × (r ≤ 64) ⌝ }
 {
-    2 * sponge::digest_bytes(v)
+    2 * sponge::sizes::digest_bytes(v)
 }

@@ -1,5 +1,5 @@
-// Runs the proved code on the examples of Annex B, on the known values and on calls that are refused, and prints a line for each
-// call: the operation, the variant, what was given, the answer's number and what came of it.
+// Runs the proved code on the examples of Annex B, on the known values and on one call of each kind that is refused, and prints a
+// line for each call: the operation, the variant, what was given, the answer's number and what came of it.
 mod lists;
 mod lost;
 mod permutations;

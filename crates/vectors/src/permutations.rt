@@ -1,38 +1,39 @@
 // The permutation and its inverse: the single permutations of Annex B, forward and back, and calls that are refused.
 use crate::show;
+use crate::whole;
+use hasher::Wanted;
 ghost use Prim.Native.Nat.{_≤_};
 
-fn name(back: bool) {
-    if back {
-        show::word(b"unpermute");
-    } else {
-        show::word(b"permute");
-    }
-}
-
-fn permute(back: bool, v: u8, image: &mut [u8]) {
-    if back {
-        show::status(sponge::unpermute(v, image));
-    } else {
-        show::status(sponge::permute(v, image));
-    }
-}
-
-fn line(back: bool, v: u8, image: &mut [u8]) {
-    name(back);
+fn forward(v: u32, image: &mut [u8]) {
+    show::word(b"permute");
     show::variant(v);
     show::image(v, image);
     show::space();
-    permute(back, v, image);
+    show::status(sponge::permute(v, image));
     show::image(v, image);
     show::newline();
 }
 
+fn back(v: u32, image: &mut [u8]) {
+    show::word(b"unpermute");
+    show::variant(v);
+    show::image(v, image);
+    show::space();
+    show::status(sponge::unpermute(v, image));
+    show::image(v, image);
+    show::newline();
+}
+
+// Forward, and what came of it back.
+fn both_ways(v: u32, image: &mut [u8]) {
+    forward(v, image);
+    back(v, image);
+}
+
 // The state that Annex B permutes: PHOTON's start state, with a block of zeros; SPONGENT's, with the first block of its message.
-fn example(v: u8) -> [u8; 36]
-    requires { ⌜ (1 ≤ v) × (v ≤ 10) ⌝ }
-{
-    let mut s = sponge::start_bytes(v);
+fn example(v: u8) -> [u8; 36] {
+    let begun = hasher::start(v as u32);
+    let mut s = begun.hasher.state;
     if 6 <= v {
         s[0] = b'S';
     }
@@ -42,46 +43,10 @@ fn example(v: u8) -> [u8; 36]
     s
 }
 
-// Forward, and what came of it back.
-fn both_ways(v: u8, image: &mut [u8]) {
-    line(false, v, image);
-    line(true, v, image);
-}
-
-fn permutation(v: u8)
-    requires { ⌜ (1 ≤ v) × (v ≤ 10) ⌝ }
-{
+fn permutation(v: u8) {
     let mut s = example(v);
-    let n = sponge::image_bytes(v);
-    both_ways(v, &mut s[0..n]);
-}
-
-// Bytes A0, of which the n-th is given.
-fn filled(n: usize, last: u8) -> [u8; 37]
-    requires { ⌜ n ≤ 37 ⌝ }
-{
-    let mut s = [0xA0u8; 37];
-    if 0 < n {
-        s[n - 1] = last;
-    }
-    s
-}
-
-fn refused(v: u8, n: usize, last: u8)
-    requires { ⌜ n ≤ 37 ⌝ }
-{
-    let mut s = filled(n, last);
-    both_ways(v, &mut s[0..n]);
-}
-
-// No bytes, one too few, and a zero byte more than an image has.
-fn wrong_lengths(v: u8)
-    requires { ⌜ (1 ≤ v) × (v ≤ 10) ⌝ }
-{
-    let n = sponge::image_bytes(v);
-    refused(v, 0, 0);
-    refused(v, n - 1, 0xA0);
-    refused(v, n + 1, 0);
+    let n = whole::size(v, Wanted::EndState);
+    both_ways(v as u32, &mut s[0..n]);
 }
 
 fn permutations() {
@@ -92,21 +57,26 @@ fn permutations() {
     }
 }
 
-fn refused_images() {
-    refused(0, 13, 0xA0);
-    refused(11, 13, 0xA0);
-    refused(255, 13, 0xA0);
-    refused(0, 0, 0);
-    let mut v: u8 = 1;
-    while v <= 10 {
-        wrong_lengths(v);
-        v += 1;
-    }
-    refused(1, 13, 0xA1);
-    refused(3, 25, 0xA1);
+// Bytes A0, of which the n-th is given.
+fn filled(n: usize, last: u8) -> [u8; 13]
+    requires { ⌜ (1 ≤ n) × (n ≤ 13) ⌝ }
+{
+    let mut s = [0xA0u8; 13];
+    s[n - 1] = last;
+    s
 }
 
+fn refused(v: u32, n: usize, last: u8)
+    requires { ⌜ (1 ≤ n) × (n ≤ 13) ⌝ }
+{
+    let mut s = filled(n, last);
+    both_ways(v, &mut s[0..n]);
+}
+
+// No variant; a length that no image has; a spare half byte that is not zero.
 pub fn all() {
     permutations();
-    refused_images();
+    refused(0, 13, 0xA0);
+    refused(1, 12, 0xA0);
+    refused(1, 13, 0xA1);
 }

@@ -1,9 +1,10 @@
 // The words of a line. Annex B.2 prints SPONGENT's states from the leftmost bit on, which is the highest bit of the last byte, so the
 // images of variants 6 to 10 are printed from their last byte. All other bytes are printed from the first: messages, digests,
 // pieces, segments, lists, buffers, and the state and held bits of a running hash, which is printed as it lies in memory.
+use answers::Refusal;
+use answers::Status;
 use hasher::Hasher;
 use libc::STDOUT_FILENO;
-use sponge::Status;
 ghost use Prim.Native.Nat.{_<_};
 
 fn digit(n: u8) -> u8
@@ -39,7 +40,7 @@ pub fn decimal(n: u64) {
     io::print_decimal(STDOUT_FILENO, n);
 }
 
-pub fn variant(v: u8) {
+pub fn variant(v: u32) {
     decimal(v as u64);
     space();
 }
@@ -68,7 +69,7 @@ pub fn bytes(s: &[u8]) {
     forward(s);
 }
 
-pub fn image(v: u8, s: &[u8]) {
+pub fn image(v: u32, s: &[u8]) {
     if 6 <= v && v <= 10 && 0 < s.len() {
         backward(s);
     } else {
@@ -76,18 +77,25 @@ pub fn image(v: u8, s: &[u8]) {
     }
 }
 
-fn entry(k: u32) {
+fn entry(k: u16) {
     show(b"@");
     decimal(k as u64);
 }
 
 // The number, with the entry that 10 and 11 name.
-pub fn status(s: Status) {
-    decimal(sponge::number_of(s) as u64);
-    match s {
-        Status::Misordered(k) => entry(k),
-        Status::PastEnd(k) => entry(k),
+fn refusal(r: Refusal) {
+    decimal(answers::number_of(r) as u64);
+    match r {
+        Refusal::Misordered(k) => entry(k),
+        Refusal::PastEnd(k) => entry(k),
         _ => {}
+    }
+}
+
+pub fn status(s: Status) {
+    match s {
+        Status::Done => decimal(0),
+        Status::Refused(r) => refusal(r),
     }
     space();
 }

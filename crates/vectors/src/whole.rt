@@ -1,64 +1,54 @@
-// The whole message: the examples of Annex B in one call and in pieces, the empty message, and calls that are refused.
+// The whole message: the examples of Annex B in one call and byte by byte, other lengths of output, and calls that are refused.
 // A digest and the image of an end state are read into an output of bytes A0.
 use crate::show;
+use answers::Status;
 use hasher::Hasher;
-use sponge::Status;
+use hasher::Wanted;
 ghost use Prim.Native.Nat.{_≤_};
 
-// The bytes of a result.
-pub fn size(v: u8, image: bool) -> usize
-    requires { ⌜ (1 ≤ v) × (v ≤ 10) ⌝ }
-    ensures { λ r. ⌜ (1 ≤ r) × (r ≤ 36) ⌝ }
-{
-    if image {
-        sponge::image_bytes(v)
-    } else {
-        sponge::digest_bytes(v)
+pub fn name(wanted: Wanted) {
+    match wanted {
+        Wanted::Digest => show::word(b"digest"),
+        Wanted::EndState => show::word(b"end-state"),
     }
 }
 
 // The last words of a line: the answer and the output.
-pub fn result(image: bool, v: u8, s: Status, out: &[u8]) {
+pub fn result(wanted: Wanted, v: u32, s: Status, out: &[u8]) {
     show::status(s);
-    if image {
-        show::image(v, out);
-    } else {
-        show::bytes(out);
+    match wanted {
+        Wanted::Digest => show::bytes(out),
+        Wanted::EndState => show::image(v, out),
     }
     show::newline();
 }
 
-pub fn name(image: bool) {
-    if image {
-        show::word(b"end-state");
-    } else {
-        show::word(b"digest");
-    }
-}
-
-fn whole_into(image: bool, v: u8, message: &[u8], out: &mut [u8]) {
-    name(image);
+fn whole_into(wanted: Wanted, v: u32, message: &[u8], out: &mut [u8]) {
+    name(wanted);
     show::variant(v);
     show::bytes(message);
     show::space();
-    let status = hasher::whole(v, message, image, out);
-    result(image, v, status, out);
+    let status = hasher::whole(v, message, wanted, out);
+    result(wanted, v, status, out);
+}
+
+// The bytes of a result, of which no variant has more than 36.
+pub fn size(v: u8, wanted: Wanted) -> usize
+    ensures { λ r. ⌜ r ≤ 36 ⌝ }
+{
+    let n = hasher::result_size(v, wanted);
+    if 36 < n {
+        return 36;
+    }
+    n
 }
 
 // One call, with an output of n bytes.
-fn whole(image: bool, v: u8, message: &[u8], n: usize)
-    requires { ⌜ n ≤ 38 ⌝ }
+fn whole(wanted: Wanted, v: u32, message: &[u8], n: usize)
+    requires { ⌜ n ≤ 36 ⌝ }
 {
-    let mut out = [0xA0u8; 38];
-    whole_into(image, v, message, &mut out[0..n]);
-}
-
-// The message's digest and end state.
-fn both(v: u8, message: &[u8])
-    requires { ⌜ (1 ≤ v) × (v ≤ 10) ⌝ }
-{
-    whole(false, v, message, size(v, false));
-    whole(true, v, message, size(v, true));
+    let mut out = [0xA0u8; 36];
+    whole_into(wanted, v, message, &mut out[0..n]);
 }
 
 // One byte at a time.
@@ -73,55 +63,40 @@ fn by_bytes(h: Hasher, message: &[u8]) -> Hasher {
     g
 }
 
-// Cut in the middle.
-fn by_halves(h: Hasher, message: &[u8]) -> Hasher {
-    let n = message.len() / 2;
-    let u = hasher::update(h, &message[0..n]);
-    let w = hasher::update(u.hasher, &message[n..]);
-    w.hasher
-}
-
-fn taken(halves: bool, h: Hasher, message: &[u8]) -> Hasher {
-    if halves {
-        show::word(b"halves");
-        by_halves(h, message)
-    } else {
-        show::word(b"pieces");
-        by_bytes(h, message)
-    }
-}
-
-fn pieces_into(halves: bool, v: u8, message: &[u8], out: &mut [u8]) {
-    let begun = hasher::start(v);
-    let h = taken(halves, begun.hasher, message);
+fn pieces_into(v: u32, message: &[u8], out: &mut [u8]) {
+    show::word(b"pieces");
     show::variant(v);
     show::bytes(message);
     show::space();
+    let begun = hasher::start(v);
+    let h = by_bytes(begun.hasher, message);
     let ended = hasher::finish(h);
     let status = hasher::digest(ended.hasher, out);
-    result(false, v, status, out);
+    result(Wanted::Digest, v, status, out);
 }
 
 // The digest of the message taken in pieces.
-fn pieces(halves: bool, v: u8, message: &[u8])
-    requires { ⌜ (1 ≤ v) × (v ≤ 10) ⌝ }
+fn pieces(v: u32, message: &[u8], n: usize)
+    requires { ⌜ n ≤ 36 ⌝ }
 {
-    let mut out = [0xA0u8; 38];
-    let n = size(v, false);
-    pieces_into(halves, v, message, &mut out[0..n]);
+    let mut out = [0xA0u8; 36];
+    pieces_into(v, message, &mut out[0..n]);
 }
 
-fn example(v: u8, message: &[u8])
-    requires { ⌜ (1 ≤ v) × (v ≤ 10) ⌝ }
-{
-    both(v, message);
-    pieces(false, v, message);
-    pieces(true, v, message);
+// Digest and end state in one call, and the digest byte by byte.
+fn example(v: u8, message: &[u8]) {
+    let n = size(v, Wanted::Digest);
+    whole(Wanted::Digest, v as u32, message, n);
+    whole(
+        Wanted::EndState,
+        v as u32,
+        message,
+        size(v, Wanted::EndState),
+    );
+    pieces(v as u32, message, n);
 }
 
-fn annex_b(v: u8)
-    requires { ⌜ (1 ≤ v) × (v ≤ 10) ⌝ }
-{
+fn annex_b(v: u8) {
     if v <= 5 {
         example(v, b"The PHOTON Lightweight Hash Functions Family");
     } else {
@@ -129,37 +104,21 @@ fn annex_b(v: u8)
     }
 }
 
-// An output one byte too short, and one with two bytes more, which stay.
-fn other_lengths(v: u8)
-    requires { ⌜ (1 ≤ v) × (v ≤ 10) ⌝ }
-{
-    whole(false, v, b"\xAB\xCD", size(v, false) - 1);
-    whole(true, v, b"\xAB\xCD", size(v, true) - 1);
-    whole(false, v, b"\xAB\xCD", size(v, false) + 2);
-}
-
-fn of_variant(v: u8)
-    requires { ⌜ (1 ≤ v) × (v ≤ 10) ⌝ }
-{
-    annex_b(v);
-    example(v, b"");
-    other_lengths(v);
-}
-
-// No variant: before an output that is too short.
-fn unknown(v: u8) {
-    whole(false, v, b"\xAB\xCD", 36);
-    whole(true, v, b"\xAB\xCD", 36);
-    whole(false, v, b"", 0);
-}
-
-pub fn all() {
+fn examples() {
     let mut v: u8 = 1;
     while v <= 10 {
-        of_variant(v);
+        annex_b(v);
         v += 1;
     }
-    unknown(0);
-    unknown(11);
-    unknown(255);
+}
+
+// No bytes; an output with two bytes more, which stay; outputs one byte too short; numbers of no variant.
+pub fn all() {
+    examples();
+    whole(Wanted::Digest, 1, b"", 10);
+    whole(Wanted::Digest, 1, b"\xAB\xCD", 12);
+    whole(Wanted::Digest, 1, b"\xAB\xCD", 9);
+    whole(Wanted::EndState, 1, b"\xAB\xCD", 12);
+    whole(Wanted::Digest, 0, b"\xAB\xCD", 36);
+    whole(Wanted::EndState, 257, b"\xAB\xCD", 36);
 }
