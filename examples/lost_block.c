@@ -1,8 +1,12 @@
 /*
- * Hashes a file in pieces of 64 bytes, then forgets one block of it and finds
- * that block again from the end state.
+ * Hashes a file in pieces of 64 bytes and keeps its end state. Then a block of
+ * the file is spoilt, which shows in its end state, and is found again from
+ * the end state that was kept.
  *
  *     lost_block FILE
+ *
+ * The end state is kept and not the digest: that one changed block always
+ * shows is proved of end states, and two of them may have the same digest.
  *
  * Exit status: 0; 1 the file cannot be read or is refused; 2 wrong arguments.
  */
@@ -13,12 +17,11 @@
 
 enum {
     VARIANT = WICKSLATE_PHOTON_256,
-    DIGEST_BYTES = WICKSLATE_PHOTON_256_DIGEST_BYTES,
     IMAGE_BYTES = WICKSLATE_PHOTON_256_IMAGE_BYTES,
     BLOCK_BYTES = WICKSLATE_PHOTON_256_BLOCK_BYTES,
     PIECE_BYTES = 64,
-    MOST_BYTES = 4096, /* what this program keeps of a file */
-    PLACE = 12         /* the block that it forgets */
+    MOST_BYTES = 4096, /* what this program takes of a file */
+    PLACE = 12         /* the block that it spoils */
 };
 
 static int complain(const char *what)
@@ -27,24 +30,25 @@ static int complain(const char *what)
     return 1;
 }
 
-static int refused(const char *what, uint8_t answer)
+static int refused(const char *what, uint32_t answer)
 {
-    fprintf(stderr, "lost_block: %s: refused %u\n", what, (unsigned)answer);
+    fprintf(stderr, "lost_block: %s: refused %lu\n", what, (unsigned long)WICKSLATE_NUMBER(answer));
     return 1;
 }
 
-static void print_bytes(const uint8_t *bytes, size_t length)
+static void print_bytes(const char *name, const uint8_t *bytes, size_t length)
 {
+    printf("%s ", name);
     for (size_t k = 0; k < length; k++)
         printf("%02x", (unsigned)bytes[k]);
     putchar('\n');
 }
 
 /* Takes the file to its end, in pieces. Gives the first refusal, if any. */
-static uint8_t hash_file(wickslate_hasher *h, FILE *file)
+static uint32_t hash_file(wickslate_hasher *h, FILE *file)
 {
-    uint8_t piece[PIECE_BYTES];
-    uint8_t answer = wickslate_start(h, VARIANT);
+    uint8_t piece[PIECE_BYTES] = {0};
+    uint32_t answer = wickslate_start(h, VARIANT);
     size_t got = sizeof piece;
     while (answer == WICKSLATE_DONE && got == sizeof piece) {
         got = fread(piece, 1, sizeof piece, file);
@@ -53,56 +57,64 @@ static uint8_t hash_file(wickslate_hasher *h, FILE *file)
     return answer == WICKSLATE_DONE ? wickslate_finish(h) : answer;
 }
 
-/* Prints the digest of the file, and gives the image of its end state. */
-static int show_digest(FILE *file, uint8_t image[IMAGE_BYTES])
+/* Hashes the file and prints its end state, to be kept. */
+static int keep_end_state(FILE *file, uint8_t kept[IMAGE_BYTES])
 {
-    wickslate_hasher h;
-    uint8_t digest[DIGEST_BYTES];
-    uint8_t answer = hash_file(&h, file);
+    wickslate_hasher h = {0};
+    uint32_t answer = hash_file(&h, file);
     if (ferror(file))
         return complain("the file cannot be read");
+    if (answer == WICKSLATE_DONE)
+        answer = wickslate_end_state(&h, kept, IMAGE_BYTES);
     if (answer != WICKSLATE_DONE)
         return refused("hash", answer);
-    answer = wickslate_digest(&h, digest, sizeof digest);
-    if (answer == WICKSLATE_DONE)
-        answer = wickslate_end_state(&h, image, IMAGE_BYTES);
-    if (answer != WICKSLATE_DONE)
-        return refused("read", answer);
-    printf("digest ");
-    print_bytes(digest, sizeof digest);
-    printf("end state ");
-    print_bytes(image, IMAGE_BYTES);
+    print_bytes("end state", kept, IMAGE_BYTES);
     return 0;
 }
 
-/* Reads the file again, loses a block, and prints it. */
-static int show_block(FILE *file, const uint8_t image[IMAGE_BYTES])
+/* Tells whether the message still ends in the state that was kept. */
+static int is_kept(const uint8_t *message, size_t length, const uint8_t kept[IMAGE_BYTES])
+{
+    uint8_t image[IMAGE_BYTES] = {0};
+    uint32_t answer = wickslate_whole(VARIANT, message, length, WICKSLATE_END_STATE, image, sizeof image);
+    return answer == WICKSLATE_DONE && memcmp(image, kept, IMAGE_BYTES) == 0;
+}
+
+/* Reads the file again, spoils a block of it, and mends it. */
+static int mend_block(FILE *file, const uint8_t kept[IMAGE_BYTES])
 {
     static uint8_t message[MOST_BYTES + 1];
-    uint8_t block[BLOCK_BYTES];
-    uint8_t answer;
+    uint8_t block[BLOCK_BYTES] = {0};
+    uint8_t *spoilt = message + PLACE * BLOCK_BYTES;
+    uint32_t answer;
     size_t length;
     rewind(file);
     length = fread(message, 1, sizeof message, file);
     if (ferror(file))
         return complain("the file cannot be read");
     if (length > MOST_BYTES)
-        return complain("the file is longer than this program keeps");
-    if (length >= (PLACE + 1) * BLOCK_BYTES)
-        memset(message + PLACE * BLOCK_BYTES, 0, BLOCK_BYTES);
-    answer = wickslate_recover(VARIANT, message, length, PLACE, image, IMAGE_BYTES, block, sizeof block);
-    if (answer == WICKSLATE_OUT_OF_RANGE)
+        return complain("the file is longer than this program takes");
+    if (length < (PLACE + 1) * BLOCK_BYTES)
         return complain("the file has no such block");
+
+    for (size_t k = 0; k < BLOCK_BYTES; k++)
+        spoilt[k] ^= 0xff;
+    if (!is_kept(message, length, kept))
+        printf("block %d spoilt: another end state\n", (int)PLACE);
+
+    answer = wickslate_recover(VARIANT, message, length, PLACE, kept, IMAGE_BYTES, block, sizeof block);
     if (answer != WICKSLATE_DONE)
         return refused("recover", answer);
-    printf("block %d ", (int)PLACE);
-    print_bytes(block, sizeof block);
+    print_bytes("found", block, sizeof block);
+    memcpy(spoilt, block, sizeof block);
+    if (is_kept(message, length, kept))
+        printf("block %d mended: the end state that was kept\n", (int)PLACE);
     return 0;
 }
 
 int main(int argc, char **argv)
 {
-    uint8_t image[IMAGE_BYTES];
+    uint8_t kept[IMAGE_BYTES] = {0};
     FILE *file;
     int status;
     if (argc != 2) {
@@ -114,9 +126,9 @@ int main(int argc, char **argv)
         perror(argv[1]);
         return 1;
     }
-    status = show_digest(file, image);
+    status = keep_end_state(file, kept);
     if (status == 0)
-        status = show_block(file, image);
+        status = mend_block(file, kept);
     fclose(file);
     return status;
 }

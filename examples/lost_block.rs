@@ -1,7 +1,11 @@
-//! Hashes a file in pieces of 64 bytes, then forgets one block of it and
-//! finds that block again from the end state.
+//! Hashes a file in pieces of 64 bytes and keeps its end state. Then a block
+//! of the file is spoilt, which shows in its end state, and is found again
+//! from the end state that was kept.
 //!
 //!     lost_block FILE
+//!
+//! The end state is kept and not the digest: that one changed block always
+//! shows is proved of end states, and two of them may have the same digest.
 //!
 //! Exit status: 0; 1 the file cannot be read or is refused; 2 wrong arguments.
 
@@ -17,20 +21,22 @@ use std::process::ExitCode;
 #[path = "../conformance/src/wickslate.rs"]
 mod wickslate;
 
-use wickslate::Hasher;
+use wickslate::{Answer, Hasher};
 
 /// PHOTON-256 and its sizes in bytes.
-const VARIANT: u8 = 4;
-const DIGEST_BYTES: usize = 28;
+const VARIANT: u32 = 4;
 const IMAGE_BYTES: usize = 32;
 const BLOCK_BYTES: usize = 4;
 
-/// The block that is forgotten.
+/// What [`wickslate::whole`] is asked for.
+const END_STATE: u32 = 1;
+
+/// The block that is spoilt.
 const PLACE: usize = 12;
 
 /// Makes an answer a result.
-fn done(call: &str, answer: u8) -> Result<(), String> {
-    match answer {
+fn done(call: &str, answer: Answer) -> Result<(), String> {
+    match answer.number() {
         0 => Ok(()),
         refusal => Err(format!("{call}: refused {refusal}")),
     }
@@ -41,8 +47,8 @@ fn print_bytes(name: &str, bytes: &[u8]) {
     println!("{name} {digits}");
 }
 
-/// Takes the file to its end, in pieces.
-fn hash_file(path: &Path) -> Result<Hasher, Box<dyn Error>> {
+/// Takes the file to its end, in pieces, and gives its end state.
+fn end_state_of_file(path: &Path) -> Result<[u8; IMAGE_BYTES], Box<dyn Error>> {
     let mut file = File::open(path)?;
     let mut h = Hasher::default();
     done("start", wickslate::start(&mut h, VARIANT))?;
@@ -55,7 +61,17 @@ fn hash_file(path: &Path) -> Result<Hasher, Box<dyn Error>> {
         done("update", wickslate::update(&mut h, &piece[..got]))?;
     }
     done("finish", wickslate::finish(&mut h))?;
-    Ok(h)
+    let mut image = [0; IMAGE_BYTES];
+    done("end state", wickslate::end_state(&h, &mut image))?;
+    Ok(image)
+}
+
+/// The end state of a message in one call.
+fn end_state(message: &[u8]) -> Result<[u8; IMAGE_BYTES], String> {
+    let mut image = [0; IMAGE_BYTES];
+    let answer = wickslate::whole(VARIANT, message, END_STATE, &mut image);
+    done("whole", answer)?;
+    Ok(image)
 }
 
 /// The block at a place of a message that ended in this state. What the
@@ -68,21 +84,24 @@ fn lost_block(message: &[u8], place: usize, image: &[u8]) -> Result<[u8; BLOCK_B
 }
 
 fn run(path: &Path) -> Result<(), Box<dyn Error>> {
-    let h = hash_file(path)?;
-    let mut digest = [0; DIGEST_BYTES];
-    done("digest", wickslate::digest(&h, &mut digest))?;
-    print_bytes("digest", &digest);
-    let mut image = [0; IMAGE_BYTES];
-    done("end state", wickslate::end_state(&h, &mut image))?;
-    print_bytes("end state", &image);
+    let kept = end_state_of_file(path)?;
+    print_bytes("end state", &kept);
 
     let mut message = fs::read(path)?;
-    let first = PLACE * BLOCK_BYTES;
-    if let Some(forgotten) = message.get_mut(first..first + BLOCK_BYTES) {
-        forgotten.fill(0);
+    let bytes = PLACE * BLOCK_BYTES..(PLACE + 1) * BLOCK_BYTES;
+    let spoilt = message.get_mut(bytes.clone());
+    let spoilt = spoilt.ok_or("the file has no such block")?;
+    spoilt.iter_mut().for_each(|byte| *byte ^= 0xff);
+    if end_state(&message)? != kept {
+        println!("block {PLACE} spoilt: another end state");
     }
-    let block = lost_block(&message, PLACE, &image)?;
-    print_bytes(&format!("block {PLACE}"), &block);
+
+    let block = lost_block(&message, PLACE, &kept)?;
+    print_bytes("found", &block);
+    message[bytes].copy_from_slice(&block);
+    if end_state(&message)? == kept {
+        println!("block {PLACE} mended: the end state that was kept");
+    }
     Ok(())
 }
 

@@ -6,12 +6,13 @@
  * calls, uses no heap and needs only memcpy from outside; calls on different
  * memory can run at the same time.
  *
- * THE ANSWER. Every function answers with WICKSLATE_DONE or with the number
- * of one refusal. The refusals listed for a function are checked in the order
- * of the list, and the first that holds is the answer. A refused call leaves
- * every byte that was lent to it as it was. Refusals 10 and 11 come with the
- * number of an entry, which is part of the answer and is written where the
- * caller says.
+ * THE ANSWER. Every function answers with WICKSLATE_DONE, which is 0, or with
+ * one refusal: its number in the low byte and, for 10 and 11, the number of an
+ * entry above it. WICKSLATE_NUMBER and WICKSLATE_ENTRY take an answer apart.
+ * The refusals listed for a function are checked in the order of the list, and
+ * the first that holds is the answer. A refused call leaves all lent bytes and
+ * numbers, and every field of a lent running hash or cursor, as they were; it
+ * may store the same values there again.
  *
  * WHAT IS PROVED. Each function below is proved in its source language, for
  * every variant number, running hash, length and content: it ends, touches
@@ -24,12 +25,17 @@
  *  - no pointer is null, not even with length 0. With length 0 any other
  *    pointer will do, and nothing is read or written there;
  *  - each pointer is the address of as many bytes as the length beside it
- *    says, or of one wickslate_hasher or uint32_t, aligned for its type. What
- *    a call reads has been set; an output need not be, nor the `h` of
- *    wickslate_start;
+ *    says, or of one wickslate_hasher, wickslate_cursor or uint32_t, aligned
+ *    for its type; the list of a cursor too;
+ *  - what it is the address of has been set, also an output, and also the `h`
+ *    of wickslate_start, whose fields are read: `= {0}` will do;
  *  - memory that a call may write overlaps nothing else that is lent to the
  *    same call, and no other thread uses it during the call. Memory that is
- *    only read may overlap and may be shared.
+ *    only read may overlap and may be shared;
+ *  - the stack has room: the proof is about a machine on which it never ends.
+ *    The bytes that each function is said to need below are at least 64 more
+ *    than any call, done or refused, was seen to use; a test holds the archive
+ *    to that.
  * The compiler's back end, the linker, and this header are outside the proof.
  *
  * Nothing is said about time, power or other side channels, and no memory is
@@ -55,6 +61,13 @@
 #define WICKSLATE_SPONGENT_272 10
 
 /* ---- Answers ----------------------------------------------------------- */
+
+/*
+ * The number of an answer's refusal, and the entry that 10 and 11 name. With
+ * 10 and 11 compare the number; any other answer is its own number.
+ */
+#define WICKSLATE_NUMBER(answer) ((uint32_t)(answer) & 0xffu)
+#define WICKSLATE_ENTRY(answer) ((uint32_t)(answer) >> 8)
 
 #define WICKSLATE_DONE 0
 #define WICKSLATE_UNKNOWN_VARIANT 1  /* the variant is not 1 to 10 */
@@ -132,22 +145,21 @@
 #define WICKSLATE_CLOSED 1
 
 /*
- * A message taken in pieces. Any 52 bytes may be lent as one: what is not
+ * A message taken in pieces. Any 48 bytes may be lent as one: what is not
  * well formed is refused with 2. Well formed means: the variant is 1 to 10,
  * the stage open or closed, the total at most 16,777,215, the state's bits
  * past the variant's state zero, the held bits past those of a part-filled
  * block zero, and none held when closed.
  *
  * It can be copied, stored and brought back; calls go on from what it holds.
- * The five bytes between and behind the fields mean nothing and are never
- * looked at. A refused call leaves them; a call that is done may put anything
- * there, even what lay on the stack: send or store the fields, or clear those
- * bytes first.
+ * The byte behind the fields means nothing and is outside the proof. No call
+ * looks at it; one that may write `h` may put anything there, even what lay on
+ * the stack: send or store the fields, or clear that byte first.
  */
 typedef struct wickslate_hasher {
+    uint32_t total;    /* the message bytes taken so far */
     uint8_t variant;   /* 1 to 10 */
     uint8_t stage;     /* WICKSLATE_OPEN or WICKSLATE_CLOSED */
-    uint32_t total;    /* the message bytes taken so far */
     uint8_t state[36]; /* the state's image, and zeros */
     uint8_t held[5];   /* the bits that fill no block yet, and zeros */
 } wickslate_hasher;
@@ -160,14 +172,35 @@ typedef struct wickslate_hasher {
 #define WICKSLATE_ASSERT(name, condition) typedef char wickslate_assert_##name[(condition) ? 1 : -1]
 #endif
 
-WICKSLATE_ASSERT(size_of_hasher, sizeof(wickslate_hasher) == 52);
-WICKSLATE_ASSERT(offset_of_variant, offsetof(wickslate_hasher, variant) == 0);
-WICKSLATE_ASSERT(offset_of_stage, offsetof(wickslate_hasher, stage) == 1);
-WICKSLATE_ASSERT(offset_of_total, offsetof(wickslate_hasher, total) == 4);
-WICKSLATE_ASSERT(offset_of_state, offsetof(wickslate_hasher, state) == 8);
-WICKSLATE_ASSERT(offset_of_held, offsetof(wickslate_hasher, held) == 44);
+WICKSLATE_ASSERT(size_of_hasher, sizeof(wickslate_hasher) == 48);
+WICKSLATE_ASSERT(offset_of_total, offsetof(wickslate_hasher, total) == 0);
+WICKSLATE_ASSERT(offset_of_variant, offsetof(wickslate_hasher, variant) == 4);
+WICKSLATE_ASSERT(offset_of_stage, offsetof(wickslate_hasher, stage) == 5);
+WICKSLATE_ASSERT(offset_of_state, offsetof(wickslate_hasher, state) == 6);
+WICKSLATE_ASSERT(offset_of_held, offsetof(wickslate_hasher, held) == 42);
+
+/* A segment list and the number of its next entry, from 0. The list stays the caller's. */
+typedef struct wickslate_cursor {
+    const uint8_t *list;
+    size_t list_length;
+    size_t next;
+} wickslate_cursor;
+
+WICKSLATE_ASSERT(size_of_cursor, sizeof(wickslate_cursor) == 24);
+WICKSLATE_ASSERT(offset_of_list, offsetof(wickslate_cursor, list) == 0);
+WICKSLATE_ASSERT(offset_of_list_length, offsetof(wickslate_cursor, list_length) == 8);
+WICKSLATE_ASSERT(offset_of_next, offsetof(wickslate_cursor, next) == 16);
 
 #undef WICKSLATE_ASSERT
+
+/* ---- The functions ----------------------------------------------------- */
+
+/* gcc and clang warn of an answer that is not looked at, and of a null. */
+#if defined(__GNUC__)
+#define WICKSLATE_CALL __attribute__((warn_unused_result, nonnull))
+#else
+#define WICKSLATE_CALL
+#endif
 
 #ifdef __cplusplus
 extern "C" {
@@ -178,25 +211,28 @@ extern "C" {
  *
  * Refusals: 1.
  * Writes:   `h`, if done.
+ * Stack:    576 bytes.
  *
  *     wickslate_hasher h = {0};
  *     if (wickslate_start(&h, WICKSLATE_PHOTON_256) != WICKSLATE_DONE)
  *         return -1;
  */
-uint8_t wickslate_start(wickslate_hasher *h, uint8_t variant);
+WICKSLATE_CALL uint32_t wickslate_start(wickslate_hasher *h, uint32_t variant);
 
 /*
  * Takes the next piece of the message. Where a message is cut into pieces
- * makes no difference to its digest, and a piece may be empty.
+ * makes no difference to its digest and its end state, and a piece may be
+ * empty.
  *
  * Refusals: 2; 3 if closed; 4 if the total would pass 16,777,215.
  * Writes:   `h`, if done. `piece` is only read.
+ * Stack:    3,136 bytes.
  *
- *     uint8_t answer = wickslate_update(&h, buffer, received);
+ *     uint32_t answer = wickslate_update(&h, buffer, received);
  *     if (answer == WICKSLATE_TOO_LONG)
- *         return drop_table();
+ *         return give_up();
  */
-uint8_t wickslate_update(wickslate_hasher *h, const uint8_t *piece, size_t piece_length);
+WICKSLATE_CALL uint32_t wickslate_update(wickslate_hasher *h, const uint8_t *piece, size_t piece_length);
 
 /*
  * Ends the message: pads it and takes its last block. `h` is closed then, and
@@ -204,37 +240,44 @@ uint8_t wickslate_update(wickslate_hasher *h, const uint8_t *piece, size_t piece
  *
  * Refusals: 2; 3 if closed already.
  * Writes:   `h`, if done.
+ * Stack:    3,072 bytes.
  *
  *     if (wickslate_finish(&h) != WICKSLATE_DONE)
  *         return -1;
  */
-uint8_t wickslate_finish(wickslate_hasher *h);
+WICKSLATE_CALL uint32_t wickslate_finish(wickslate_hasher *h);
+
+/*
+ * Writes the image of a finished message's end state over the front of `out`.
+ * It can be read any number of times. Two messages of equal length that differ
+ * only within one block always have different end states.
+ *
+ * Refusals: 2; 3 if still open; 5.
+ * Writes:   the variant's image bytes, if done. What lies behind them in
+ *           `out` stays, and so does `h`.
+ * Stack:    1,024 bytes.
+ *
+ *     uint8_t image[WICKSLATE_PHOTON_256_IMAGE_BYTES] = {0};
+ *     if (wickslate_end_state(&h, image, sizeof image) == WICKSLATE_DONE)
+ *         keep(image, sizeof image);
+ */
+WICKSLATE_CALL uint32_t wickslate_end_state(const wickslate_hasher *h, uint8_t *out, size_t out_length);
 
 /*
  * Writes the digest of a finished message over the front of `out`. It can be
- * read any number of times.
+ * read any number of times. A digest is squeezed out of the end state, and
+ * different end states may have the same one.
  *
  * Refusals: 2; 3 if still open; 5.
  * Writes:   the variant's digest bytes, if done. What lies behind them in
  *           `out` stays, and so does `h`.
+ * Stack:    2,624 bytes.
  *
  *     uint8_t digest[WICKSLATE_PHOTON_256_DIGEST_BYTES] = {0};
  *     if (wickslate_digest(&h, digest, sizeof digest) == WICKSLATE_DONE)
  *         send(digest, sizeof digest);
  */
-uint8_t wickslate_digest(const wickslate_hasher *h, uint8_t *out, size_t out_length);
-
-/*
- * Writes the image of a finished message's end state over the front of `out`.
- *
- * Refusals: 2; 3 if still open; 5.
- * Writes:   the variant's image bytes, if done. What lies behind them in
- *           `out` stays, and so does `h`.
- *
- *     uint8_t image[WICKSLATE_PHOTON_256_IMAGE_BYTES] = {0};
- *     uint8_t answer = wickslate_end_state(&h, image, sizeof image);
- */
-uint8_t wickslate_end_state(const wickslate_hasher *h, uint8_t *out, size_t out_length);
+WICKSLATE_CALL uint32_t wickslate_digest(const wickslate_hasher *h, uint8_t *out, size_t out_length);
 
 /*
  * A whole message in one call: its digest, or the image of its end state if
@@ -243,24 +286,29 @@ uint8_t wickslate_end_state(const wickslate_hasher *h, uint8_t *out, size_t out_
  * Refusals: 1; 4; 5.
  * Writes:   the result over the front of `out`, if done. What lies behind it
  *           stays. `message` is only read.
+ * Stack:    3,520 bytes.
  *
- *     uint8_t digest[WICKSLATE_MOST_DIGEST_BYTES] = {0};
- *     uint8_t answer = wickslate_whole(WICKSLATE_SPONGENT_176, table, table_length,
- *                                      WICKSLATE_DIGEST, digest, sizeof digest);
+ *     uint8_t image[WICKSLATE_MOST_IMAGE_BYTES] = {0};
+ *     uint32_t answer = wickslate_whole(WICKSLATE_SPONGENT_176, table, table_length,
+ *                                       WICKSLATE_END_STATE, image, sizeof image);
+ *     if (answer != WICKSLATE_DONE)
+ *         return -1;
  */
-uint8_t wickslate_whole(uint8_t variant, const uint8_t *message, size_t message_length,
-                        uint8_t wanted, uint8_t *out, size_t out_length);
+WICKSLATE_CALL uint32_t wickslate_whole(uint32_t variant, const uint8_t *message, size_t message_length,
+                                        uint32_t wanted, uint8_t *out, size_t out_length);
 
 /*
  * Runs the variant's permutation on an image.
  *
  * Refusals: 1; 6.
  * Writes:   the whole of `image`, if done.
+ * Stack:    2,368 bytes.
  *
  *     uint8_t image[WICKSLATE_SPONGENT_88_IMAGE_BYTES] = {0};
- *     uint8_t answer = wickslate_permute(WICKSLATE_SPONGENT_88, image, sizeof image);
+ *     if (wickslate_permute(WICKSLATE_SPONGENT_88, image, sizeof image) != WICKSLATE_DONE)
+ *         return -1;
  */
-uint8_t wickslate_permute(uint8_t variant, uint8_t *image, size_t image_length);
+WICKSLATE_CALL uint32_t wickslate_permute(uint32_t variant, uint8_t *image, size_t image_length);
 
 /*
  * Runs the inverse of the variant's permutation on an image: it takes back
@@ -268,11 +316,13 @@ uint8_t wickslate_permute(uint8_t variant, uint8_t *image, size_t image_length);
  *
  * Refusals: 1; 6.
  * Writes:   the whole of `image`, if done.
+ * Stack:    2,560 bytes.
  *
  *     uint8_t image[WICKSLATE_SPONGENT_88_IMAGE_BYTES] = {0};
- *     uint8_t answer = wickslate_unpermute(WICKSLATE_SPONGENT_88, image, sizeof image);
+ *     if (wickslate_unpermute(WICKSLATE_SPONGENT_88, image, sizeof image) != WICKSLATE_DONE)
+ *         return -1;
  */
-uint8_t wickslate_unpermute(uint8_t variant, uint8_t *image, size_t image_length);
+WICKSLATE_CALL uint32_t wickslate_unpermute(uint32_t variant, uint8_t *image, size_t image_length);
 
 /*
  * The lost block: what stood at `place`, counted from 0, among the blocks of
@@ -285,16 +335,17 @@ uint8_t wickslate_unpermute(uint8_t variant, uint8_t *image, size_t image_length
  *           no block leads to that state.
  * Writes:   the variant's block bytes over the front of `out`, if done. What
  *           lies behind them stays. `message` and `image` are only read.
+ * Stack:    3,200 bytes.
  *
  *     uint8_t block[WICKSLATE_MOST_BLOCK_BYTES] = {0};
- *     uint8_t answer = wickslate_recover(WICKSLATE_PHOTON_256, table, table_length, 7,
- *                                        image, WICKSLATE_PHOTON_256_IMAGE_BYTES, block, sizeof block);
+ *     uint32_t answer = wickslate_recover(WICKSLATE_PHOTON_256, table, table_length, 7,
+ *                                         image, WICKSLATE_PHOTON_256_IMAGE_BYTES, block, sizeof block);
  *     if (answer == WICKSLATE_NO_BLOCK)
  *         puts("more than that block is wrong");
  */
-uint8_t wickslate_recover(uint8_t variant, const uint8_t *message, size_t message_length,
-                          size_t place, const uint8_t *image, size_t image_length,
-                          uint8_t *out, size_t out_length);
+WICKSLATE_CALL uint32_t wickslate_recover(uint32_t variant, const uint8_t *message, size_t message_length,
+                                          size_t place, const uint8_t *image, size_t image_length,
+                                          uint8_t *out, size_t out_length);
 
 /*
  * A segment list names the parts of a buffer that make up a message. Each
@@ -307,53 +358,73 @@ uint8_t wickslate_recover(uint8_t variant, const uint8_t *message, size_t messag
  *
  * Refusals: 9; 7 if `k` is not below the number of entries.
  * Writes:   `*offset` and `*length`, if done; otherwise both stay.
+ * Stack:    128 bytes.
  *
  *     uint32_t offset = 0, length = 0;
  *     for (size_t k = 0; wickslate_entry(list, list_length, k, &offset, &length) == WICKSLATE_DONE; k++)
  *         printf("%lu bytes from %lu\n", (unsigned long)length, (unsigned long)offset);
  */
-uint8_t wickslate_entry(const uint8_t *list, size_t list_length, size_t k,
-                        uint32_t *offset, uint32_t *length);
+WICKSLATE_CALL uint32_t wickslate_entry(const uint8_t *list, size_t list_length, size_t k,
+                                        uint32_t *offset, uint32_t *length);
+
+/*
+ * Moves a cursor on by one entry. The entry that it leaves is c.next - 1
+ * after the call; wickslate_entry reads it. The bytes of the list are lent as
+ * long as the cursor is.
+ *
+ * Refusals: 9; 7 if `next` is not below the number of entries.
+ * Writes:   `next` of `*c`, if done; otherwise it stays.
+ * Stack:    128 bytes.
+ *
+ *     wickslate_cursor c = {list, list_length, 0};
+ *     uint32_t offset = 0, length = 0;
+ *     while (wickslate_advance(&c) == WICKSLATE_DONE)
+ *         if (wickslate_entry(c.list, c.list_length, c.next - 1, &offset, &length) == WICKSLATE_DONE)
+ *             printf("%lu bytes from %lu\n", (unsigned long)length, (unsigned long)offset);
+ */
+WICKSLATE_CALL uint32_t wickslate_advance(wickslate_cursor *c);
 
 /*
  * Tells whether entry `k` names a segment of the buffer. If so, the segment
  * is the bytes of `buffer` that wickslate_entry names.
  *
- * Refusals: 9; 7; 10 if the entry's offset is below the end of the entry
- *           before it (of which nothing else is checked); 11 if its end is
- *           past the buffer.
- * Writes:   `k` to `*entry` with refusals 10 and 11; otherwise `*entry` stays.
+ * Refusals: 9; 7; 10 with `k`, if the entry's offset is below the end of the
+ *           entry before it (of which nothing else is checked); 11 with `k`,
+ *           if its end is past the buffer.
+ * Writes:   nothing.
+ * Stack:    128 bytes.
  *
- *     uint32_t entry = 0;
- *     uint8_t answer = wickslate_check_entry(list, list_length, buffer, buffer_length, 0, &entry);
+ *     if (wickslate_check_entry(list, list_length, buffer, buffer_length, 0) == WICKSLATE_DONE)
+ *         puts("the first segment is sound");
  */
-uint8_t wickslate_check_entry(const uint8_t *list, size_t list_length,
-                              const uint8_t *buffer, size_t buffer_length,
-                              size_t k, uint32_t *entry);
+WICKSLATE_CALL uint32_t wickslate_check_entry(const uint8_t *list, size_t list_length,
+                                              const uint8_t *buffer, size_t buffer_length, size_t k);
 
 /*
  * The digest of the segments joined in list order, or the image of the end
  * state if `wanted` is not 0 (WICKSLATE_DIGEST, WICKSLATE_END_STATE).
  *
- * Refusals: 1; 9; then entry by entry 10 and 11, as above; 4 if the segments
- *           together are too long; 5.
+ * Refusals: 1; 9; then entry by entry 10 and 11, as above and with the number
+ *           of the entry; 4 if the segments together are too long; 5.
  * Writes:   the result over the front of `out`, if done. What lies behind it
- *           stays. The number of the first refused entry goes to `*entry` with
- *           refusals 10 and 11; otherwise `*entry` stays.
+ *           stays. `list` and `buffer` are only read.
+ * Stack:    3,584 bytes.
  *
- *     uint8_t digest[WICKSLATE_PHOTON_144_DIGEST_BYTES] = {0};
- *     uint32_t entry = 0;
- *     uint8_t answer = wickslate_digest_list(WICKSLATE_PHOTON_144, list, list_length, buffer, buffer_length,
- *                                            WICKSLATE_DIGEST, digest, sizeof digest, &entry);
- *     if (answer == WICKSLATE_MISORDERED || answer == WICKSLATE_PAST_END)
- *         printf("entry %lu is wrong\n", (unsigned long)entry);
+ *     uint8_t image[WICKSLATE_PHOTON_144_IMAGE_BYTES] = {0};
+ *     uint32_t answer = wickslate_digest_list(WICKSLATE_PHOTON_144, list, list_length, buffer, buffer_length,
+ *                                             WICKSLATE_END_STATE, image, sizeof image);
+ *     uint32_t number = WICKSLATE_NUMBER(answer);
+ *     if (number == WICKSLATE_MISORDERED || number == WICKSLATE_PAST_END)
+ *         printf("entry %lu is wrong\n", (unsigned long)WICKSLATE_ENTRY(answer));
  */
-uint8_t wickslate_digest_list(uint8_t variant, const uint8_t *list, size_t list_length,
-                              const uint8_t *buffer, size_t buffer_length, uint8_t wanted,
-                              uint8_t *out, size_t out_length, uint32_t *entry);
+WICKSLATE_CALL uint32_t wickslate_digest_list(uint32_t variant, const uint8_t *list, size_t list_length,
+                                              const uint8_t *buffer, size_t buffer_length, uint32_t wanted,
+                                              uint8_t *out, size_t out_length);
 
 #ifdef __cplusplus
 }
 #endif
+
+#undef WICKSLATE_CALL
 
 #endif

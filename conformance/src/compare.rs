@@ -7,8 +7,13 @@ use wickslate_reference as reference;
 use wickslate_reference::running::{self, Running};
 use wickslate_reference::segments::{self, Refusal};
 
-use crate::lent::{marked, only_read, Bytes, Value};
-use crate::wickslate::{self, Hasher};
+use crate::lent::{filled_behind, only_read, Bytes, Value};
+use crate::wickslate::{self, Answer, Cursor, Hasher};
+
+/// The answer of a refusal that names an entry.
+pub const fn at(refusal: u32, entry: u32) -> u32 {
+    refusal + 256 * entry
+}
 
 /// The fields of a running hash.
 pub fn fields(h: &Hasher) -> Running {
@@ -23,7 +28,7 @@ pub fn fields(h: &Hasher) -> Running {
 
 /// A running hash with these fields.
 pub fn hasher(fields: &Running) -> Hasher {
-    marked(Hasher {
+    filled_behind(Hasher {
         variant: fields.variant,
         stage: fields.stage,
         total: fields.total,
@@ -36,29 +41,30 @@ pub fn hasher(fields: &Running) -> Hasher {
 /// Makes a call that lends a running hash, and expects this of it.
 fn expect_hasher(
     before: Hasher,
-    expected: (u8, Running),
-    call: impl FnOnce(&mut Hasher) -> u8,
-) -> (u8, Hasher) {
-    let before = marked(before);
+    (refusal, expected): (u8, Running),
+    call: impl FnOnce(&mut Hasher) -> Answer,
+) -> (u32, Hasher) {
+    let before = filled_behind(before);
     let mut lent = Value::new(before);
-    let answer = call(lent.lend());
+    let Answer(answer) = call(lent.lend());
     let after = lent.take_back();
-    assert_eq!((answer, fields(&after)), expected, "from {before:?}");
+    let given = (answer, fields(&after));
+    assert_eq!(given, (refusal.into(), expected), "from {before:?}");
     if answer != 0 {
         assert_eq!(after, before, "refusal {answer} changed the running hash");
     }
-    (answer, marked(after))
+    (answer, filled_behind(after))
 }
 
 /// Makes a call that lends an output holding `before`, and expects this of
 /// it: the answer and what the output holds then.
 fn expect_bytes(
     before: &[u8],
-    expected: (u8, Vec<u8>),
-    call: impl FnOnce(&mut [u8]) -> u8,
-) -> (u8, Vec<u8>) {
+    expected: (u32, Vec<u8>),
+    call: impl FnOnce(&mut [u8]) -> Answer,
+) -> (u32, Vec<u8>) {
     let mut lent = Bytes::new(before);
-    let answer = call(lent.lend());
+    let Answer(answer) = call(lent.lend());
     let after = lent.take_back();
     assert_eq!((answer, &after), (expected.0, &expected.1));
     if answer != 0 {
@@ -68,13 +74,13 @@ fn expect_bytes(
 }
 
 /// What the call leaves in a copy of the output.
-fn with_copy(before: &[u8], call: impl FnOnce(&mut [u8]) -> u8) -> (u8, Vec<u8>) {
+fn with_copy(before: &[u8], call: impl FnOnce(&mut [u8]) -> u8) -> (u32, Vec<u8>) {
     let mut after = before.to_vec();
-    (call(&mut after), after)
+    (call(&mut after).into(), after)
 }
 
 /// Begins a message.
-pub fn start(h: Hasher, variant: u8) -> (u8, Hasher) {
+pub fn start(h: Hasher, variant: u32) -> (u32, Hasher) {
     let expected = match running::start(variant) {
         (0, begun) => (0, begun),
         (refusal, _) => (refusal, fields(&h)),
@@ -83,7 +89,7 @@ pub fn start(h: Hasher, variant: u8) -> (u8, Hasher) {
 }
 
 /// Takes a piece.
-pub fn update(h: Hasher, piece: &[u8]) -> (u8, Hasher) {
+pub fn update(h: Hasher, piece: &[u8]) -> (u32, Hasher) {
     let expected = fields(&h).update(piece);
     only_read(&[piece], || {
         expect_hasher(h, expected, |h| wickslate::update(h, piece))
@@ -91,25 +97,29 @@ pub fn update(h: Hasher, piece: &[u8]) -> (u8, Hasher) {
 }
 
 /// Ends the message.
-pub fn finish(h: Hasher) -> (u8, Hasher) {
+pub fn finish(h: Hasher) -> (u32, Hasher) {
     expect_hasher(h, fields(&h).finish(), wickslate::finish)
 }
 
 /// Reads the digest, or the end state, into an output holding `before`.
-pub fn read(h: Hasher, end_state: bool, before: &[u8]) -> (u8, Vec<u8>) {
+pub fn read(h: Hasher, end_state: bool, before: &[u8]) -> (u32, Vec<u8>) {
     let expected = with_copy(before, |out| fields(&h).read(end_state, out));
     let call = match end_state {
         true => wickslate::end_state,
         false => wickslate::digest,
     };
-    let lent = Value::new(marked(h));
+    let lent = Value::new(filled_behind(h));
     let answer = expect_bytes(before, expected, |out| call(lent.get(), out));
-    assert_eq!(lent.take_back(), marked(h), "reading changes nothing");
+    assert_eq!(
+        lent.take_back(),
+        filled_behind(h),
+        "reading changes nothing"
+    );
     answer
 }
 
 /// The result of a whole message in the Rust version.
-fn result_of(variant: u8, message: &[u8], wanted: u8) -> Result<Vec<u8>, u8> {
+fn result_of(variant: u32, message: &[u8], wanted: u32) -> Result<Vec<u8>, u8> {
     match wanted {
         0 => reference::digest(variant, message),
         _ => reference::end_state(variant, message),
@@ -117,7 +127,7 @@ fn result_of(variant: u8, message: &[u8], wanted: u8) -> Result<Vec<u8>, u8> {
 }
 
 /// A whole message, into an output holding `before`.
-pub fn whole(variant: u8, message: &[u8], wanted: u8, before: &[u8]) -> (u8, Vec<u8>) {
+pub fn whole(variant: u32, message: &[u8], wanted: u32, before: &[u8]) -> (u32, Vec<u8>) {
     let expected = with_copy(before, |out| match result_of(variant, message, wanted) {
         Ok(result) => running::write_front(&result, out),
         Err(refusal) => refusal,
@@ -130,9 +140,9 @@ pub fn whole(variant: u8, message: &[u8], wanted: u8, before: &[u8]) -> (u8, Vec
 }
 
 /// The permutation on an image, or its inverse.
-pub fn permute(variant: u8, image: &[u8], back: bool) -> (u8, Vec<u8>) {
-    type Change = fn(u8, &mut [u8]) -> u8;
-    let (ours, theirs): (Change, Change) = match back {
+pub fn permute(variant: u32, image: &[u8], back: bool) -> (u32, Vec<u8>) {
+    type Change<T> = fn(u32, &mut [u8]) -> T;
+    let (ours, theirs): (Change<Answer>, Change<u8>) = match back {
         true => (wickslate::unpermute, reference::unpermute),
         false => (wickslate::permute, reference::permute),
     };
@@ -142,12 +152,12 @@ pub fn permute(variant: u8, image: &[u8], back: bool) -> (u8, Vec<u8>) {
 
 /// The lost block, into an output holding `before`.
 pub fn recover(
-    variant: u8,
+    variant: u32,
     message: &[u8],
     place: usize,
     image: &[u8],
     before: &[u8],
-) -> (u8, Vec<u8>) {
+) -> (u32, Vec<u8>) {
     let expected = with_copy(before, |out| {
         reference::recover::recover(variant, message, place, image, out)
     });
@@ -161,67 +171,63 @@ pub fn recover(
 /// What the lent numbers hold before a call.
 const OLD: u32 = 0xdead_beef;
 
-/// The answer and the number that is written, of an answer that may name an
-/// entry.
-fn named<T>(answer: Result<T, Refusal>) -> (u8, u32) {
-    match answer {
-        Ok(_) => (0, OLD),
-        Err((refusal, None)) => (refusal, OLD),
-        Err((refusal, Some(entry))) => (refusal, entry as u32),
+/// The answer that a refusal of the Rust version stands for.
+fn answer<T>(result: Result<T, Refusal>) -> u32 {
+    match result {
+        Ok(_) => 0,
+        Err((refusal, entry)) => at(refusal.into(), entry.unwrap_or(0) as u32),
     }
 }
 
 /// The offset and length of entry `k`.
-pub fn entry(list: &[u8], k: usize) -> (u8, u32, u32) {
+pub fn entry(list: &[u8], k: usize) -> (u32, u32, u32) {
     let mut offset = Value::new(OLD);
     let mut length = Value::new(OLD + 1);
-    let answer = only_read(&[list], || {
+    let Answer(given) = only_read(&[list], || {
         wickslate::entry(list, k, offset.lend(), length.lend())
     });
-    let given = (answer, offset.take_back(), length.take_back());
+    let given = (given, offset.take_back(), length.take_back());
     let expected = match segments::entry(list, k) {
         Ok((offset, length)) => (0, offset as u32, length as u32),
-        Err((refusal, _)) => (refusal, OLD, OLD + 1),
+        refused => (answer(refused), OLD, OLD + 1),
     };
     assert_eq!(given, expected, "entry {k}");
     given
 }
 
-/// Whether entry `k` names a segment: the answer, and what the entry number
-/// holds then.
-pub fn check_entry(list: &[u8], buffer: &[u8], k: usize) -> (u8, u32) {
-    let mut lent = Value::new(OLD);
-    let answer = only_read(&[list, buffer], || {
-        wickslate::check_entry(list, buffer, k, lent.lend())
-    });
-    let given = (answer, lent.take_back());
-    assert_eq!(given, named(segments::segment(list, buffer, k)));
+/// A step of the cursor at entry `next`.
+pub fn advance(list: &[u8], next: usize) -> u32 {
+    let mut cursor = Value::new(Cursor::at(list, next));
+    let Answer(given) = only_read(&[list], || wickslate::advance(cursor.lend()));
+    let expected = answer(segments::entry(list, next));
+    let after = if given == 0 { next + 1 } else { next };
+    assert_eq!(
+        (given, cursor.take_back()),
+        (expected, Cursor::at(list, after))
+    );
     given
 }
 
-/// The result over a list of segments, into an output holding `before`: the
-/// answer and the entry that it names, if any.
+/// Whether entry `k` names a segment.
+pub fn check_entry(list: &[u8], buffer: &[u8], k: usize) -> u32 {
+    let Answer(given) = only_read(&[list, buffer], || wickslate::check_entry(list, buffer, k));
+    assert_eq!(given, answer(segments::segment(list, buffer, k)));
+    given
+}
+
+/// The result over a list of segments, into an output holding `before`.
 pub fn digest_list(
-    variant: u8,
+    variant: u32,
     list: &[u8],
     buffer: &[u8],
-    wanted: u8,
+    wanted: u32,
     before: &[u8],
-) -> (u8, Option<u32>) {
-    let mut expected = before.to_vec();
-    let (refusal, entry) = named(segments::digest_list(
-        variant,
-        list,
-        buffer,
-        wanted != 0,
-        &mut expected,
-    ));
-    let mut lent = Value::new(OLD);
+) -> (u32, Vec<u8>) {
+    let mut out = before.to_vec();
+    let result = segments::digest_list(variant, list, buffer, wanted != 0, &mut out);
     only_read(&[list, buffer], || {
-        expect_bytes(before, (refusal, expected), |out| {
-            wickslate::digest_list(variant, list, buffer, wanted, out, lent.lend())
+        expect_bytes(before, (answer(result), out), |out| {
+            wickslate::digest_list(variant, list, buffer, wanted, out)
         })
-    });
-    assert_eq!(lent.take_back(), entry, "the entry that {refusal} names");
-    (refusal, (entry != OLD).then_some(entry))
+    })
 }

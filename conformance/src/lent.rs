@@ -87,11 +87,7 @@ pub fn only_read<T>(inputs: &[&[u8]], call: impl FnOnce() -> T) -> T {
     answer
 }
 
-/// The running hash with known bytes where it has no field.
-pub fn marked(h: Hasher) -> Hasher {
-    Hasher {
-        between: [GUARD; 2],
-        behind: [GUARD; 3],
-        ..h
-    }
+/// The running hash with a known byte where it has no field.
+pub fn filled_behind(h: Hasher) -> Hasher {
+    h.filled(GUARD)
 }

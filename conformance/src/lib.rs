@@ -1,16 +1,19 @@
 //! The archive of the proved library, held against the Rust version built
 //! apart: [`wickslate`] calls the archive, [`compare`] makes the same call on
-//! both sides and looks at every lent byte, [`random`] and [`make`] give the
-//! tests their inputs, [`chains`] are digests of digests.
+//! both sides and looks at every lent byte, [`stack`] makes it on a stack of
+//! its own, [`random`], [`make`] and [`faults`] give the tests their inputs,
+//! [`chains`] are digests of digests.
 
 #![warn(missing_docs)]
 
 pub mod chains;
 pub mod compare;
+pub mod faults;
 #[path = "../../reference/tests/generator/mod.rs"]
 pub mod generator;
 pub mod lent;
 pub mod make;
 pub mod random;
 pub mod settings;
+pub mod stack;
 pub mod wickslate;

@@ -5,19 +5,30 @@ use wickslate_reference::running::Running;
 use wickslate_reference::{Family, Variant, MESSAGE_LIMIT, VARIANTS};
 
 use crate::compare::hasher;
-use crate::lent::marked;
+use crate::lent::filled_behind;
 use crate::random::Random;
 use crate::wickslate::Hasher;
 
-/// Variant numbers that no variant has.
-pub const UNKNOWN: [u8; 4] = [0, 11, 128, 255];
+/// Variant numbers that no variant has. The low byte of the last four is that
+/// of a variant.
+pub const UNKNOWN: [u32; 9] = [
+    0,
+    11,
+    128,
+    255,
+    u32::MAX,
+    0x101,
+    0x1_0005,
+    0x100_000a,
+    0xffff_ff06,
+];
 
 /// An offset and a length.
 pub type Entry = (u32, u32);
 
 /// A running hash as it is before the first start.
 pub fn none() -> Hasher {
-    marked(Hasher::default())
+    filled_behind(Hasher::default())
 }
 
 /// Any one of the ten variants.
@@ -31,7 +42,7 @@ pub fn block_bytes(variant: &Variant) -> usize {
 }
 
 /// The bytes of a digest, or of an end state's image.
-pub fn result_bytes(variant: &Variant, wanted: u8) -> usize {
+pub fn result_bytes(variant: &Variant, wanted: u32) -> usize {
     match wanted {
         0 => variant.digest_bytes(),
         _ => variant.image_bytes(),
@@ -85,7 +96,7 @@ fn cleared<const N: usize>(mut bytes: [u8; N], spare: &[(usize, u8)]) -> [u8; N]
 /// A well-formed running hash with any state and any held bits.
 pub fn well_formed(random: &mut Random, variant: &Variant, stage: u8, total: u32) -> Hasher {
     hasher(&Running {
-        variant: variant.number,
+        variant: variant.number as u8,
         stage,
         total,
         state: cleared(random.array(), &spare_state(variant)),

@@ -1,5 +1,6 @@
 //! The C header: it compiles as C99, C11 and C++17, its constants are those of
-//! the Rust version, and its functions have the types that are called here.
+//! the Rust version, its functions have the types that are called here, and a
+//! compiler warns of answers that nobody looks at and of nulls.
 
 use std::fs;
 use std::path::{Path, PathBuf};
@@ -14,23 +15,30 @@ const PROTOTYPES: &str = "
 #ifdef __cplusplus
 extern \"C\" {
 #endif
-uint8_t wickslate_start(wickslate_hasher *, uint8_t);
-uint8_t wickslate_update(wickslate_hasher *, const uint8_t *, size_t);
-uint8_t wickslate_finish(wickslate_hasher *);
-uint8_t wickslate_digest(const wickslate_hasher *, uint8_t *, size_t);
-uint8_t wickslate_end_state(const wickslate_hasher *, uint8_t *, size_t);
-uint8_t wickslate_whole(uint8_t, const uint8_t *, size_t, uint8_t, uint8_t *, size_t);
-uint8_t wickslate_permute(uint8_t, uint8_t *, size_t);
-uint8_t wickslate_unpermute(uint8_t, uint8_t *, size_t);
-uint8_t wickslate_recover(uint8_t, const uint8_t *, size_t, size_t, const uint8_t *, size_t,
-                          uint8_t *, size_t);
-uint8_t wickslate_entry(const uint8_t *, size_t, size_t, uint32_t *, uint32_t *);
-uint8_t wickslate_check_entry(const uint8_t *, size_t, const uint8_t *, size_t, size_t, uint32_t *);
-uint8_t wickslate_digest_list(uint8_t, const uint8_t *, size_t, const uint8_t *, size_t, uint8_t,
-                              uint8_t *, size_t, uint32_t *);
+uint32_t wickslate_start(wickslate_hasher *, uint32_t);
+uint32_t wickslate_update(wickslate_hasher *, const uint8_t *, size_t);
+uint32_t wickslate_finish(wickslate_hasher *);
+uint32_t wickslate_digest(const wickslate_hasher *, uint8_t *, size_t);
+uint32_t wickslate_end_state(const wickslate_hasher *, uint8_t *, size_t);
+uint32_t wickslate_whole(uint32_t, const uint8_t *, size_t, uint32_t, uint8_t *, size_t);
+uint32_t wickslate_permute(uint32_t, uint8_t *, size_t);
+uint32_t wickslate_unpermute(uint32_t, uint8_t *, size_t);
+uint32_t wickslate_recover(uint32_t, const uint8_t *, size_t, size_t, const uint8_t *, size_t,
+                           uint8_t *, size_t);
+uint32_t wickslate_entry(const uint8_t *, size_t, size_t, uint32_t *, uint32_t *);
+uint32_t wickslate_advance(wickslate_cursor *);
+uint32_t wickslate_check_entry(const uint8_t *, size_t, const uint8_t *, size_t, size_t);
+uint32_t wickslate_digest_list(uint32_t, const uint8_t *, size_t, const uint8_t *, size_t,
+                               uint32_t, uint8_t *, size_t);
 #ifdef __cplusplus
 }
 #endif
+";
+
+/// An answer that names entry 511, taken apart.
+const ANSWER: &str = "
+typedef char number[WICKSLATE_NUMBER(0x1ff0a) == WICKSLATE_MISORDERED ? 1 : -1];
+typedef char entry[WICKSLATE_ENTRY(0x1ff0a) == WICKSLATE_MOST_ENTRIES - 1 ? 1 : -1];
 ";
 
 /// Every constant of the header, with the value that it must have.
@@ -38,7 +46,7 @@ fn constants() -> Vec<(String, usize)> {
     let mut constants = Vec::new();
     for variant in &VARIANTS {
         let name = variant.name.to_uppercase().replace('-', "_");
-        constants.push((name.clone(), variant.number.into()));
+        constants.push((name.clone(), variant.number as usize));
         constants.push((format!("{name}_DIGEST_BYTES"), variant.digest_bytes()));
         constants.push((format!("{name}_IMAGE_BYTES"), variant.image_bytes()));
         constants.push((format!("{name}_BLOCK_BYTES"), block_bytes(variant)));
@@ -92,23 +100,30 @@ fn program() -> String {
             format!("#if WICKSLATE_{name} != {value}\n#error \"WICKSLATE_{name}\"\n#endif\n")
         })
         .collect();
-    format!("#include \"wickslate.h\"\n#include \"wickslate.h\"\n{checks}{PROTOTYPES}")
+    format!("#include \"wickslate.h\"\n#include \"wickslate.h\"\n{checks}{ANSWER}{PROTOTYPES}")
 }
 
-/// Compiles the text of a program, where nothing may draw a warning but what
-/// the words allow.
-fn expect_compiles(compiler: &str, words: &[&str], file: &str, text: &str) {
+/// Compiles the text of a program with every warning on: whether it went
+/// through, and what the compiler said.
+fn compile(compiler: &str, words: &[&str], file: &str, text: &str) -> (bool, String) {
     let source = Path::new(env!("CARGO_TARGET_TMPDIR")).join(file);
     fs::write(&source, text).expect("a file to write");
     let output = Command::new(compiler)
-        .args(["-Wall", "-Wextra", "-Wpedantic", "-Werror", "-fsyntax-only"])
+        .args(["-Wall", "-Wextra", "-Wpedantic", "-c", "-o", "/dev/null"])
         .args(words)
         .arg("-I")
         .args([include(), source])
         .output()
         .expect("a compiler");
-    let complaint = String::from_utf8_lossy(&output.stderr);
-    assert!(output.status.success(), "{words:?}: {complaint}");
+    let said = String::from_utf8_lossy(&output.stderr).into_owned();
+    (output.status.success(), said)
+}
+
+/// Nothing may draw a warning but what the words allow.
+fn expect_compiles(compiler: &str, words: &[&str], file: &str, text: &str) {
+    let strict = [&["-Werror"], words].concat();
+    let (through, said) = compile(compiler, &strict, file, text);
+    assert!(through, "{words:?}: {said}");
 }
 
 #[test]
@@ -134,7 +149,8 @@ extern wickslate_hasher h;
 extern const uint8_t *table, *buffer, *list;
 extern size_t table_length, buffer_length, list_length, received;
 extern uint8_t image[WICKSLATE_MOST_IMAGE_BYTES];
-int drop_table(void);
+int give_up(void);
+void keep(const uint8_t *bytes, size_t length);
 void send(const uint8_t *bytes, size_t length);
 ";
 
@@ -161,7 +177,7 @@ fn every_function_has_an_example_that_compiles() {
     let examples = examples();
     for function in PROTOTYPES
         .lines()
-        .filter_map(|line| line.strip_prefix("uint8_t "))
+        .filter_map(|line| line.strip_prefix("uint32_t "))
     {
         let call = &function[..=function.find('(').expect("arguments")];
         assert!(
@@ -170,8 +186,16 @@ fn every_function_has_an_example_that_compiles() {
         );
     }
     let text = format!("{CALLER}{}", examples.concat());
-    let words = ["-std=c11", "-Wno-unused-variable"];
-    expect_compiles("gcc", &words, "examples.c", &text);
+    expect_compiles("gcc", &["-std=c11"], "examples.c", &text);
+}
+
+/// The C program of README.md.
+#[test]
+fn the_readme_compiles() {
+    let readme = fs::read_to_string(include().join("../README.md")).expect("README.md");
+    let (_, behind) = readme.split_once("```c\n").expect("a program");
+    let (program, _) = behind.split_once("```").expect("its end");
+    expect_compiles("gcc", &["-std=c99"], "readme.c", program);
 }
 
 /// No constant of the header is left out above.
@@ -181,7 +205,7 @@ fn every_constant_is_compared() {
     let defined = header
         .lines()
         .filter_map(|line| line.strip_prefix("#define WICKSLATE_"))
-        .filter(|rest| !rest.starts_with("ASSERT") && *rest != "H");
+        .filter(|rest| !rest.contains('(') && !rest.starts_with("CALL") && *rest != "H");
     let mut names: Vec<&str> = defined
         .map(|rest| rest.split(' ').next().expect("a name"))
         .collect();
@@ -190,4 +214,92 @@ fn every_constant_is_compared() {
     names.sort_unstable();
     known.sort_unstable();
     assert_eq!(names, known);
+}
+
+/// A sound call of every function, word by word.
+const CALLS: [(&str, &str); 13] = [
+    ("start", "&h 1"),
+    ("update", "&h in 9"),
+    ("finish", "&h"),
+    ("digest", "&h out 9"),
+    ("end_state", "&h out 9"),
+    ("whole", "1 in 9 0 out 9"),
+    ("permute", "1 out 9"),
+    ("unpermute", "1 out 9"),
+    ("recover", "1 in 9 0 in 9 out 9"),
+    ("entry", "in 8 0 &number &number"),
+    ("advance", "&c"),
+    ("check_entry", "in 8 in 9 0"),
+    ("digest_list", "1 in 8 in 9 0 out 9"),
+];
+
+/// A line for every sound call, for every one whose answer is thrown away, and
+/// for every address that is null; and the warning that each has to draw.
+fn careless_lines() -> Vec<(String, Option<&'static str>)> {
+    let mut lines = Vec::new();
+    for (name, words) in CALLS {
+        let words: Vec<&str> = words.split(' ').collect();
+        let call = |words: &[&str]| format!("wickslate_{name}({});", words.join(", "));
+        lines.push((format!("answer = {}", call(&words)), None));
+        lines.push((call(&words), Some("unused-result")));
+        for k in (0..words.len()).filter(|&k| words[k].parse::<u32>().is_err()) {
+            let mut with_null = words.clone();
+            with_null[k] = "NULL";
+            lines.push((format!("answer = {}", call(&with_null)), Some("nonnull")));
+        }
+    }
+    lines
+}
+
+/// The compiler warns at exactly the lines where it should.
+fn expect_warnings(compiler: &str, file: &str) {
+    const HEAD: &str = "#include \"wickslate.h\"
+extern wickslate_hasher h;
+extern wickslate_cursor c;
+extern const uint8_t in[9];
+extern uint8_t out[9];
+extern uint32_t number, answer;
+void careless(void);
+void careless(void) {
+";
+    let lines = careless_lines();
+    let calls: String = lines.iter().map(|(line, _)| format!("{line}\n")).collect();
+    let (_, said) = compile(compiler, &[], file, &format!("{HEAD}{calls}}}\n"));
+    let warned = |line: usize| {
+        let here = format!("{file}:{line}:");
+        let warning = said.lines().find(|said| said.contains(&here))?;
+        warning.rsplit_once("[-W")?.1.strip_suffix(']')
+    };
+    for ((line, expected), number) in lines.iter().zip(HEAD.lines().count() + 1..) {
+        assert_eq!(warned(number), *expected, "{line}\n{said}");
+    }
+}
+
+#[test]
+fn careless_calls_draw_warnings_in_c() {
+    expect_warnings("gcc", "careless.c");
+}
+
+#[test]
+fn careless_calls_draw_warnings_in_cpp() {
+    expect_warnings("g++", "careless.cpp");
+}
+
+/// No function of the header is left out above.
+#[test]
+fn every_function_is_tried() {
+    let names = |text: &str, before: &str| -> Vec<String> {
+        text.lines()
+            .filter_map(|line| line.strip_prefix(before)?.split('(').next())
+            .map(str::to_string)
+            .collect()
+    };
+    let mut declared = names(&header(), "WICKSLATE_CALL uint32_t wickslate_");
+    let mut typed = names(PROTOTYPES, "uint32_t wickslate_");
+    let mut called = CALLS.map(|(name, _)| name);
+    declared.sort_unstable();
+    typed.sort_unstable();
+    called.sort_unstable();
+    assert_eq!(declared, typed);
+    assert_eq!(declared, called);
 }

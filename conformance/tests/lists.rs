@@ -1,22 +1,29 @@
 //! Segment lists: sound and damaged ones, and the refusals 1, 9, 7, 10, 11, 4
 //! and 5 alone and against their neighbours.
 
-use wickslate_conformance::compare::{check_entry, digest_list, entry, whole};
+use wickslate_conformance::compare::{advance, at, check_entry, entry, whole};
 use wickslate_conformance::make::{self, list, result_bytes, variant, UNKNOWN};
 use wickslate_conformance::random::Random;
 use wickslate_conformance::settings::amount;
-use wickslate_conformance::wickslate;
+use wickslate_conformance::wickslate::{Answer, Cursor};
+use wickslate_conformance::{compare, wickslate};
 use wickslate_reference::{MESSAGE_LIMIT, VARIANTS};
 
 const SIX: &[u8] = b"bridge";
 const MOST_ENTRIES: u32 = 512;
 const OUT: [u8; 36] = [0x5e; 36];
 
+/// The answer over a list.
+fn digest_list(variant: u32, list: &[u8], buffer: &[u8], wanted: u32, out: &[u8]) -> u32 {
+    compare::digest_list(variant, list, buffer, wanted, out).0
+}
+
 /// Looks at every entry and the one behind the last, and at the whole list.
-fn expect_same(random: &mut Random, list: &[u8], buffer: &[u8]) -> (u8, Option<u32>) {
+fn expect_same(random: &mut Random, list: &[u8], buffer: &[u8]) -> u32 {
     for k in 0..=list.len() / 8 {
         check_entry(list, buffer, k);
         entry(list, k);
+        advance(list, k);
     }
     let variant = variant(random);
     let wanted = random.pick(&[0, 1]);
@@ -31,7 +38,25 @@ fn sound_lists() {
         let buffer = random.bytes(bytes);
         let entries = make::entries(&mut random, 20, bytes);
         let answer = expect_same(&mut random, &list(&entries), &buffer);
-        assert_eq!(answer, (0, None));
+        assert_eq!(answer, 0);
+    }
+}
+
+/// One cursor goes over the whole list, entry by entry, and then stays.
+#[test]
+fn a_cursor_goes_over_the_list() {
+    let mut random = Random::of_test("a_cursor_goes_over_the_list");
+    for count in [0, 1, 2, 511, 512] {
+        let list = random.bytes(8 * count);
+        let mut cursor = Cursor::at(&list, 0);
+        for k in 0..count {
+            assert!(wickslate::advance(&mut cursor).is_done());
+            assert_eq!(cursor, Cursor::at(&list, k + 1));
+        }
+        for _ in 0..3 {
+            assert_eq!(wickslate::advance(&mut cursor), Answer(7));
+            assert_eq!(cursor, Cursor::at(&list, count));
+        }
     }
 }
 
@@ -47,15 +72,10 @@ fn segments_are_joined() {
             buffer[offset..offset + length].to_vec()
         };
         let joined: Vec<u8> = entries.iter().flat_map(segment).collect();
-        for wanted in [0, 1, 77] {
-            let (answer, after) = whole(variant.number, &joined, wanted, &OUT);
-            assert_eq!(answer, 0);
-            let mut out = OUT;
-            let (list, mut entry) = (list(&entries), 0);
-            let number = variant.number;
-            let answer =
-                wickslate::digest_list(number, &list, &buffer, wanted, &mut out, &mut entry);
-            assert_eq!((answer, &out[..]), (0, &after[..]));
+        for wanted in [0, 1, 77, 256, u32::MAX] {
+            let given =
+                compare::digest_list(variant.number, &list(&entries), &buffer, wanted, &OUT);
+            assert_eq!(given, whole(variant.number, &joined, wanted, &OUT));
         }
     }
 }
@@ -70,8 +90,8 @@ fn damaged_lists() {
         let buffer = random.bytes(bytes);
         let mut damaged = list(&make::entries(&mut random, 8, bytes));
         damage(&mut random, &mut damaged);
-        let (answer, _) = expect_same(&mut random, &damaged, &buffer);
-        seen[usize::from(answer)] += 1;
+        let answer = Answer(expect_same(&mut random, &damaged, &buffer));
+        seen[usize::from(answer.number())] += 1;
     }
     for refusal in [0, 9, 10, 11] {
         assert!(seen[refusal] > 0, "refusal {refusal} did not come up");
@@ -98,19 +118,43 @@ fn damage(random: &mut Random, list: &mut Vec<u8>) {
 
 #[test]
 fn known_lists() {
-    let calls: [(&[make::Entry], u8, Option<u32>); 6] = [
-        (&[(0, 2), (3, 2)], 0, None),
-        (&[(0, 2), (1, 2)], 10, Some(1)),
-        (&[(5, 2)], 11, Some(0)),
-        (&[(6, 0)], 0, None),
-        (&[(u32::MAX, 1)], 11, Some(0)),
-        (&[(1, u32::MAX)], 11, Some(0)),
+    let most = u32::MAX;
+    let calls: [(&[make::Entry], u32); 18] = [
+        (&[(0, 2), (3, 2)], 0),
+        (&[(0, 2), (1, 2)], at(10, 1)),
+        (&[(5, 2)], at(11, 0)),
+        (&[(6, 0)], 0),
+        // At the end of the buffer, and of the entry before.
+        (&[(0, 6)], 0),
+        (&[(0, 7)], at(11, 0)),
+        (&[(7, 0)], at(11, 0)),
+        (&[(0, 3), (3, 3)], 0),
+        (&[(0, 6), (6, 1)], at(11, 1)),
+        // Empty entries that touch, and one inside another.
+        (&[(2, 0), (2, 0)], 0),
+        (&[(2, 1), (2, 0)], at(10, 1)),
+        // An entry past the end before one out of order, and one that is both.
+        (&[(4, 3), (0, 1)], at(11, 0)),
+        (&[(0, 2), (1, 6)], at(10, 1)),
+        // The high byte comes first.
+        (&[(0, 1 << 24), (0, 0)], at(11, 0)),
+        (&[(1 << 16, 0), (1 << 8, 0)], at(11, 0)),
+        (&[(most, 1)], at(11, 0)),
+        (&[(1, most)], at(11, 0)),
+        (&[(most, most)], at(11, 0)),
     ];
-    for (entries, refusal, named) in calls {
-        assert_eq!(
-            digest_list(1, &list(entries), SIX, 0, &OUT),
-            (refusal, named)
-        );
+    for (entries, answer) in calls {
+        let list = list(entries);
+        for (k, _) in entries.iter().enumerate() {
+            entry(&list, k);
+            check_entry(&list, SIX, k);
+        }
+        for variant in &VARIANTS {
+            for wanted in [0, 1] {
+                let given = digest_list(variant.number, &list, SIX, wanted, &OUT);
+                assert_eq!(given, answer, "{entries:?}");
+            }
+        }
     }
 }
 
@@ -123,14 +167,23 @@ fn lists_that_are_none() {
         let broken = &long[..bytes];
         assert_eq!(entry(broken, 0).0, 9);
         assert_eq!(entry(broken, usize::MAX).0, 9, "and past the end");
-        assert_eq!(check_entry(broken, &buffer, 0).0, 9);
-        assert_eq!(check_entry(broken, &buffer, 513).0, 9, "and past the end");
-        assert_eq!(digest_list(4, broken, &buffer, 0, &OUT), (9, None));
+        assert_eq!(advance(broken, 0), 9);
+        assert_eq!(advance(broken, usize::MAX), 9, "and past the end");
+        assert_eq!(check_entry(broken, &buffer, 0), 9);
+        assert_eq!(check_entry(broken, &buffer, 513), 9, "and past the end");
+        assert_eq!(digest_list(4, broken, &buffer, 0, &OUT), 9);
     }
-    let most = &long[..4096];
-    assert_eq!(entry(most, 511), (0, 511, 1));
-    assert_eq!(check_entry(most, &buffer, 511).0, 0);
-    assert_eq!(digest_list(4, most, &buffer, 0, &OUT), (0, None));
+    for count in [0, 1, 511, 512] {
+        let most = &long[..8 * count];
+        for k in [0, 510, 511] {
+            let inside = k < count;
+            assert_eq!(entry(most, k).0, if inside { 0 } else { 7 });
+            assert_eq!(advance(most, k), if inside { 0 } else { 7 });
+            assert_eq!(check_entry(most, &buffer, k), if inside { 0 } else { 7 });
+        }
+        assert_eq!(digest_list(4, most, &buffer, 0, &OUT), 0);
+        assert_eq!(digest_list(10, most, &buffer, 1, &OUT), 0);
+    }
 }
 
 #[test]
@@ -140,7 +193,8 @@ fn entries_past_the_end() {
     for (bytes, count) in [(0, 0), (8, 1), (16, 2), (24, 3)] {
         for k in [count, count + 1, 1 << 29, 1 << 32, 1 << 61, usize::MAX] {
             assert_eq!(entry(&wrong[..bytes], k).0, 7);
-            assert_eq!(check_entry(&wrong[..bytes], SIX, k).0, 7);
+            assert_eq!(advance(&wrong[..bytes], k), 7);
+            assert_eq!(check_entry(&wrong[..bytes], SIX, k), 7);
         }
     }
 }
@@ -148,14 +202,14 @@ fn entries_past_the_end() {
 #[test]
 fn misordered_comes_before_past_the_end() {
     let both = list(&[(0, 3), (2, 90), (1, 1)]);
-    assert_eq!(check_entry(&both, SIX, 1), (10, 1));
-    assert_eq!(check_entry(&both, SIX, 2), (10, 2));
-    assert_eq!(digest_list(1, &both, SIX, 0, &OUT), (10, Some(1)));
+    assert_eq!(check_entry(&both, SIX, 1), at(10, 1));
+    assert_eq!(check_entry(&both, SIX, 2), at(10, 2));
+    assert_eq!(digest_list(1, &both, SIX, 0, &OUT), at(10, 1));
     // An earlier entry past the end comes before a later one out of order.
     let earlier = list(&[(0, 3), (3, 90), (1, 1)]);
-    assert_eq!(check_entry(&earlier, SIX, 1), (11, 1));
-    assert_eq!(check_entry(&earlier, SIX, 2), (10, 2));
-    assert_eq!(digest_list(1, &earlier, SIX, 0, &OUT), (11, Some(1)));
+    assert_eq!(check_entry(&earlier, SIX, 1), at(11, 1));
+    assert_eq!(check_entry(&earlier, SIX, 2), at(10, 2));
+    assert_eq!(digest_list(1, &earlier, SIX, 0, &OUT), at(11, 1));
 }
 
 /// Ends that do not fit in four bytes are not cut to four.
@@ -169,9 +223,9 @@ fn sums_past_four_bytes() {
         [(1, most), (0, 0)],
     ] {
         let list = list(&entries);
-        assert_eq!(check_entry(&list, SIX, 0), (11, 0));
-        assert_eq!(check_entry(&list, SIX, 1), (10, 1));
-        assert_eq!(digest_list(2, &list, SIX, 0, &OUT), (11, Some(0)));
+        assert_eq!(check_entry(&list, SIX, 0), at(11, 0));
+        assert_eq!(check_entry(&list, SIX, 1), at(10, 1));
+        assert_eq!(digest_list(2, &list, SIX, 0, &OUT), at(11, 0));
     }
 }
 
@@ -183,7 +237,7 @@ fn unknown_variants_come_first() {
     for number in UNKNOWN {
         for list in [&sound, &sound[..9].to_vec(), &misordered, &past] {
             for out in [&OUT[..], &[]] {
-                assert_eq!(digest_list(number, list, SIX, 0, out), (1, None));
+                assert_eq!(digest_list(number, list, SIX, 0, out), 1);
             }
         }
     }
@@ -194,7 +248,7 @@ fn unknown_variants_come_first() {
 fn a_list_that_is_none_comes_before_its_entries() {
     let wrong = list(&[(5, 9), (0, 1), (0, 1)]);
     for out in [&OUT[..], &[]] {
-        assert_eq!(digest_list(1, &wrong[..17], SIX, 0, out), (9, None));
+        assert_eq!(digest_list(1, &wrong[..17], SIX, 0, out), 9);
     }
 }
 
@@ -211,10 +265,10 @@ fn too_long_comes_behind_the_entries_and_before_the_output() {
     for variant in &VARIANTS {
         for out in [&OUT[..], &[]] {
             let answer = |list: &[u8]| digest_list(variant.number, list, &buffer, 1, out);
-            assert_eq!(answer(&one), (4, None));
-            assert_eq!(answer(&many), (4, None));
-            assert_eq!(answer(&beyond), (11, Some(1)), "and too long");
-            assert_eq!(answer(&misordered), (10, Some(1)), "and too long");
+            assert_eq!(answer(&one), 4);
+            assert_eq!(answer(&many), 4);
+            assert_eq!(answer(&beyond), at(11, 1), "and too long");
+            assert_eq!(answer(&misordered), at(10, 1), "and too long");
         }
     }
 }
@@ -226,10 +280,8 @@ fn the_longest_message_is_not_too_long() {
     let half = 1 << 23;
     let longest = list(&[(0, half), (half + 1, half - 1)]);
     for variant in &VARIANTS {
-        let (mut out, mut entry) = ([0; 9], 0);
-        let number = variant.number;
-        let answer = wickslate::digest_list(number, &longest, &buffer, 0, &mut out, &mut entry);
-        assert_eq!(answer, 5, "{}", variant.name);
+        let answer = wickslate::digest_list(variant.number, &longest, &buffer, 0, &mut [0; 9]);
+        assert_eq!(answer.0, 5, "{}", variant.name);
     }
 }
 
@@ -241,7 +293,7 @@ fn outputs_one_byte_too_short() {
             let fits = result_bytes(variant, wanted);
             for bytes in [0, fits - 1, fits, fits + 1] {
                 let answer = digest_list(variant.number, &sound, SIX, wanted, &vec![0x5e; bytes]);
-                assert_eq!(answer, (if bytes < fits { 5 } else { 0 }, None));
+                assert_eq!(answer, if bytes < fits { 5 } else { 0 });
             }
         }
     }

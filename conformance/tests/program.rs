@@ -8,12 +8,11 @@ use std::sync::Once;
 use std::thread;
 
 use wickslate_conformance::chains::hexadecimal;
-use wickslate_conformance::make::UNKNOWN;
 use wickslate_conformance::random::Random;
 use wickslate_reference::{digest, MESSAGE_LIMIT, VARIANTS};
 
 /// The variant that takes the least time for a byte.
-const FAST: u8 = 5;
+const FAST: u32 = 5;
 
 fn root() -> PathBuf {
     Path::new(env!("CARGO_MANIFEST_DIR")).join("..")
@@ -78,13 +77,13 @@ fn expect_complaint(output: &Output, status: i32, complaint: &str) {
 }
 
 /// The line for a message.
-fn line(number: u8, message: &[u8]) -> String {
+fn line(number: u32, message: &[u8]) -> String {
     hexadecimal(&digest(number, message).expect("a short message"))
 }
 
 /// The program's input: the variant's byte and the message.
-fn input(number: u8, message: &[u8]) -> Vec<u8> {
-    [&[number], message].concat()
+fn input(number: u32, message: &[u8]) -> Vec<u8> {
+    [&[number as u8], message].concat()
 }
 
 #[test]
@@ -97,14 +96,14 @@ fn no_input() {
 #[test]
 fn a_variant_byte_alone() {
     for variant in &VARIANTS {
-        let output = fed(program(), vec![vec![variant.number]]);
+        let output = fed(program(), vec![input(variant.number, b"")]);
         expect_line(&output, 0, &line(variant.number, b""));
     }
 }
 
 #[test]
 fn unknown_variants() {
-    for number in UNKNOWN.into_iter().chain(*b"1p") {
+    for number in [0, 11, u32::from(b'1'), u32::from(b'p'), 128, 255] {
         for message in [&b""[..], b"abc", &[7; 100_000]] {
             let output = fed(program(), vec![input(number, message)]);
             expect_line(&output, 0, "refused 1");
@@ -154,7 +153,7 @@ fn pieces_of_input() {
 #[test]
 fn a_message_past_the_limit() {
     let message = vec![0x31; MESSAGE_LIMIT + 1];
-    let output = fed(program(), vec![vec![FAST], message]);
+    let output = fed(program(), vec![input(FAST, b""), message]);
     expect_line(&output, 0, "refused 4");
 }
 

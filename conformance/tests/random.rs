@@ -6,16 +6,16 @@ use std::time::Instant;
 
 use wickslate_conformance::make::{self, Entry};
 use wickslate_conformance::random::Random;
-use wickslate_conformance::wickslate::{self, Hasher};
+use wickslate_conformance::wickslate::{self, Answer, Hasher};
 use wickslate_conformance::{compare, settings};
 use wickslate_reference::padding::block_count;
 use wickslate_reference::{digest, Variant, MESSAGE_LIMIT};
 
 /// The variant that takes the least time for a byte.
-const FAST: u8 = 5;
+const FAST: u32 = 5;
 
 /// A random call: its answer.
-type Call = fn(&mut Random) -> u8;
+type Call = fn(&mut Random) -> u32;
 
 const CALLS: [Call; 6] = [whole, image, running, one_entry, whole_list, lost_block];
 
@@ -26,14 +26,14 @@ fn random_calls() {
     match settings::minutes() {
         None => {
             for _ in 0..settings::amount(30_000, 6000) {
-                seen[usize::from(any_call(&mut random))] += 1;
+                seen[any_call(&mut random)] += 1;
             }
         }
         Some(time) => {
             longest_messages(&mut random);
             let begun = Instant::now();
             while begun.elapsed() < time {
-                seen[usize::from(any_call(&mut random))] += 1;
+                seen[any_call(&mut random)] += 1;
             }
         }
     }
@@ -41,8 +41,9 @@ fn random_calls() {
     assert!(!seen.contains(&0), "an answer did not come up: {seen:?}");
 }
 
-fn any_call(random: &mut Random) -> u8 {
-    random.pick(&CALLS)(random)
+/// Makes a call of any kind: the number of its answer.
+fn any_call(random: &mut Random) -> usize {
+    Answer(random.pick(&CALLS)(random)).number().into()
 }
 
 /// A message that is short, most of the time.
@@ -53,7 +54,7 @@ fn message(random: &mut Random) -> Vec<u8> {
 }
 
 /// The variant's number, or one that no variant has.
-fn number(random: &mut Random, variant: &Variant) -> u8 {
+fn number(random: &mut Random, variant: &Variant) -> u32 {
     match random.once_in(12) {
         true => random.pick(&make::UNKNOWN),
         false => variant.number,
@@ -82,25 +83,25 @@ fn near_image(random: &mut Random, variant: &Variant) -> Vec<u8> {
     image
 }
 
-fn whole(random: &mut Random) -> u8 {
+fn whole(random: &mut Random) -> u32 {
     let variant = make::variant(random);
     let message = message(random);
-    let wanted = random.below(3) as u8;
+    let wanted = random.pick(&[0, 0, 1, 2, 256]);
     let out = output(random, make::result_bytes(variant, wanted));
     compare::whole(number(random, variant), &message, wanted, &out).0
 }
 
-fn image(random: &mut Random) -> u8 {
+fn image(random: &mut Random) -> u32 {
     let variant = make::variant(random);
     let image = near_image(random, variant);
     let back = random.once_in(2);
     compare::permute(number(random, variant), &image, back).0
 }
 
-fn running(random: &mut Random) -> u8 {
+fn running(random: &mut Random) -> u32 {
     let h = near_hasher(random);
     match random.below(4) {
-        0 => compare::start(h, random.below(14) as u8).0,
+        0 => compare::start(h, random.below(14) as u32).0,
         1 => compare::finish(h).0,
         2 => {
             let out = output(random, 36);
@@ -148,22 +149,22 @@ fn near_list(random: &mut Random) -> (Vec<u8>, Vec<u8>) {
     (list, buffer)
 }
 
-fn one_entry(random: &mut Random) -> u8 {
+fn one_entry(random: &mut Random) -> u32 {
     let (list, buffer) = near_list(random);
     let k = random.below(list.len() / 8 + 2);
     compare::entry(&list, k);
-    compare::check_entry(&list, &buffer, k).0
+    compare::check_entry(&list, &buffer, k)
 }
 
-fn whole_list(random: &mut Random) -> u8 {
+fn whole_list(random: &mut Random) -> u32 {
     let (list, buffer) = near_list(random);
     let variant = make::variant(random);
-    let wanted = random.below(3) as u8;
+    let wanted = random.pick(&[0, 0, 1, 2, 256]);
     let out = output(random, make::result_bytes(variant, wanted));
     compare::digest_list(number(random, variant), &list, &buffer, wanted, &out).0
 }
 
-fn lost_block(random: &mut Random) -> u8 {
+fn lost_block(random: &mut Random) -> u32 {
     let variant = make::variant(random);
     let message = message(random);
     let number = number(random, variant);
@@ -172,7 +173,7 @@ fn lost_block(random: &mut Random) -> u8 {
     if random.once_in(2) {
         // Its own end state, which a block leads to.
         image = vec![0; variant.image_bytes()];
-        assert_eq!(wickslate::whole(variant.number, &message, 1, &mut image), 0);
+        assert!(wickslate::whole(variant.number, &message, 1, &mut image).is_done());
     }
     let out = output(random, make::block_bytes(variant));
     compare::recover(number, &message, place, &image, &out).0
@@ -182,27 +183,27 @@ fn lost_block(random: &mut Random) -> u8 {
 fn longest_messages(random: &mut Random) {
     let message = random.bytes(MESSAGE_LIMIT);
     let expected = digest(FAST, &message).expect("not too long");
-    let expect_same = |hash: &mut dyn FnMut(&mut [u8]) -> u8| {
+    let expect_same = |hash: &mut dyn FnMut(&mut [u8]) -> Answer| {
         let mut out = vec![0; expected.len()];
-        assert_eq!(hash(&mut out), 0);
+        assert!(hash(&mut out).is_done());
         assert_eq!(out, expected);
     };
     expect_same(&mut |out| wickslate::whole(FAST, &message, 0, out));
     let h = closed(random.cut(&message, 100_000));
     expect_same(&mut |out| wickslate::digest(&h, out));
     let (list, buffer) = two_segments(&message);
-    expect_same(&mut |out| wickslate::digest_list(FAST, &list, &buffer, 0, out, &mut 0));
+    expect_same(&mut |out| wickslate::digest_list(FAST, &list, &buffer, 0, out));
 }
 
 /// The running hash of a message of the greatest length.
 fn closed(pieces: Vec<&[u8]>) -> Hasher {
     let mut h = make::none();
-    assert_eq!(wickslate::start(&mut h, FAST), 0);
+    assert!(wickslate::start(&mut h, FAST).is_done());
     for piece in pieces {
-        assert_eq!(wickslate::update(&mut h, piece), 0);
+        assert!(wickslate::update(&mut h, piece).is_done());
     }
-    assert_eq!(wickslate::update(&mut h, b"\xff"), 4, "one byte more");
-    assert_eq!(wickslate::finish(&mut h), 0);
+    assert_eq!(wickslate::update(&mut h, b"\xff").0, 4, "one byte more");
+    assert!(wickslate::finish(&mut h).is_done());
     h
 }
 

@@ -50,7 +50,8 @@ fn forgotten_bytes(variant: &Variant, place: usize, bytes: usize) -> impl Iterat
     first.min(bytes)..end.min(bytes)
 }
 
-/// The end state of a message that differs in one block gives that block.
+/// The end state of a message that differs in one block gives that block and,
+/// but for chance, none at the places beside it.
 #[test]
 fn blocks_of_another_message() {
     let mut random = Random::of_test("blocks_of_another_message");
@@ -68,6 +69,12 @@ fn blocks_of_another_message() {
         let place = (0..block_count(variant, bytes)).find(changed).expect("one");
         let given = recover(variant.number, &message, place, &end, &OUT);
         assert_eq!(given, (0, own_block(variant, &other, place)));
+        for elsewhere in [place.wrapping_sub(1), place + 1] {
+            if elsewhere < block_count(variant, bytes) {
+                let given = recover(variant.number, &message, elsewhere, &end, &OUT);
+                assert_eq!(given, (8, OUT.to_vec()));
+            }
+        }
     }
 }
 
@@ -91,7 +98,7 @@ fn any_end_states() {
 fn single_bits_of_the_state_before_the_last_permutation() {
     for variant in &VARIANTS {
         let mut start = end_state(variant.number, b"").expect("the empty message");
-        assert_eq!(wickslate::unpermute(variant.number, &mut start), 0);
+        assert!(wickslate::unpermute(variant.number, &mut start).is_done());
         for bit in 0..variant.state_bits {
             let mut end = start.clone();
             // Blocks cover the same bytes in both families, and whole bytes
@@ -114,13 +121,13 @@ fn single_bits_of_the_state_before_the_last_permutation() {
 fn no_block_of_spongent_88_reaches_the_second_byte() {
     let mut end = [0; 11];
     end[1] = 1;
-    assert_eq!(wickslate::permute(6, &mut end), 0);
+    assert!(wickslate::permute(6, &mut end).is_done());
     assert_eq!(recover(6, b"", 0, &end, &OUT), (8, OUT.to_vec()));
 }
 
 /// A call in which as little is wrong as is asked for.
 struct Call<'a> {
-    number: u8,
+    number: u32,
     message: &'a [u8],
     place: usize,
     image: Vec<u8>,
@@ -139,7 +146,7 @@ impl Call<'_> {
         }
     }
 
-    fn answer(&self) -> u8 {
+    fn answer(&self) -> u32 {
         let out = vec![0x5e; self.out];
         recover(self.number, self.message, self.place, &self.image, &out).0
     }

@@ -10,7 +10,7 @@ use wickslate_reference::{Variant, MESSAGE_LIMIT, VARIANTS};
 
 /// Hashes a random message of so many bytes on both sides, with seven bytes
 /// of output past the result.
-fn expect_same(random: &mut Random, variant: &Variant, bytes: usize, wanted: u8) {
+fn expect_same(random: &mut Random, variant: &Variant, bytes: usize, wanted: u32) {
     let message = random.bytes(bytes);
     let out = random.bytes(result_bytes(variant, wanted) + 7);
     let (answer, after) = whole(variant.number, &message, wanted, &out);
@@ -52,14 +52,27 @@ fn long_messages() {
 fn any_number_but_zero_asks_for_the_end_state() {
     let mut random = Random::of_test("any_number_but_zero");
     for variant in &VARIANTS {
-        for wanted in [1, 2, 3, 127, 128, 254, 255] {
+        for wanted in [
+            1,
+            2,
+            3,
+            127,
+            128,
+            254,
+            255,
+            256,
+            1 << 16,
+            1 << 24,
+            1 << 31,
+            u32::MAX,
+        ] {
             expect_same(&mut random, variant, 3, wanted);
         }
     }
 }
 
 /// The answer to a message of zeros on both sides.
-fn refusal(variant: u8, message: &[u8], wanted: u8, out_bytes: usize) -> u8 {
+fn refusal(variant: u32, message: &[u8], wanted: u32, out_bytes: usize) -> u32 {
     whole(variant, message, wanted, &vec![0x5e; out_bytes]).0
 }
 
@@ -110,7 +123,7 @@ fn the_longest_message_is_not_too_long() {
     for variant in &VARIANTS {
         for wanted in [0, 1] {
             let answer = wickslate::whole(variant.number, &longest, wanted, &mut [0; 9]);
-            assert_eq!(answer, 5, "{}", variant.name);
+            assert_eq!(answer.0, 5, "{}", variant.name);
         }
     }
 }

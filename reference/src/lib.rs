@@ -73,24 +73,24 @@ pub const MESSAGE_LIMIT: usize = 16_777_215;
 
 /// Runs the variant's permutation on an image in place. Gives 0, or the
 /// refusal number 1 or 6.
-pub fn permute(number: u8, image: &mut [u8]) -> u8 {
+pub fn permute(number: u32, image: &mut [u8]) -> u8 {
     change_image(number, image, sponge::permute_state)
 }
 
 /// Runs the inverse of the variant's permutation on an image in place.
 /// Gives 0, or the refusal number 1 or 6.
-pub fn unpermute(number: u8, image: &mut [u8]) -> u8 {
+pub fn unpermute(number: u32, image: &mut [u8]) -> u8 {
     change_image(number, image, sponge::unpermute_state)
 }
 
 /// The message's digest, or the refusal number 1 or 4.
-pub fn digest(number: u8, message: &[u8]) -> Result<Vec<u8>, u8> {
+pub fn digest(number: u32, message: &[u8]) -> Result<Vec<u8>, u8> {
     digest_with(number, Padding::NextBit, message)
 }
 
 /// The image of the state after the message's last block, or the refusal
 /// number 1 or 4.
-pub fn end_state(number: u8, message: &[u8]) -> Result<Vec<u8>, u8> {
+pub fn end_state(number: u32, message: &[u8]) -> Result<Vec<u8>, u8> {
     let variant = message_check(number, message.len())?;
     let state = sponge::absorb_message(variant, Padding::NextBit, message);
     Ok(image::of_state(variant, &state))
@@ -98,7 +98,7 @@ pub fn end_state(number: u8, message: &[u8]) -> Result<Vec<u8>, u8> {
 
 /// The message's digest under either reading of the padding rule, or the
 /// refusal number 1 or 4.
-pub fn digest_with(number: u8, padding: Padding, message: &[u8]) -> Result<Vec<u8>, u8> {
+pub fn digest_with(number: u32, padding: Padding, message: &[u8]) -> Result<Vec<u8>, u8> {
     let variant = message_check(number, message.len())?;
     let state = sponge::absorb_message(variant, padding, message);
     Ok(bits::pack(
@@ -109,7 +109,7 @@ pub fn digest_with(number: u8, padding: Padding, message: &[u8]) -> Result<Vec<u
 
 /// The variant that hashes a message of this many bytes, or the refusal
 /// number 1 or 4.
-pub fn message_check(number: u8, bytes: usize) -> Result<&'static Variant, u8> {
+pub fn message_check(number: u32, bytes: usize) -> Result<&'static Variant, u8> {
     let variant = variant(number).ok_or(UNKNOWN_VARIANT)?;
     if bytes > MESSAGE_LIMIT {
         return Err(TOO_LONG);
@@ -118,7 +118,7 @@ pub fn message_check(number: u8, bytes: usize) -> Result<&'static Variant, u8> {
 }
 
 /// Replaces the state in an image by what `change` makes of it.
-fn change_image(number: u8, image: &mut [u8], change: fn(&Variant, &mut [bool])) -> u8 {
+fn change_image(number: u32, image: &mut [u8], change: fn(&Variant, &mut [bool])) -> u8 {
     let Some(variant) = variant(number) else {
         return UNKNOWN_VARIANT;
     };

@@ -9,7 +9,7 @@ use crate::{BAD_IMAGE, DONE, NO_BLOCK, OUTPUT_TOO_SHORT, OUT_OF_RANGE};
 
 /// Writes the block at `place` that leads to the end state over the front of
 /// `out`. Refusals 1, 4, 7, 6, 5 and 8.
-pub fn recover(number: u8, message: &[u8], place: usize, end: &[u8], out: &mut [u8]) -> u8 {
+pub fn recover(number: u32, message: &[u8], place: usize, end: &[u8], out: &mut [u8]) -> u8 {
     let variant = match message_check(number, message.len()) {
         Ok(variant) => variant,
         Err(refusal) => return refusal,

@@ -32,7 +32,7 @@ struct Open {
 }
 
 /// A fresh running hash; for an unknown variant the number 1 and zeros.
-pub fn start(number: u8) -> (u8, Running) {
+pub fn start(number: u32) -> (u8, Running) {
     let empty = Running {
         variant: 0,
         stage: 0,
@@ -45,7 +45,7 @@ pub fn start(number: u8) -> (u8, Running) {
         Some(known) => {
             let state = sponge::start_state(known);
             let begun = Running {
-                variant: number,
+                variant: number as u8,
                 state: padded(&image::of_state(known, &state)),
                 ..empty
             };
@@ -105,7 +105,7 @@ impl Running {
 
     /// What it stands for; none if it is not well formed.
     fn parts(&self) -> Option<Open> {
-        let variant = variant(self.variant)?;
+        let variant = variant(self.variant.into())?;
         let total = self.total as usize;
         if self.stage > 1 || total > MESSAGE_LIMIT {
             return None;

@@ -49,7 +49,7 @@ pub fn segment<'a>(list: &[u8], buffer: &'a [u8], k: usize) -> Result<&'a [u8], 
 /// The digest, or the end state's image, of the segments joined in order.
 /// Refusals 1, 9, 10, 11, 4 and 5.
 pub fn digest_list(
-    number: u8,
+    number: u32,
     list: &[u8],
     buffer: &[u8],
     image: bool,

@@ -14,7 +14,7 @@ pub enum Family {
 #[derive(Clone, Copy, Debug, PartialEq, Eq)]
 pub struct Variant {
     /// The number that calls use, 1 to 10.
-    pub number: u8,
+    pub number: u32,
     /// The family's name and the size of the state.
     pub name: &'static str,
     /// The family.
@@ -56,13 +56,13 @@ pub static VARIANTS: [Variant; 10] = [
 ];
 
 /// The variant with this number.
-pub fn variant(number: u8) -> Option<&'static Variant> {
+pub fn variant(number: u32) -> Option<&'static Variant> {
     VARIANTS.iter().find(|variant| variant.number == number)
 }
 
 /// A PHOTON variant, with its two rates r and r'.
 const fn photon(
-    number: u8,
+    number: u32,
     name: &'static str,
     state_bits: usize,
     [block_bits, output_bits]: [usize; 2],
@@ -81,7 +81,7 @@ const fn photon(
 
 /// A SPONGENT variant, which takes in and gives out blocks of one size.
 const fn spongent(
-    number: u8,
+    number: u32,
     name: &'static str,
     state_bits: usize,
     rate: usize,

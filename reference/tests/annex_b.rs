@@ -9,7 +9,7 @@ use wickslate_reference::{digest, image, permute, sponge, unpermute, variant};
 /// digest.
 struct Example {
     clause: &'static str,
-    variant: u8,
+    variant: u32,
     before: Vec<u8>,
     after: Vec<u8>,
     message: &'static str,

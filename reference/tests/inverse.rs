@@ -19,7 +19,7 @@ fn random_image(generator: &mut Generator, variant: &Variant) -> Vec<u8> {
 
 /// Makes one call and then the other on many states of each variant, and
 /// expects the first to move the state and the second to bring it back.
-fn expect_undone(calls: [fn(u8, &mut [u8]) -> u8; 2]) {
+fn expect_undone(calls: [fn(u32, &mut [u8]) -> u8; 2]) {
     let mut generator = Generator::new(SEED);
     for variant in &VARIANTS {
         for _ in 0..STATES {

@@ -9,7 +9,7 @@ use wickslate_reference::padding::{block, block_count};
 use wickslate_reference::{digest_with, padding_table, variant, Padding};
 
 /// Clause, variant and digest of the SPONGENT examples, all of one message.
-const ANNEX_B_2: [(&str, u8, &str); 5] = [
+const ANNEX_B_2: [(&str, u32, &str); 5] = [
     ("B.2.2", 6, "69971BF96DEF95BFC46822"),
     ("B.2.3", 7, "6B7BA35EB09DE0F8DEF06AE555694C53"),
     ("B.2.4", 8, "13188A4917EA29E258362C047B9BF00C22B5FE91"),
@@ -57,7 +57,7 @@ fn the_printed_table_has_both_digests_of_each_example() {
 
 /// The blocks of a message in hexadecimal; a block of PHOTON may end in the
 /// middle of a byte, and no digit is printed for what the byte has left.
-fn blocks(number: u8, padding: Padding, message: &[u8]) -> Vec<String> {
+fn blocks(number: u32, padding: Padding, message: &[u8]) -> Vec<String> {
     let variant = variant(number).expect("a number from 1 to 10");
     let digits = |bits: &[bool]| -> String {
         let bytes = pack(Order::HighestFirst, bits);

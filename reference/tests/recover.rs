@@ -58,7 +58,7 @@ fn refusals_come_in_order() {
     let mut spare = good.clone();
     spare[12] |= 1;
     let wrong = vec![0xa0; 13];
-    type Call<'a> = (u8, &'a [u8], usize, &'a [u8], usize, u8);
+    type Call<'a> = (u32, &'a [u8], usize, &'a [u8], usize, u8);
     let calls: [Call; 8] = [
         (0, &long, 0, &good, 3, 1),
         (1, &long, usize::MAX, &good, 3, 4),

@@ -5,7 +5,7 @@ use wickslate_reference::{
 };
 
 /// Number, name, image bytes and digest bytes of each variant.
-const SIZES: [(u8, &str, usize, usize); 10] = [
+const SIZES: [(u32, &str, usize, usize); 10] = [
     (1, "photon-100", 13, 10),
     (2, "photon-144", 18, 16),
     (3, "photon-196", 25, 20),
@@ -18,10 +18,10 @@ const SIZES: [(u8, &str, usize, usize); 10] = [
     (10, "spongent-272", 34, 32),
 ];
 
-const UNKNOWN: [u8; 3] = [0, 11, 255];
+const UNKNOWN: [u32; 6] = [0, 11, 255, 256 + 1, (1 << 24) + 10, u32::MAX];
 
 /// Makes both calls and expects the same refusal and the same bytes after.
-fn expect_refused(number: u8, image: &[u8], refusal: u8) {
+fn expect_refused(number: u32, image: &[u8], refusal: u8) {
     for call in [permute, unpermute] {
         let mut after = image.to_vec();
         assert_eq!(call(number, &mut after), refusal, "variant {number}");

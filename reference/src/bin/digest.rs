@@ -10,7 +10,7 @@ fn main() -> io::Result<()> {
     let mut input = Vec::new();
     io::stdin().lock().read_to_end(&mut input)?;
     let answer = match input.split_first() {
-        Some((&number, message)) => digest(number, message),
+        Some((&number, message)) => digest(number.into(), message),
         None => Err(UNKNOWN_VARIANT),
     };
     match answer {

@@ -1,4 +1,4 @@
-//! Prints the calls of the permutations that the proved program prints too.
+//! Prints the lines that the proved program `vectors` prints too.
 
 fn main() {
     print!("{}", wickslate_reference::vector_lines());

@@ -20,9 +20,6 @@ const PHOTON_MESSAGE: &[u8] = b"The PHOTON Lightweight Hash Functions Family";
 /// The message of the examples of Annex B.2.
 const SPONGENT_MESSAGE: &[u8] = b"Sponge + Present = Spongent";
 
-/// The variant numbers that no variant has, smallest, next and greatest.
-const UNKNOWN: [u8; 3] = [0, 11, 255];
-
 /// Every line of the program `vectors`.
 pub fn vector_lines() -> String {
     let mut lines = String::new();
@@ -75,7 +72,7 @@ fn name(image: bool) -> &'static str {
 }
 
 /// A digest, or an end state's image, as its line shows it.
-fn result_hexadecimal(number: u8, image: bool, result: &[u8]) -> String {
+fn result_hexadecimal(number: u32, image: bool, result: &[u8]) -> String {
     match image {
         true => image_hexadecimal(number, result),
         false => hexadecimal(result),
@@ -93,7 +90,7 @@ fn status<T>(answer: &Result<T, Refusal>) -> String {
 
 /// An image as Annex B prints states, from the leftmost bit. SPONGENT's
 /// leftmost bit is in the last byte.
-fn image_hexadecimal(number: u8, image: &[u8]) -> String {
+fn image_hexadecimal(number: u32, image: &[u8]) -> String {
     match variant(number).map(|variant| variant.family) {
         Some(Family::Spongent) => {
             let reversed: Vec<u8> = image.iter().rev().copied().collect();

@@ -1,5 +1,5 @@
 //! The permutation and its inverse: the single permutations of Annex B
-//! forward and back, then calls that are refused.
+//! forward and back, and a call for each way to be refused.
 
 use std::fmt::Write;
 
@@ -9,7 +9,7 @@ use crate::variants::{Family, Variant, VARIANTS};
 use crate::{image, permute, sponge, unpermute};
 
 /// A call that changes an image in place, with its name.
-type Operation = (&'static str, fn(u8, &mut [u8]) -> u8);
+type Operation = (&'static str, fn(u32, &mut [u8]) -> u8);
 
 const PERMUTE: Operation = ("permute", permute);
 const UNPERMUTE: Operation = ("unpermute", unpermute);
@@ -38,30 +38,17 @@ fn annex_b_image(variant: &Variant) -> Vec<u8> {
     image::of_state(variant, &state)
 }
 
-/// Variants and images that both permutations refuse: unknown variants,
-/// wrong lengths, and a spare nibble that is not zero.
-fn refused_calls() -> Vec<(u8, Vec<u8>)> {
-    let fill = |bytes| vec![0xa0; bytes];
-    let mut calls = vec![(0, fill(13)), (11, fill(13)), (255, fill(13)), (0, fill(0))];
-    for variant in &VARIANTS {
-        let bytes = variant.image_bytes();
-        calls.extend([0, bytes - 1].map(|length| (variant.number, fill(length))));
-        // A zero byte more: nothing but the length is wrong.
-        let mut long = fill(bytes);
-        long.push(0);
-        calls.push((variant.number, long));
-    }
-    for (number, bytes) in [(1, 13), (3, 25)] {
-        let mut image = fill(bytes);
-        image[bytes - 1] = 0xa1;
-        calls.push((number, image));
-    }
-    calls
+/// Variants and images that both permutations refuse: no variant, a byte too
+/// few, and a spare nibble that is not zero.
+fn refused_calls() -> [(u32, Vec<u8>); 3] {
+    let mut spare = vec![0xa0; 13];
+    spare[12] = 0xa1;
+    [(0, vec![0xa0; 13]), (1, vec![0xa0; 12]), (1, spare)]
 }
 
 /// Makes the call on a copy of the image, adds its line, and gives the bytes
 /// after the call.
-fn add_line(lines: &mut String, operation: Operation, number: u8, image: &[u8]) -> Vec<u8> {
+fn add_line(lines: &mut String, operation: Operation, number: u32, image: &[u8]) -> Vec<u8> {
     let (name, call) = operation;
     let mut after = image.to_vec();
     let status = call(number, &mut after);

@@ -1,0 +1,276 @@
+//! The stack that each exported function uses, done or refused: less than the
+//! header says, with some room. `cargo test --release --test stack --
+//! --nocapture` prints it.
+
+use std::collections::BTreeMap;
+use std::fs;
+use std::path::Path;
+use std::sync::LazyLock;
+
+use wickslate_conformance::faults::{self, Call, Fault, LONG};
+use wickslate_conformance::make::well_formed;
+use wickslate_conformance::random::Random;
+use wickslate_conformance::settings;
+use wickslate_conformance::stack::{depth, Function};
+use wickslate_conformance::wickslate::{Answer, Cursor};
+use wickslate_reference::padding::block_count;
+use wickslate_reference::{Variant, MESSAGE_LIMIT, VARIANTS};
+
+// By their addresses alone.
+extern "C" {
+    fn wickslate_start();
+    fn wickslate_update();
+    fn wickslate_finish();
+    fn wickslate_digest();
+    fn wickslate_end_state();
+    fn wickslate_whole();
+    fn wickslate_permute();
+    fn wickslate_unpermute();
+    fn wickslate_recover();
+    fn wickslate_entry();
+    fn wickslate_advance();
+    fn wickslate_check_entry();
+    fn wickslate_digest_list();
+}
+
+/// The bytes between what was seen and what the header says, at least.
+const ROOM: usize = 64;
+
+/// The lengths of messages, of which the last has many blocks.
+const LENGTHS: [usize; 10] = [0, 1, 2, 3, 4, 5, 9, 18, 36, 500];
+
+/// The totals below this one hold bits in every number that can be: PHOTON-196
+/// holds none again after nine bytes, and the others sooner.
+const TOTALS: u32 = 9;
+
+static MESSAGE: LazyLock<Vec<u8>> = LazyLock::new(|| Random::of_test("stack").bytes(500));
+
+/// The address and the length of bytes that a call reads.
+fn read(bytes: &[u8]) -> [usize; 2] {
+    [bytes.as_ptr() as usize, bytes.len()]
+}
+
+/// The address and the length of bytes that a call may write.
+fn lent(bytes: &mut [u8]) -> [usize; 2] {
+    [bytes.as_mut_ptr() as usize, bytes.len()]
+}
+
+/// The most bytes of stack that each function has used.
+#[derive(Default)]
+struct Most(BTreeMap<&'static str, usize>);
+
+impl Most {
+    fn call(&mut self, name: &'static str, function: Function, words: &[usize]) -> u32 {
+        // SAFETY: the callers below pass what the functions take.
+        let (Answer(answer), used) = unsafe { depth(function, words) };
+        let most = self.0.entry(name).or_default();
+        *most = used.max(*most);
+        answer
+    }
+
+    fn start(&mut self, call: &Call) -> u32 {
+        let mut h = call.h;
+        let words = [&raw mut h as usize, call.number as usize];
+        self.call("start", wickslate_start, &words)
+    }
+
+    fn update(&mut self, call: &Call) -> u32 {
+        let mut h = call.h;
+        let piece = read(call.message);
+        let words = [&raw mut h as usize, piece[0], piece[1]];
+        self.call("update", wickslate_update, &words)
+    }
+
+    fn finish(&mut self, call: &Call) -> u32 {
+        let mut h = call.h;
+        self.call("finish", wickslate_finish, &[&raw mut h as usize])
+    }
+
+    fn read(&mut self, call: &Call, wanted: u32) -> u32 {
+        let mut out = call.output();
+        let out = lent(&mut out);
+        let words = [&raw const call.h as usize, out[0], out[1]];
+        match wanted {
+            0 => self.call("digest", wickslate_digest, &words),
+            _ => self.call("end_state", wickslate_end_state, &words),
+        }
+    }
+
+    fn whole(&mut self, call: &Call, wanted: u32) -> u32 {
+        let mut out = call.output();
+        let (number, wanted) = (call.number as usize, wanted as usize);
+        let (message, out) = (read(call.message), lent(&mut out));
+        let words = [number, message[0], message[1], wanted, out[0], out[1]];
+        self.call("whole", wickslate_whole, &words)
+    }
+
+    fn permute(&mut self, call: &Call) -> u32 {
+        let mut image = call.image.clone();
+        let image = lent(&mut image);
+        let words = [call.number as usize, image[0], image[1]];
+        self.call("permute", wickslate_permute, &words)
+    }
+
+    fn unpermute(&mut self, call: &Call) -> u32 {
+        let mut image = call.image.clone();
+        let image = lent(&mut image);
+        let words = [call.number as usize, image[0], image[1]];
+        self.call("unpermute", wickslate_unpermute, &words)
+    }
+
+    fn recover(&mut self, call: &Call) -> u32 {
+        let mut out = call.output();
+        let (number, place) = (call.number as usize, call.place);
+        let (message, image, out) = (read(call.message), read(&call.image), lent(&mut out));
+        let words = [
+            number, message[0], message[1], place, image[0], image[1], out[0], out[1],
+        ];
+        self.call("recover", wickslate_recover, &words)
+    }
+
+    fn entry(&mut self, call: &Call) -> u32 {
+        let list = call.list();
+        let list = read(&list);
+        let (mut offset, mut length) = (0_u32, 0_u32);
+        let pair = [&raw mut offset as usize, &raw mut length as usize];
+        let words = [list[0], list[1], call.entry, pair[0], pair[1]];
+        self.call("entry", wickslate_entry, &words)
+    }
+
+    fn advance(&mut self, call: &Call) -> u32 {
+        let list = call.list();
+        let mut cursor = Cursor::at(&list, call.entry);
+        self.call("advance", wickslate_advance, &[&raw mut cursor as usize])
+    }
+
+    fn check_entry(&mut self, call: &Call) -> u32 {
+        let list = call.list();
+        let (list, buffer) = (read(&list), read(call.message));
+        let words = [list[0], list[1], buffer[0], buffer[1], call.entry];
+        self.call("check_entry", wickslate_check_entry, &words)
+    }
+
+    fn digest_list(&mut self, call: &Call, wanted: u32) -> u32 {
+        let (list, mut out) = (call.list(), call.output());
+        let (number, wanted) = (call.number as usize, wanted as usize);
+        let (list, buffer, out) = (read(&list), read(call.message), lent(&mut out));
+        let words = [
+            number, list[0], list[1], buffer[0], buffer[1], wanted, out[0], out[1],
+        ];
+        self.call("digest_list", wickslate_digest_list, &words)
+    }
+
+    /// A call without a fault, and with each of them.
+    fn each(&mut self, sound: &Call, faults: &[Fault], answer: impl Fn(&mut Most, &Call) -> u32) {
+        assert_eq!(answer(self, sound), 0, "no fault");
+        for fault in faults {
+            assert_eq!(answer(self, &fault.spoil(sound)), fault.answer);
+        }
+    }
+
+    /// Every function, done and with each refusal.
+    fn refused_calls(&mut self, variant: &Variant) {
+        let sound = Call::sound(variant);
+        self.each(&sound, &faults::of_start(variant), Most::start);
+        self.each(&sound, &faults::of_update(variant), Most::update);
+        self.each(&sound, &faults::of_finish(variant), Most::finish);
+        self.each(&sound, &faults::of_permute(variant), Most::permute);
+        self.each(&sound, &faults::of_permute(variant), Most::unpermute);
+        self.each(&sound, &faults::of_recover(variant), Most::recover);
+        self.each(&sound, &faults::of_entry(), Most::entry);
+        self.each(&sound, &faults::of_entry(), Most::advance);
+        self.each(&sound, &faults::of_check_entry(), Most::check_entry);
+        for wanted in [0, 1] {
+            let faults = faults::of_read(variant, wanted);
+            self.each(&Call::closed(variant), &faults, |most, call| {
+                most.read(call, wanted)
+            });
+            let faults = faults::of_whole(variant, wanted);
+            self.each(&sound, &faults, |most, call| most.whole(call, wanted));
+            let faults = faults::of_digest_list(variant, wanted);
+            self.each(&sound, &faults, |most, call| most.digest_list(call, wanted));
+        }
+    }
+
+    /// A message in one piece behind so many bytes before it, a whole one, and
+    /// a list of 512 segments, of which the last is all of it.
+    fn message_calls(&mut self, call: &mut Call, variant: &Variant, totals: u32) {
+        let mut random = Random::of_test("message_calls");
+        for total in 0..totals {
+            call.h = well_formed(&mut random, variant, 0, total);
+            assert_eq!(self.update(call), 0);
+            assert_eq!(self.finish(call), 0);
+        }
+        call.entries = vec![(0, 0); 512];
+        call.entries[511].1 = call.message.len() as u32;
+        call.entry = 511;
+        for wanted in [0, 1] {
+            assert_eq!(self.whole(call, wanted), 0);
+            assert_eq!(self.digest_list(call, wanted), 0);
+        }
+        assert_eq!(self.entry(call), 0);
+        assert_eq!(self.advance(call), 0);
+        assert_eq!(self.check_entry(call), 0);
+    }
+
+    /// The first block lost, one in the middle and the last, of the message
+    /// and of none.
+    fn recover_calls(&mut self, call: &mut Call, variant: &Variant) {
+        let count = block_count(variant, call.message.len());
+        for place in [0, count / 2, count - 1] {
+            call.place = place;
+            self.each(call, &faults::no_block(variant), Most::recover);
+        }
+    }
+}
+
+/// The bytes that the header says each function needs, in its order.
+fn stated() -> Vec<(String, usize)> {
+    let path = Path::new(env!("CARGO_MANIFEST_DIR")).join("../include/wickslate.h");
+    let header = fs::read_to_string(path).expect("the header");
+    let mut stated = Vec::new();
+    let mut last = None;
+    for line in header.lines() {
+        if let Some(words) = line.strip_prefix(" * Stack:") {
+            let digits: String = words.chars().filter(char::is_ascii_digit).collect();
+            last = Some(digits.parse().expect("a number of bytes"));
+        }
+        if let Some(function) = line.strip_prefix("WICKSLATE_CALL uint32_t wickslate_") {
+            let name = function.split('(').next().expect("a name");
+            stated.push((name.to_string(), last.take().expect("a number of bytes")));
+        }
+    }
+    stated
+}
+
+#[test]
+fn every_call_leaves_some_of_what_the_header_says() {
+    let mut most = Most::default();
+    for variant in &VARIANTS {
+        most.refused_calls(variant);
+        for bytes in LENGTHS {
+            let mut call = Call::about(variant, &MESSAGE[..bytes]);
+            most.message_calls(&mut call, variant, TOTALS);
+            most.recover_calls(&mut call, variant);
+        }
+    }
+    if settings::minutes().is_some() {
+        // The variant that takes the least time for a byte.
+        let variant = &VARIANTS[4];
+        let mut call = Call::about(variant, &LONG[..MESSAGE_LIMIT]);
+        most.message_calls(&mut call, variant, 1);
+        most.recover_calls(&mut call, variant);
+    }
+    let stated = stated();
+    assert_eq!(stated.len(), most.0.len(), "a function is left out");
+    println!("| Function | bytes of stack, measured | stated in the header |");
+    println!("|---|--:|--:|");
+    for (name, stated) in &stated {
+        let used = most.0[name.as_str()];
+        println!("| `wickslate_{name}` | {used} | {stated} |");
+    }
+    for (name, stated) in stated {
+        let used = most.0[name.as_str()];
+        assert!(used + ROOM <= stated, "{name}: {used} of {stated} bytes");
+    }
+}
