@@ -43,14 +43,18 @@ inBytes-front (suc w) bytes hb h =
 pub inBytes-bigEndian : (bytes : List ℕ) → ((i : ℕ) → getD bytes i 0 < 256) → inBytes (length bytes) (bigEndian bytes) ≡ bytes
 inBytes-bigEndian bytes hb = rw take-length at (inBytes-front (length bytes) bytes hb (omega arith))
 
--- four bytes, as the code reads them
+drop-at : (xs : List ℕ) (k : ℕ) → k < length xs → drop k xs ≡ getD xs k 0 ∷ drop (k + 1) xs
+drop-at xs k l = rw (add-one, drop-cons xs k 0)
+
+-- two and four bytes, as the code reads them
+pub two-bytes : (bytes : List ℕ) (i : ℕ) → i + 2 ≤ length bytes → bigEndian (take 2 (drop i bytes)) ≡ getD bytes i 0 * 256 + getD bytes (i + 1) 0
+unfolding bigEndian
+two-bytes xs i h = rw (drop-at xs i (omega arith), drop-at xs (i + 1) (omega arith)) (omega arith)
+
 pub four-bytes : (bytes : List ℕ) (i : ℕ) → i + 4 ≤ length bytes
     → bigEndian (take 4 (drop i bytes)) ≡ ((getD bytes i 0 * 256 + getD bytes (i + 1) 0) * 256 + getD bytes (i + 2) 0) * 256 + getD bytes (i + 3) 0
 unfolding bigEndian
 four-bytes xs i h =
     let two : i + 1 + 1 ≡ i + 2 = omega arith in
     let three : i + 2 + 1 ≡ i + 3 = omega arith in
-    rw (from i (omega arith), from (i + 1) (omega arith), two, from (i + 2) (omega arith), three, from (i + 3) (omega arith)) (omega arith)
-  where
-    from : (k : ℕ) → k < length xs → drop k xs ≡ getD xs k 0 ∷ drop (k + 1) xs
-    from k l = rw (add-one, drop-cons xs k 0)
+    rw (drop-at xs i (omega arith), drop-at xs (i + 1) (omega arith), two, drop-at xs (i + 2) (omega arith), three, drop-at xs (i + 3) (omega arith)) (omega arith)

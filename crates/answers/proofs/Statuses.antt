@@ -9,7 +9,7 @@ use lib.ListN.{getD}
 use types.Run.{OneOf, miss}
 use denote.Enum.Declared.{tagOf}
 use Rattle.answers.specs.declared.Refusal.{Refusal}
-use Rattle.answers.specs.declared.Refusal.the-variants.{UnknownVariant, Malformed, WrongStage, TooLong, OutputTooShort, BadImage, OutOfRange, NoBlock, BadList, Misordered, PastEnd}
+use Rattle.answers.specs.declared.Refusal.the-variants.{UnknownVariant, Malformed, WrongStage, TooLong, OutputTooShort, BadImage, OutOfRange, NoBlock, BadList, Misordered, PastEnd, BadManifest, BadRecord}
 use Rattle.answers.specs.declared.Status.{Status}
 use Rattle.answers.specs.declared.Status.the-variants.{Done, Refused}
 use Rattle.answers.specs.Refusals.{number, entry, answer}
@@ -48,7 +48,8 @@ both-done s r e = ⊎-elim (λ d. (d, rw d at e)) (λ n. absurd (n (sym (kept s 
 abbrev refusalOf : ℕ → ℕ → Refusal
 refusalOf n k =
     getD
-    (UnknownVariant ∷ UnknownVariant ∷ Malformed ∷ WrongStage ∷ TooLong ∷ OutputTooShort ∷ BadImage ∷ OutOfRange ∷ NoBlock ∷ BadList ∷ Misordered k ∷ PastEnd k ∷ [])
+    (UnknownVariant ∷ UnknownVariant ∷ Malformed ∷ WrongStage ∷ TooLong ∷ OutputTooShort ∷ BadImage ∷ OutOfRange ∷ NoBlock ∷ BadList ∷ Misordered k ∷ PastEnd k
+    ∷ BadManifest ∷ BadRecord ∷ [])
     n UnknownVariant
 
 told : (r : Refusal) → (refusalOf (number r) (entry r) ≡ r) × ((0 < number r) × (number r < 256))
@@ -63,6 +64,8 @@ told NoBlock = (refl, omega arith)
 told BadList = (refl, omega arith)
 told (Misordered k) = (refl, omega arith)
 told (PastEnd k) = (refl, omega arith)
+told BadManifest = (refl, omega arith)
+told BadRecord = (refl, omega arith)
 
 -- the low byte is the refusal's number, and what is above it the entry
 pub answer-number : (r : Refusal) → answer (Refused r) % 256 ≡ number r

@@ -1,8 +1,8 @@
--- The refusals of document 01 by number, and a call's answer as one number.
+-- The refusals of documents 01 and 02 by number, and a call's answer as one number.
 -- Assumes nothing.
 use Prim.Native.Nat.{ℕ, _+_, _*_}
 use Rattle.answers.specs.declared.Refusal.{Refusal}
-use Rattle.answers.specs.declared.Refusal.the-variants.{UnknownVariant, Malformed, WrongStage, TooLong, OutputTooShort, BadImage, OutOfRange, NoBlock, BadList, Misordered, PastEnd}
+use Rattle.answers.specs.declared.Refusal.the-variants.{UnknownVariant, Malformed, WrongStage, TooLong, OutputTooShort, BadImage, OutOfRange, NoBlock, BadList, Misordered, PastEnd, BadManifest, BadRecord}
 use Rattle.answers.specs.declared.Status.{Status}
 use Rattle.answers.specs.declared.Status.the-variants.{Done, Refused}
 
@@ -19,6 +19,8 @@ number NoBlock = 8
 number BadList = 9
 number (Misordered k) = 10
 number (PastEnd k) = 11
+number BadManifest = 12
+number BadRecord = 13
 
 -- the entry of a list that refusals 10 and 11 name, and 0 elsewhere
 abbrev pub entry : Refusal → ℕ
@@ -33,6 +35,8 @@ entry NoBlock = 0
 entry BadList = 0
 entry (Misordered k) = k
 entry (PastEnd k) = k
+entry BadManifest = 0
+entry BadRecord = 0
 
 -- an answer as one number: that of its refusal, 0 for none, in the low byte, and the entry above it
 abbrev pub answer : Status → ℕ

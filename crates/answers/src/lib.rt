@@ -8,7 +8,7 @@ ghost use Rattle.answers.specs.Numbers.{bigEndian};
 // The most bytes that a message may have.
 pub const MOST: usize = 16777215;
 
-// Why a call was refused. The last two name the entry of a list that they are about.
+// Why a call was refused. The two of an entry name it.
 pub enum Refusal {
     UnknownVariant,
     Malformed,
@@ -21,6 +21,8 @@ pub enum Refusal {
     BadList,
     Misordered(u16),
     PastEnd(u16),
+    BadManifest,
+    BadRecord,
 }
 
 pub enum Status {
@@ -44,6 +46,8 @@ pub fn number_of(r: Refusal) -> u8
         Refusal::BadList => 9,
         Refusal::Misordered(_) => 10,
         Refusal::PastEnd(_) => 11,
+        Refusal::BadManifest => 12,
+        Refusal::BadRecord => 13,
     }
 }
 
@@ -63,6 +67,8 @@ pub fn entry_of(r: Refusal) -> u16
         Refusal::BadList => 0,
         Refusal::Misordered(k) => k,
         Refusal::PastEnd(k) => k,
+        Refusal::BadManifest => 0,
+        Refusal::BadRecord => 0,
     }
 }
 
@@ -87,6 +93,14 @@ fn wide(b: u8) -> u32
     ensures { λ r. ⌜ (r ≡ b) × (r < 256) ⌝ }
 {
     b as u32
+}
+
+// The number that the two bytes from i on stand for, the first the most significant.
+pub fn u16_at(bytes: &[u8], i: usize) -> u16
+    requires { ⌜ i + 2 ≤ length (now bytes) ⌝ }
+    ensures { λ r. ⌜ r ≡ bigEndian (take 2 (drop i (now (bytes .entry)))) ⌝ }
+{
+    (wide(bytes[i]) * 256 + wide(bytes[i + 1])) as u16
 }
 
 // The number that the four bytes from i on stand for, the first the most significant.

@@ -1,4 +1,4 @@
--- The laws of the running hash, and the theorems on it: Keeps, UpdateAppend, Demand2, Apart.
+-- The laws of the running hash, and the theorems on it: Keeps, UpdateAppend, ByteByByte, Demand2, Apart.
 pub mod Owned
 pub mod WellFormed
 pub mod Next
@@ -7,5 +7,6 @@ pub mod Message
 pub mod TakenBlocks
 pub mod Keeps
 pub mod UpdateAppend
+pub mod ByteByByte
 pub mod Demand2
 pub mod Apart

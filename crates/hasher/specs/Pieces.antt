@@ -20,6 +20,10 @@ unfoldable pub joined : List (List ℕ) → List ℕ
 joined [] = []
 joined (p ∷ ps) = p ++ joined ps
 
+-- the running hash after a byte more, where it takes one
+abbrev pub withByte : Hasher → ℕ → Hasher
+withByte h b = updated h (b ∷ []) .hasher
+
 -- the next call, on the running hash of a call that was Done; a refusal stays the answer
 abbrev pub andThen : Advanced → (Hasher → Advanced) → Advanced
 andThen a next = whenDone (a .status) (next (a .hasher)) a

@@ -1,0 +1,53 @@
+-- A piece taken at once is the piece taken a byte at a time, where the running hash takes all of it or nothing.
+-- Assumes nothing.
+use mathlib.Core.Path.{_≡_, refl, sym, ap, _∙_}
+use mathlib.Core.List.{List, [], _∷_, _++_, foldl}
+use mathlib.Core.Logic.{⊎-elim}
+use Prim.Native.Nat.{ℕ, suc, _+_, _≤_, _<_}
+use native.Mathlib.Omega.{arith}
+use lib.ListN.{length}
+use Rattle.answers.specs.declared.Status.the-variants.{Done}
+use Rattle.answers.specs.Checks.{firstRefusal}
+use Rattle.answers.specs.Outputs.{most}
+use Rattle.answers.proofs.Statuses.{done-or}
+use Rattle.hasher.specs.declared.Hasher.{Hasher}
+use Rattle.hasher.specs.declared.Advanced.{Advanced}
+use Rattle.hasher.specs.Running.{Open, updateChecks, updated}
+use Rattle.hasher.specs.Sized.{Sized}
+use Rattle.hasher.specs.Pieces.{withByte}
+use Rattle.hasher.proofs.Calls.{done, update-says, update-done, not-long}
+use Rattle.hasher.proofs.Keeps.{update-unchanged}
+use Rattle.hasher.proofs.Next.{onward, onward-total, onward-open, onward-sized, onward-append}
+
+-- every byte fits
+fitting : (part : List ℕ) (h : Hasher) → Sized h → Open h → (b : ℕ) → h .total + suc (length part) ≤ most
+    → foldl withByte h (b ∷ part) ≡ onward h (b ∷ part)
+fitting [] h z o b few = ap (λ (a : Advanced). a .hasher) (update-done h (b ∷ []) o few)
+fitting (d ∷ part) h z o b few =
+    let one = b ∷ [] in
+    ap (λ (a : Advanced). foldl withByte (a .hasher) (d ∷ part)) (update-done h one o (omega arith))
+    ∙ fitting part (onward h one) (onward-sized h z o one) (onward-open h z o one (omega arith)) d (omega (arith, onward-total h one))
+    ∙ onward-append h z o one (d ∷ part)
+
+-- a running hash that does not take one byte takes none
+module _ (h : Hasher) (no-byte : firstRefusal (updateChecks h 1) ≡ Done → ⊥) where
+  takes-none : (b : ℕ) (part : List ℕ) → updated h (b ∷ part) .hasher ≡ h
+  unfolding updated
+  takes-none b part =
+      update-unchanged h (b ∷ part)
+      (λ e. let says = update-says h (suc (length part)) e in no-byte (not-long h 1 (says .0) (omega (arith, says .1))))
+
+  stays : (part : List ℕ) → foldl withByte h part ≡ h
+  stays [] = refl
+  stays (b ∷ part) = ap (λ (g : Hasher). foldl withByte g part) (takes-none b []) ∙ stays part
+
+pub byte-by-byte : (h : Hasher) → Sized h → (b : ℕ) (part : List ℕ) → (h .total < most → h .total + suc (length part) ≤ most)
+    → foldl withByte h (b ∷ part) ≡ updated h (b ∷ part) .hasher
+byte-by-byte h z b part room =
+    ⊎-elim
+    (λ e.
+    let says = update-says h 1 e in
+    let few : h .total + suc (length part) ≤ most = room (omega (arith, says .1)) in
+    fitting part h z (says .0) b few ∙ sym (ap (λ (a : Advanced). a .hasher) (update-done h (b ∷ part) (says .0) few)))
+    (λ n. stays h n (b ∷ part) ∙ sym (takes-none h n b part))
+    (done-or (firstRefusal (updateChecks h 1)))

@@ -1,0 +1,34 @@
+-- The axes that a report awaits at its beginning, as the code finds them.
+-- Assumes nothing.
+use mathlib.Core.Path.{_≡_, sym, ap, _∙_}
+use mathlib.Core.Bool.{Bool, _&&_}
+use mathlib.Core.List.{List}
+use mathlib.Core.Logic.{⊎-elim}
+use Prim.Native.Nat.{ℕ, _≤_, _<_}
+use native.Mathlib.Omega.{arith}
+use lib.Dec.{ltb}
+use lib.ListN.{length, getD, replicate, getD-replicate}
+use borrow.Author.Tests.{lt-ltb, le-ltb}
+use Rattle.arrays.proofs.Upto.{Upto}
+use Rattle.standard.specs.Grid.{tab}
+use Rattle.standard.proofs.Tab.{tab-self, tab-cong}
+use Rattle.standard.proofs.Tests.{lt-or-le}
+use Rattle.manifest.specs.Records.{recordCount, countsAt}
+use Rattle.manifest.specs.Progress.{bit, awaitedAll}
+
+module _ (list : List ℕ) where
+  -- after k records
+  abbrev pub Awaited : ℕ → List ℕ → Type 0
+  Awaited k out = Upto 0 (λ j y. y ≡ bit (countsAt list j)) 512 k (replicate 512 0) out
+
+  pub all-awaited : (n : ℕ) → n ≡ recordCount list → (out : List ℕ) → Awaited n out → out ≡ awaitedAll list
+  unfolding awaitedAll
+  all-awaited n e out u =
+      sym (tab-self 512 out 0 (u .len))
+      ∙ tab-cong 512 (λ k. getD out k 0) (λ k. bit (ltb k (recordCount list) && countsAt list k))
+      (λ k h. ⊎-elim
+      (λ l. u .done k (omega arith) ∙ ap (λ (b : Bool). bit (b && countsAt list k)) (sym (lt-ltb k (recordCount list) l)))
+      (λ l.
+      u .rest k (omega arith) ∙ getD-replicate 512 k 0 0 h
+      ∙ ap (λ (b : Bool). bit (b && countsAt list k)) (sym (le-ltb k (recordCount list) l)))
+      (lt-or-le k (recordCount list)))

@@ -1,0 +1,101 @@
+-- Counting the things of a list that have a property: one more, two lists, two properties, and the numbers below n without one of them.
+-- Assumes nothing.
+use mathlib.Core.Path.{_≡_, refl, sym, ap, ap₂, _∙_}
+use mathlib.Core.Bool.{Bool, true, false, cond, not, _&&_}
+use mathlib.Core.List.{List, [], _∷_, _++_}
+use mathlib.Core.Logic.{_⊎_, inl, inr, ⊎-elim}
+use Prim.Native.Nat.{ℕ, zero, suc, _+_, _≤_, _<_}
+use native.Mathlib.Nat.{eq-or-lt-of-le}
+use native.Mathlib.Omega.{arith}
+use lib.Dec.{eqb, ltb}
+use lib.ListN.{length}
+use borrow.Author.Tests.{lt-ltb, le-ltb, eq-eqb, ne-eqb}
+use Rattle.standard.specs.Grid.{tab}
+use Rattle.standard.proofs.Tab.{tab-snoc}
+use Rattle.standard.proofs.Tests.{lt-or-le}
+use Rattle.manifest.specs.Counts.{howMany}
+use Rattle.manifest.specs.Progress.{bit}
+
+-- ---- conditions
+
+pub and-yes : (b : Bool) → (b && true) ≡ b
+and-yes true = refl
+and-yes false = refl
+
+pub and-no : (b : Bool) → (b && false) ≡ false
+and-no true = refl
+and-no false = refl
+
+-- ---- conditions as numbers
+
+pub bit-not : (b : Bool) → bit b + bit (not b) ≡ 1
+bit-not true = refl
+bit-not false = refl
+
+-- a condition that holds only where another does
+pub bit-and : (a b : Bool) → bit (a && b) ≤ bit a
+bit-and true true = omega arith
+bit-and true false = omega arith
+bit-and false b = omega arith
+
+-- ---- any list
+
+module _ {A : Type 0} where
+  pub count-cons : (p : A → Bool) (x : A) (xs : List A) → howMany p (x ∷ xs) ≡ bit (p x) + howMany p xs
+  count-cons p x xs = by (p x)
+    where
+      by : (b : Bool) → cond b (suc (howMany p xs)) (howMany p xs) ≡ bit b + howMany p xs
+      by true = omega arith
+      by false = omega arith
+
+  pub count-append : (p : A → Bool) (xs ys : List A) → howMany p (xs ++ ys) ≡ howMany p xs + howMany p ys
+  count-append p [] ys = omega arith
+  count-append p (x ∷ xs) ys = omega (arith, count-cons p x (xs ++ ys), count-cons p x xs, count-append p xs ys)
+
+  -- one thing behind the others
+  pub count-snoc : (p : A → Bool) (xs : List A) (x : A) → howMany p (xs ++ x ∷ []) ≡ howMany p xs + bit (p x)
+  count-snoc p xs x = omega (arith, count-append p xs (x ∷ []), count-cons p x [])
+
+  -- each thing has one of three properties
+  pub count-three : (p q r : A → Bool) → ((x : A) → bit (p x) + bit (q x) + bit (r x) ≡ 1) → (xs : List A)
+      → howMany p xs + howMany q xs + howMany r xs ≡ length xs
+  count-three p q r one [] = refl
+  count-three p q r one (x ∷ xs) = omega (arith, count-cons p x xs, count-cons q x xs, count-cons r x xs, one x, count-three p q r one xs)
+
+  -- a property that holds only where another does
+  pub count-le : (p q : A → Bool) → ((x : A) → bit (p x) ≤ bit (q x)) → (xs : List A) → howMany p xs ≤ howMany q xs
+  count-le p q h [] = omega arith
+  count-le p q h (x ∷ xs) = omega (arith, count-cons p x xs, count-cons q x xs, h x, count-le p q h xs)
+
+-- ---- the numbers below n
+
+abbrev pub countBelow : (ℕ → Bool) → ℕ → ℕ
+countBelow p n = howMany p (tab n (λ k. k))
+
+pub count-suc : (p : ℕ → Bool) (n : ℕ) → countBelow p (suc n) ≡ countBelow p n + bit (p n)
+count-suc p n = ap (howMany p) (tab-snoc n (λ k. k)) ∙ count-snoc p (tab n (λ k. k)) n
+
+-- properties that agree below n
+pub count-same : (p q : ℕ → Bool) (n : ℕ) → ((k : ℕ) → k < n → p k ≡ q k) → countBelow p n ≡ countBelow q n
+count-same p q zero h = refl
+count-same p q (suc n) h =
+    count-suc p n
+    ∙ ap₂ _+_ (count-same p q n (λ k l. h k (omega arith))) (ap bit (h n (omega arith)))
+    ∙ sym (count-suc q n)
+
+-- all but K: one less, if K is below n and has the property
+turn : (p : ℕ → Bool) (K n : ℕ) → bit (p n && not (eqb n K)) + bit (ltb K (suc n) && p K) ≡ bit (p n) + bit (ltb K n && p K)
+turn p K n =
+    ⊎-elim
+    (λ l. rw (ne-eqb n K (λ e. omega arith), lt-ltb K (suc n) (omega arith), lt-ltb K n l, and-yes))
+    (λ l. rw (le-ltb K n l)
+    (⊎-elim
+    (λ e. rw (eq-eqb n K e, lt-ltb K (suc n) (omega arith), and-no, e) (omega arith))
+    (λ m. rw (ne-eqb n K (λ e. omega arith), le-ltb K (suc n) m, and-yes))
+    (eq-or-lt-of-le l)))
+    (lt-or-le K n)
+
+pub count-without : (p : ℕ → Bool) (K n : ℕ) → countBelow (λ k. p k && not (eqb k K)) n + bit (ltb K n && p K) ≡ countBelow p n
+count-without p K zero = rw (le-ltb K 0 (omega arith))
+count-without p K (suc n) =
+    omega (arith, count-suc (λ k. p k && not (eqb k K)) n, count-suc p n, count-without p K n, turn p K n)

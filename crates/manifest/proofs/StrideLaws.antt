@@ -1,0 +1,97 @@
+-- A stride of the stream taken at once is its bytes taken one by one.
+-- Assumes nothing.
+use mathlib.Core.Path.{_≡_, refl, sym, ap, _∙_}
+use mathlib.Core.List.{List, [], _∷_, foldl, foldl-append}
+use mathlib.Core.Logic.{_⊎_, inl, inr}
+use Prim.Native.Nat.{ℕ, zero, suc, _+_, _-_, _≤_, _<_}
+use native.Mathlib.Omega.{arith}
+use lib.ListN.{length, getD, take, drop, take-append-drop, length-drop}
+use lib.Seq.{length-take-le, drop-drop}
+use borrow.Author.Tests.{lt-ltb, le-ltb, le-leb, ne-eqb}
+use Rattle.standard.proofs.Tests.{lt-or-le}
+use Rattle.hasher.specs.declared.Hasher.{Hasher}
+use Rattle.hasher.specs.Pieces.{withByte}
+use Rattle.manifest.specs.declared.report.Tally.{Tally}
+use Rattle.manifest.specs.declared.report.Current.{Current}
+use Rattle.manifest.specs.declared.report.Report.{Report}
+use Rattle.manifest.specs.Tables.{mostTables}
+use Rattle.manifest.specs.Progress.{headed, grown, onward, isComplete, tallied, settled, byteTaken, Stride}
+
+-- the table that is being read, with so much left and this running hash
+abbrev pub further : Current → ℕ → Hasher → Current
+further c n h = record { header = c .header; got = c .got; left = n; hasher = h }
+
+-- the part of a piece that the code lends
+abbrev pub partOf : List ℕ → ℕ → ℕ → List ℕ
+partOf piece i n = take (i + n - i) (drop i piece)
+
+pub part-length : (piece : List ℕ) (i n : ℕ) → i + n ≤ length piece → length (partOf piece i n) ≡ n
+part-length piece i n h = length-take-le (i + n - i) (drop i piece) (omega (arith, length-drop i piece)) ∙ omega arith
+
+module _ (list : List ℕ) where
+  -- a byte of the header
+  pub onward-header : (c : Current) (part : List ℕ) → Stride c (length part) → c .got < 6 → foldl (onward list) c part ≡ headed list c (getD part 0 0)
+  unfolding onward
+  onward-header c [] s l = absurd (omega (arith, s .header l))
+  onward-header c (b ∷ []) s l = rw (lt-ltb (c .got) 6 l)
+  onward-header c (b ∷ d ∷ part) s l = absurd (omega (arith, s .header l))
+
+  -- bytes of the contents, hashed one by one
+  pub onward-bytes : (part : List ℕ) (c : Current) → 6 ≤ c .got → foldl (onward list) c part ≡ further c (c .left - length part) (foldl withByte (c .hasher) part)
+  unfolding onward grown
+  onward-bytes [] c h = let e : c .left ≡ c .left - 0 = omega arith in ap (λ (n : ℕ). further c n (c .hasher)) e
+  onward-bytes (b ∷ part) c h =
+      let e : c .left - 1 - length part ≡ c .left - suc (length part) = omega arith in
+      rw (le-ltb (c .got) 6 h)
+      (onward-bytes part (grown c b) h ∙ ap (λ (n : ℕ). further c n (foldl withByte (c .hasher) (b ∷ part))) e)
+
+  module _ (y : Tally) (few : tallied y < mostTables) where
+    -- one byte
+    one-byte : (c : Current) (b : ℕ) → byteTaken list (record { tally = y; current = c }) b ≡ settled list y (onward list c b)
+    unfolding byteTaken
+    one-byte c b = rw (lt-ltb (tallied y) mostTables few)
+
+    -- a byte inside the contents ends no table
+    inside-byte : (c : Current) (b : ℕ) → 6 ≤ c .got → 1 < c .left
+        → byteTaken list (record { tally = y; current = c }) b ≡ record { tally = y; current = grown c b }
+    unfolding settled onward isComplete grown
+    inside-byte c b h l = one-byte c b ∙ rw (le-ltb (c .got) 6 h, le-leb 6 (c .got) h, ne-eqb (c .left - 1) 0 (λ e. omega arith))
+
+    -- so bytes of the contents end one by their last alone
+    inside : (part : List ℕ) (c : Current) (b : ℕ) → 6 ≤ c .got → suc (length part) ≤ c .left
+        → foldl (byteTaken list) (record { tally = y; current = c }) (b ∷ part) ≡ settled list y (foldl (onward list) c (b ∷ part))
+    unfolding onward grown
+    inside [] c b h l = one-byte c b
+    inside (d ∷ part) c b h l =
+        ap (λ (r : Report). foldl (byteTaken list) r (d ∷ part)) (inside-byte c b h (omega arith))
+        ∙ inside part (grown c b) d h (omega arith)
+        ∙ ap (λ (e : Current). settled list y (foldl (onward list) e (d ∷ part))) {x = grown c b} {y = onward list c b} (rw (le-ltb (c .got) 6 h))
+
+    -- a stride
+    pub stride-settled : (c : Current) (part : List ℕ) → Stride c (length part)
+        → foldl (byteTaken list) (record { tally = y; current = c }) part ≡ settled list y (foldl (onward list) c part)
+    stride-settled c [] s = absurd (omega (arith, s .some))
+    stride-settled c (b ∷ []) s = one-byte c b
+    stride-settled c (b ∷ d ∷ part) s =
+        inside (d ∷ part) c b (contents (lt-or-le (c .got) 6)) (s .inside (omega arith))
+      where
+        contents : (c .got < 6) ⊎ (6 ≤ c .got) → 6 ≤ c .got
+        contents (inl l) = absurd (omega (arith, s .header l))
+        contents (inr h) = h
+
+  -- behind the last table nothing changes
+  full-byte : (r : Report) → mostTables ≤ tallied (r .tally) → (b : ℕ) → byteTaken list r b ≡ r
+  unfolding byteTaken
+  full-byte r h b = rw (le-ltb (tallied (r .tally)) mostTables h)
+
+  pub full-stays : (r : Report) → mostTables ≤ tallied (r .tally) → (part : List ℕ) → foldl (byteTaken list) r part ≡ r
+  full-stays r h [] = refl
+  full-stays r h (b ∷ part) = ap (λ (q : Report). foldl (byteTaken list) q part) (full-byte r h b) ∙ full-stays r h part
+
+  -- the bytes from i on: the part of n of them, then those from i + n on
+  pub stream-stepped : (r s : Report) (piece : List ℕ) (i n : ℕ) → s ≡ foldl (byteTaken list) r (partOf piece i n)
+      → foldl (byteTaken list) r (drop i piece) ≡ foldl (byteTaken list) s (drop (i + n) piece)
+  stream-stepped r s piece i n e =
+      let l : i + n - i ≡ n = omega arith in
+      sym (rw (e, l, ← drop-drop n i piece) (sym (foldl-append (byteTaken list) r (take n (drop i piece)) (drop n (drop i piece))))
+      ∙ ap (foldl (byteTaken list) r) (take-append-drop n (drop i piece)))

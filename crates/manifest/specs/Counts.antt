@@ -1,0 +1,69 @@
+-- The six counts of a report (document 02, Q-1), from the bytes of a manifest and the bytes of a stream of tables.
+-- Assumes nothing.
+use mathlib.Core.Bool.{Bool, true, false, cond, not, _&&_}
+use mathlib.Core.List.{List, [], _∷_}
+use Prim.Native.Nat.{ℕ, suc}
+use lib.Dec.{eqb, ltb, leb}
+use lib.ListN.{length}
+use Rattle.answers.specs.Outputs.{most}
+use Rattle.standard.specs.Grid.{tab}
+use Rattle.standard.specs.Chain.{messageBits, digestOf}
+use Rattle.standard.specs.Variants.{variant}
+use Rattle.manifest.specs.Records.{recordCount, axisAt, variantAt, digestAt, recordFor, isListed, countsAt}
+use Rattle.manifest.specs.Tables.{Table, tablesIn}
+
+-- how many things of a list have a property
+abbrev pub howMany : {A : Type 0} → (A → Bool) → List A → ℕ
+howMany p [] = 0
+howMany p (x ∷ xs) = cond (p x) (suc (howMany p xs)) (howMany p xs)
+
+-- two rows of bytes are the same
+abbrev pub same : List ℕ → List ℕ → Bool
+same [] [] = true
+same [] (y ∷ ys) = false
+same (x ∷ xs) [] = false
+same (x ∷ xs) (y ∷ ys) = eqb x y && same xs ys
+
+-- a table is within the limit of a message, and its digest under the variant of record k is the one of that record
+unfoldable pub agrees : List ℕ → ℕ → List ℕ → Bool
+agrees list k contents = leb (length contents) most && same (digestOf (variant (variantAt list k)) (messageBits contents)) (digestAt list k)
+
+-- a table of a listed axis agrees with the record that counts for it, or does not; a table of no listed axis
+unfoldable pub isEqual : List ℕ → Table → Bool
+isEqual list t = isListed list (t .axis) && agrees list (recordFor list (t .axis)) (t .contents)
+
+unfoldable pub isUnequal : List ℕ → Table → Bool
+isUnequal list t = isListed list (t .axis) && not (agrees list (recordFor list (t .axis)) (t .contents))
+
+unfoldable pub isUnlisted : List ℕ → Table → Bool
+isUnlisted list t = not (isListed list (t .axis))
+
+-- an axis has a table
+unfoldable pub isTold : List Table → ℕ → Bool
+isTold ts axis = ltb 0 (howMany (λ (t : Table). eqb (t .axis) axis) ts)
+
+-- the numbers of a manifest's records
+abbrev pub recordsOf : List ℕ → List ℕ
+recordsOf list = tab (recordCount list) (λ k. k)
+
+-- ---- the counts
+
+-- distinct axes: each has one record that counts
+unfoldable pub listed : List ℕ → ℕ
+listed list = howMany (countsAt list) (recordsOf list)
+
+unfoldable pub tables : List ℕ → ℕ
+tables stream = length (tablesIn stream)
+
+unfoldable pub equal : List ℕ → List ℕ → ℕ
+equal list stream = howMany (isEqual list) (tablesIn stream)
+
+unfoldable pub unequal : List ℕ → List ℕ → ℕ
+unequal list stream = howMany (isUnequal list) (tablesIn stream)
+
+-- distinct listed axes with no table
+unfoldable pub untold : List ℕ → List ℕ → ℕ
+untold list stream = howMany (λ k. countsAt list k && not (isTold (tablesIn stream) (axisAt list k))) (recordsOf list)
+
+unfoldable pub unlisted : List ℕ → List ℕ → ℕ
+unlisted list stream = howMany (isUnlisted list) (tablesIn stream)

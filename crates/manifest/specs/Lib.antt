@@ -1,0 +1,5 @@
+-- The definitions that the contracts and the theorems of this crate cite.
+pub mod Records
+pub mod Tables
+pub mod Counts
+pub mod Progress

@@ -1,0 +1,166 @@
+-- A report in progress: what each byte of the stream makes of it. Total: a report that no stream leads to has its next one too.
+-- Assumes nothing.
+use mathlib.Core.Path.{_≡_}
+use mathlib.Core.Bool.{Bool, false, cond, not, _&&_}
+use mathlib.Core.List.{List, [], _∷_, foldl}
+use Prim.Native.Nat.{ℕ, _+_, _-_, _≤_, _<_}
+use lib.Dec.{eqb, ltb, leb}
+use lib.ListN.{length, replicate, getD, set}
+use Rattle.answers.specs.declared.Status.{Status}
+use Rattle.answers.specs.Outputs.{whenDone, most}
+use Rattle.standard.specs.Grid.{tab}
+use Rattle.hasher.specs.declared.Hasher.{Hasher}
+use Rattle.hasher.specs.declared.Wanted.the-variants.{Digest}
+use Rattle.hasher.specs.Running.{blank, started, finished}
+use Rattle.hasher.specs.Reading.{readStatus, readInto}
+use Rattle.hasher.specs.Pieces.{withByte}
+use Rattle.manifest.specs.declared.report.Tally.{Tally}
+use Rattle.manifest.specs.declared.report.Current.{Current}
+use Rattle.manifest.specs.declared.report.Report.{Report}
+use Rattle.manifest.specs.declared.report.Beginning.{Beginning}
+use Rattle.manifest.specs.declared.report.Summary.{Summary}
+use Rattle.manifest.specs.Records.{isManifest, recordCount, variantAt, filledAt, manifestStatus, recordFor, isListed, countsAt}
+use Rattle.manifest.specs.Tables.{axisIn, lengthIn, mostTables}
+use Rattle.manifest.specs.Counts.{same, listed, tables, equal, unequal, untold, unlisted}
+
+-- ---- the table that is being read
+
+-- none yet
+abbrev pub unread : Current
+unread = record { header = replicate 6 0; got = 0; left = 0; hasher = blank 0 }
+
+-- the variant under which a table is hashed: that of the record that counts; 0, under which nothing is, where the axis is not listed or the table past the limit
+unfoldable pub hashedUnder : List ℕ → ℕ → ℕ → ℕ
+hashedUnder list axis n = cond (isListed list axis && leb n most) (variantAt list (recordFor list axis)) 0
+
+-- its header is there, and the contents are to come
+unfoldable pub opened : List ℕ → List ℕ → Current
+opened list header =
+    record { header = header; got = 6; left = lengthIn header; hasher = started (hashedUnder list (axisIn header) (lengthIn header)) .hasher }
+
+-- a byte of the header
+unfoldable pub headed : List ℕ → Current → ℕ → Current
+headed list c b =
+    cond (ltb (c .got) 5)
+    (record { header = set (c .header) (c .got) b; got = c .got + 1; left = c .left; hasher = c .hasher })
+    (opened list (set (c .header) (c .got) b))
+
+-- a byte of the contents
+unfoldable pub grown : Current → ℕ → Current
+grown c b = record { header = c .header; got = c .got; left = c .left - 1; hasher = withByte (c .hasher) b }
+
+unfoldable pub onward : List ℕ → Current → ℕ → Current
+onward list c b = cond (ltb (c .got) 6) (headed list c b) (grown c b)
+
+-- its last byte was read
+unfoldable pub isComplete : Current → Bool
+isComplete c = leb 6 (c .got) && eqb (c .left) 0
+
+-- ---- the tally of the tables read
+
+-- 1 where the condition holds
+abbrev pub bit : Bool → ℕ
+bit b = cond b 1 0
+
+-- the tables told so far
+abbrev pub tallied : Tally → ℕ
+tallied y = y .equal + y .unequal + y .unlisted
+
+-- a running hash ends in the digest of record k
+unfoldable pub matches : List ℕ → ℕ → Hasher → Bool
+matches list k h =
+    whenDone (readStatus (finished h .hasher) Digest 32) (same (readInto (finished h .hasher) Digest (replicate 32 0)) (filledAt list k)) false
+
+-- a table of record k: its axis is no longer awaited
+unfoldable pub withListed : Tally → ℕ → Bool → Tally
+withListed y k agrees =
+    record {
+      listed = y .listed;
+      untold = y .untold - getD (y .awaited) k 0;
+      equal = y .equal + bit agrees;
+      unequal = y .unequal + bit (not agrees);
+      unlisted = y .unlisted;
+      awaited = set (y .awaited) k 0;
+    }
+
+-- a table of no listed axis
+unfoldable pub withUnlisted : Tally → Tally
+withUnlisted y =
+    record { listed = y .listed; untold = y .untold; equal = y .equal; unequal = y .unequal; unlisted = y .unlisted + 1; awaited = y .awaited }
+
+-- the table that was read
+unfoldable pub withTable : List ℕ → Tally → Current → Tally
+withTable list y c =
+    cond (isListed list (axisIn (c .header)))
+    (withListed y (recordFor list (axisIn (c .header))) (matches list (recordFor list (axisIn (c .header))) (c .hasher)))
+    (withUnlisted y)
+
+-- ---- the report
+
+-- the table goes into the tally once it is over
+unfoldable pub settled : List ℕ → Tally → Current → Report
+settled list y c = cond (isComplete c) (record { tally = withTable list y c; current = unread }) (record { tally = y; current = c })
+
+-- a byte of the stream; none is looked at behind the last table
+unfoldable pub byteTaken : List ℕ → Report → ℕ → Report
+byteTaken list r b = cond (ltb (tallied (r .tally)) mostTables) (settled list (r .tally) (onward list (r .current) b)) r
+
+-- each byte of a piece in turn; with what is no manifest nothing is read
+unfoldable pub taken : List ℕ → Report → List ℕ → Report
+taken list r piece = cond (isManifest list) (foldl (byteTaken list) r piece) r
+
+-- every axis awaited, by the record that counts for it
+unfoldable pub awaitedAll : List ℕ → List ℕ
+awaitedAll list = tab 512 (λ k. bit (ltb k (recordCount list) && countsAt list k))
+
+-- no table read yet
+unfoldable pub fresh : List ℕ → Report
+fresh list =
+    record {
+      tally = record { listed = listed list; untold = listed list; equal = 0; unequal = 0; unlisted = 0; awaited = awaitedAll list };
+      current = unread;
+    }
+
+-- a report of nothing: what a refused manifest yields
+abbrev pub empty : Report
+empty = record { tally = record { listed = 0; untold = 0; equal = 0; unequal = 0; unlisted = 0; awaited = replicate 512 0 }; current = unread }
+
+unfoldable pub begun : List ℕ → Beginning
+begun list = record { status = manifestStatus list; report = whenDone (manifestStatus list) (fresh list) empty }
+
+-- ---- the counts
+
+-- those that a report has come to
+unfoldable pub countsSoFar : Report → Summary
+countsSoFar r =
+    record {
+      listed = r .tally .listed;
+      tables = tallied (r .tally);
+      equal = r .tally .equal;
+      unequal = r .tally .unequal;
+      untold = r .tally .untold;
+      unlisted = r .tally .unlisted;
+    }
+
+-- those of a manifest and a stream
+unfoldable pub countsOf : List ℕ → List ℕ → Summary
+countsOf list stream =
+    record {
+      listed = listed list;
+      tables = tables stream;
+      equal = equal list stream;
+      unequal = unequal list stream;
+      untold = untold list stream;
+      unlisted = unlisted list stream;
+    }
+
+-- a report from its beginning, with every piece in turn
+unfoldable pub reported : List ℕ → List (List ℕ) → Report
+reported list pieces = foldl (taken list) (begun list .report) pieces
+
+-- ---- for the code: so many bytes that nothing but the last of them can end the table, and that its running hash takes whole or not at all
+pub record Stride (c : Current) (n : ℕ) : Type 0 where
+  pub some : 1 ≤ n
+  pub header : c .got < 6 → n ≡ 1
+  pub inside : 1 < n → n ≤ c .left
+  pub room : c .hasher .total < most → c .hasher .total + n ≤ most

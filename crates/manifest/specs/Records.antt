@@ -1,0 +1,75 @@
+-- A manifest (document 02, Q-1: rig list): records of 35 bytes, each an axis number, a variant and the digest of that axis's table.
+-- Assumes nothing.
+use mathlib.Core.Bool.{Bool, true, cond, _&&_}
+use mathlib.Core.List.{List, [], _∷_}
+use Prim.Native.Nat.{ℕ, zero, suc, _+_, _*_, _/_, _%_}
+use lib.Dec.{eqb, ltb, leb}
+use lib.ListN.{length, take, drop, getD}
+use Rattle.answers.specs.declared.Refusal.the-variants.{BadManifest, BadRecord}
+use Rattle.answers.specs.declared.Status.{Status}
+use Rattle.answers.specs.Checks.{Check, unless, firstRefusal, each}
+use Rattle.answers.specs.Numbers.{bigEndian}
+use Rattle.standard.specs.Variants.{variant, known}
+
+-- 12 refuses what is not: whole records, and no more than 512 of them
+unfoldable pub isManifest : List ℕ → Bool
+isManifest list = eqb (length list % 35) 0 && leb (length list) 17920
+
+-- how many records a manifest has
+abbrev pub recordCount : List ℕ → ℕ
+recordCount list = length list / 35
+
+-- record k: two bytes of axis number, one of variant, and 32 of the digest and the filler behind it
+abbrev pub axisAt : List ℕ → ℕ → ℕ
+axisAt list k = bigEndian (take 2 (drop (35 * k) list))
+
+abbrev pub variantAt : List ℕ → ℕ → ℕ
+variantAt list k = getD list (35 * k + 2) 0
+
+abbrev pub filledAt : List ℕ → ℕ → List ℕ
+filledAt list k = take 32 (drop (35 * k + 3) list)
+
+-- the digest's bytes under a variant, of which a digest has n bits
+abbrev pub digestBytes : ℕ → ℕ
+digestBytes v = variant v .n / 8
+
+-- the digest, and the filler
+unfoldable pub digestAt : List ℕ → ℕ → List ℕ
+digestAt list k = take (digestBytes (variantAt list k)) (filledAt list k)
+
+unfoldable pub fillerAt : List ℕ → ℕ → List ℕ
+fillerAt list k = drop (digestBytes (variantAt list k)) (filledAt list k)
+
+-- every byte is zero
+abbrev pub zeros : List ℕ → Bool
+zeros [] = true
+zeros (b ∷ bytes) = eqb b 0 && zeros bytes
+
+-- the check of record k: 13 for its variant or its filler
+unfoldable pub recordChecks : List ℕ → ℕ → List Check
+recordChecks list k = unless (known (variantAt list k)) BadRecord ∷ unless (zeros (fillerAt list k)) BadRecord ∷ []
+
+-- List of a report: 12, then record by record 13
+abbrev pub manifestChecks : List ℕ → List Check
+manifestChecks list = unless (isManifest list) BadManifest ∷ each (recordCount list) (recordChecks list)
+
+-- its answer
+unfoldable pub manifestStatus : List ℕ → Status
+manifestStatus list = firstRefusal (manifestChecks list)
+
+-- the first number below n of which p holds, and n where it holds of none
+abbrev pub firstBelow : ℕ → (ℕ → Bool) → ℕ
+firstBelow zero p = 0
+firstBelow (suc n) p = cond (p 0) 0 (suc (firstBelow n (λ k. p (suc k))))
+
+-- the record that counts for an axis: the first with its number; the record count where there is none
+unfoldable pub recordFor : List ℕ → ℕ → ℕ
+recordFor list axis = firstBelow (recordCount list) (λ k. eqb (axisAt list k) axis)
+
+-- an axis has a record
+unfoldable pub isListed : List ℕ → ℕ → Bool
+isListed list axis = ltb (recordFor list axis) (recordCount list)
+
+-- record k counts for its own axis
+unfoldable pub countsAt : List ℕ → ℕ → Bool
+countsAt list k = eqb (recordFor list (axisAt list k)) k

@@ -1,0 +1,11 @@
+// Manifests: which table each axis of an installation should hold, and a report of the tables that it does hold.
+mod records;
+mod report;
+
+pub use records::check;
+pub use report::Beginning;
+pub use report::Report;
+pub use report::Summary;
+pub use report::begun;
+pub use report::counts;
+pub use report::taken;

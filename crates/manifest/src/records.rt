@@ -1,0 +1,108 @@
+// The records of a manifest.
+ghost use mathlib.Core.Path.{_≡_};
+ghost use mathlib.Core.Bool.{true};
+ghost use Prim.Native.Nat.{_*_, _+_, _≤_, _<_};
+ghost use lib.ListN.{length, take, drop};
+ghost use Rattle.answers.specs.Checks.{firstRefusal};
+ghost use Rattle.manifest.specs.Records.{isManifest, recordCount, axisAt, variantAt, filledAt, zeros, recordChecks, manifestStatus, recordFor};
+use answers::Refusal;
+use answers::Status;
+
+// A record: two bytes of axis number, one of variant, and 32 of the digest and the filler behind it.
+pub const RECORD_BYTES: usize = 35;
+
+pub const MOST_RECORDS: usize = 512;
+
+// Whole records, and no more than 512 of them.
+pub fn is_manifest(list: &[u8]) -> bool
+    ensures { λ r. ⌜ r ≡ isManifest (now (list .entry)) ⌝ }
+{
+    list.len() % RECORD_BYTES == 0 && list.len() <= MOST_RECORDS * RECORD_BYTES
+}
+
+pub fn axis_at(list: &[u8], k: usize) -> u16
+    requires { ⌜ k < recordCount (now list) ⌝ }
+    ensures { λ r. ⌜ r ≡ axisAt (now (list .entry)) k ⌝ }
+{
+    answers::u16_at(list, RECORD_BYTES * k)
+}
+
+pub fn variant_at(list: &[u8], k: usize) -> u8
+    requires { ⌜ k < recordCount (now list) ⌝ }
+    ensures { λ r. ⌜ r ≡ variantAt (now (list .entry)) k ⌝ }
+{
+    list[RECORD_BYTES * k + 2]
+}
+
+// The digest of record k and its filler, where they lie in the manifest.
+pub fn filled_at<'a>(list: &'a [u8], k: usize) -> &'a [u8]
+    requires { ⌜ k < recordCount (now list) ⌝ }
+    ensures { λ r. ⌜ now r ≡ filledAt (now (list .entry)) k ⌝ }
+{
+    let a = RECORD_BYTES * k + 3;
+    &list[a..a + 32]
+}
+
+// Whether every byte from `from` on is zero.
+fn zero_from(bytes: &[u8], from: usize) -> bool
+    ensures { λ r. ⌜ r ≡ zeros (drop from (now (bytes .entry))) ⌝ }
+{
+    let mut i = from;
+    while i < bytes.len() {
+        if bytes[i] != 0 {
+            return false;
+        }
+        i += 1;
+    }
+    true
+}
+
+// Refusal 13 of one record.
+fn check_record(list: &[u8], k: usize) -> Status
+    requires { ⌜ k < recordCount (now list) ⌝ }
+    ensures { λ r. ⌜ r ≡ firstRefusal (recordChecks (now (list .entry)) k) ⌝ }
+{
+    let v = variant_at(list, k);
+    if !sponge::sizes::is_known(v as u32) {
+        return Status::Refused(Refusal::BadRecord);
+    }
+    if !zero_from(filled_at(list, k), sponge::sizes::digest_bytes(v)) {
+        return Status::Refused(Refusal::BadRecord);
+    }
+    Status::Done
+}
+
+// Whether a report can be made of it: refusals 12, 13.
+pub fn check(list: &[u8]) -> Status
+    ensures { λ r. ⌜ r ≡ manifestStatus (now (list .entry)) ⌝ }
+{
+    if !is_manifest(list) {
+        return Status::Refused(Refusal::BadManifest);
+    }
+    let n = list.len() / RECORD_BYTES;
+    let mut k = 0;
+    while k < n {
+        let s = check_record(list, k);
+        if let Status::Done = s {
+            k += 1;
+        } else {
+            return s;
+        }
+    }
+    Status::Done
+}
+
+// The record that counts for an axis, the first with its number; the record count where there is none.
+pub fn record_for(list: &[u8], axis: u16) -> usize
+    ensures { λ r. ⌜ (r ≡ recordFor (now (list .entry)) axis) × (r ≤ recordCount (now (list .entry))) ⌝ }
+{
+    let n = list.len() / RECORD_BYTES;
+    let mut k = 0;
+    while k < n {
+        if axis_at(list, k) == axis {
+            return k;
+        }
+        k += 1;
+    }
+    n
+}
