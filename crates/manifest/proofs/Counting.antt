@@ -1,9 +1,9 @@
--- Counting the things of a list that have a property: one more, two lists, two properties, and the numbers below n without one of them.
+-- Counting the things of a list that have a property: one more, two lists, several properties, and the numbers below n without one of them.
 -- Assumes nothing.
 use mathlib.Core.Path.{_≡_, refl, sym, ap, ap₂, _∙_}
 use mathlib.Core.Bool.{Bool, true, false, cond, not, _&&_}
 use mathlib.Core.List.{List, [], _∷_, _++_}
-use mathlib.Core.Logic.{_⊎_, inl, inr, ⊎-elim}
+use mathlib.Core.Logic.{⊎-elim}
 use Prim.Native.Nat.{ℕ, zero, suc, _+_, _≤_, _<_}
 use native.Mathlib.Nat.{eq-or-lt-of-le}
 use native.Mathlib.Omega.{arith}
@@ -18,6 +18,7 @@ use Rattle.manifest.specs.Progress.{bit}
 
 -- ---- conditions
 
+-- what is required besides holds, or does not
 pub and-yes : (b : Bool) → (b && true) ≡ b
 and-yes true = refl
 and-yes false = refl
@@ -26,11 +27,9 @@ pub and-no : (b : Bool) → (b && false) ≡ false
 and-no true = refl
 and-no false = refl
 
--- ---- conditions as numbers
-
-pub bit-not : (b : Bool) → bit b + bit (not b) ≡ 1
-bit-not true = refl
-bit-not false = refl
+pub and-assoc : (a b c : Bool) → (a && (b && c)) ≡ (a && b && c)
+and-assoc true b c = refl
+and-assoc false b c = refl
 
 -- a condition that holds only where another does
 pub bit-and : (a b : Bool) → bit (a && b) ≤ bit a
@@ -41,6 +40,7 @@ bit-and false b = omega arith
 -- ---- any list
 
 module _ {A : Type 0} where
+  -- one thing before the others
   pub count-cons : (p : A → Bool) (x : A) (xs : List A) → howMany p (x ∷ xs) ≡ bit (p x) + howMany p xs
   count-cons p x xs = by (p x)
     where
@@ -48,6 +48,7 @@ module _ {A : Type 0} where
       by true = omega arith
       by false = omega arith
 
+  -- two lists
   pub count-append : (p : A → Bool) (xs ys : List A) → howMany p (xs ++ ys) ≡ howMany p xs + howMany p ys
   count-append p [] ys = omega arith
   count-append p (x ∷ xs) ys = omega (arith, count-cons p x (xs ++ ys), count-cons p x xs, count-append p xs ys)
@@ -69,9 +70,11 @@ module _ {A : Type 0} where
 
 -- ---- the numbers below n
 
+-- how many of them have a property
 abbrev pub countBelow : (ℕ → Bool) → ℕ → ℕ
 countBelow p n = howMany p (tab n (λ k. k))
 
+-- one number more
 pub count-suc : (p : ℕ → Bool) (n : ℕ) → countBelow p (suc n) ≡ countBelow p n + bit (p n)
 count-suc p n = ap (howMany p) (tab-snoc n (λ k. k)) ∙ count-snoc p (tab n (λ k. k)) n
 
@@ -83,19 +86,20 @@ count-same p q (suc n) h =
     ∙ ap₂ _+_ (count-same p q n (λ k l. h k (omega arith))) (ap bit (h n (omega arith)))
     ∙ sym (count-suc q n)
 
--- all but K: one less, if K is below n and has the property
-turn : (p : ℕ → Bool) (K n : ℕ) → bit (p n && not (eqb n K)) + bit (ltb K (suc n) && p K) ≡ bit (p n) + bit (ltb K n && p K)
-turn p K n =
+-- the number n of them
+without-turn : (p : ℕ → Bool) (j n : ℕ) → bit (p n && not (eqb n j)) + bit (ltb j (suc n) && p j) ≡ bit (p n) + bit (ltb j n && p j)
+without-turn p j n =
     ⊎-elim
-    (λ l. rw (ne-eqb n K (λ e. omega arith), lt-ltb K (suc n) (omega arith), lt-ltb K n l, and-yes))
-    (λ l. rw (le-ltb K n l)
+    (λ l. rw (ne-eqb n j (λ e. omega arith), lt-ltb j (suc n) (omega arith), lt-ltb j n l, and-yes))
+    (λ l. rw (le-ltb j n l)
     (⊎-elim
-    (λ e. rw (eq-eqb n K e, lt-ltb K (suc n) (omega arith), and-no, e) (omega arith))
-    (λ m. rw (ne-eqb n K (λ e. omega arith), le-ltb K (suc n) m, and-yes))
+    (λ e. rw (eq-eqb n j e, lt-ltb j (suc n) (omega arith), and-no, e) (omega arith))
+    (λ m. rw (ne-eqb n j (λ e. omega arith), le-ltb j (suc n) m, and-yes))
     (eq-or-lt-of-le l)))
-    (lt-or-le K n)
+    (lt-or-le j n)
 
-pub count-without : (p : ℕ → Bool) (K n : ℕ) → countBelow (λ k. p k && not (eqb k K)) n + bit (ltb K n && p K) ≡ countBelow p n
-count-without p K zero = rw (le-ltb K 0 (omega arith))
-count-without p K (suc n) =
-    omega (arith, count-suc (λ k. p k && not (eqb k K)) n, count-suc p n, count-without p K n, turn p K n)
+-- all but j: one less, if j is below n and has the property
+pub count-without : (p : ℕ → Bool) (j n : ℕ) → countBelow (λ k. p k && not (eqb k j)) n + bit (ltb j n && p j) ≡ countBelow p n
+count-without p j zero = rw (le-ltb j 0 (omega arith))
+count-without p j (suc n) =
+    omega (arith, count-suc (λ k. p k && not (eqb k j)) n, count-suc p n, count-without p j n, without-turn p j n)

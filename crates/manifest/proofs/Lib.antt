@@ -4,3 +4,10 @@ pub mod CompareLaws
 pub mod Counting
 pub mod AwaitedLaws
 pub mod StrideLaws
+pub mod Sums
+pub mod FirstRecord
+pub mod TableLaws
+pub mod ReadSoFar
+pub mod Verdicts
+pub mod TallyOf
+pub mod InPieces

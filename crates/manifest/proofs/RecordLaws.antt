@@ -57,17 +57,9 @@ first-none zero p none = refl
 first-none (suc n) p none = rw (none 0 (omega arith)) (ap suc (first-none n (λ (j : ℕ). p (suc j)) (λ j l. none (suc j) (omega arith))))
 
 module _ (list : List ℕ) (axis : ℕ) where
-  -- no record before k has the axis
-  abbrev pub Before : ℕ → Type 0
-  Before k = (j : ℕ) → j < k → eqb (axisAt list j) axis ≡ false
-
-  pub record-found : (k : ℕ) → k < recordCount list → Before k → axisAt list k ≡ axis → recordFor list axis ≡ k
-  unfolding recordFor
-  record-found k h none e = first-at (recordCount list) (λ j. eqb (axisAt list j) axis) k h none (eq-eqb (axisAt list k) axis e)
-
-  pub record-none : Before (recordCount list) → recordFor list axis ≡ recordCount list
-  unfolding recordFor
-  record-none none = first-none (recordCount list) (λ j. eqb (axisAt list j) axis) none
+  -- record k has the axis
+  abbrev pub Has : ℕ → Bool
+  Has k = eqb (axisAt list k) axis
 
   -- whether a record was found, as the code asks it
   pub found-listed : (k : ℕ) → k ≡ recordFor list axis → k < recordCount list → isListed list axis ≡ true

@@ -1,0 +1,144 @@
+-- For every manifest that passes and every cutting of a stream into pieces, the counts of the report are those defined from the manifest's bytes and the stream's.
+-- Assumes nothing.
+use mathlib.Core.Path.{_≡_, refl, sym, ap, _∙_}
+use mathlib.Core.Bool.{Bool, true, false, cond}
+use mathlib.Core.List.{List, [], _∷_, _++_, foldl, foldl-append, append-assoc, append-nil}
+use mathlib.Core.Logic.{⊎-elim}
+use Prim.Native.Nat.{ℕ, zero, suc, _+_, _<_}
+use native.Mathlib.Omega.{arith}
+use lib.ListN.{length, take, drop, length-append}
+use lib.Seq.{take-take}
+use borrow.Author.Tests.{lt-ltb}
+use Rattle.answers.specs.declared.Status.the-variants.{Done}
+use Rattle.answers.specs.Numbers.{bigEndian}
+use Rattle.standard.proofs.Tests.{either}
+use Rattle.hasher.specs.Pieces.{joined, withByte}
+use Rattle.hasher.specs.Running.{started}
+use Rattle.manifest.specs.declared.report.Tally.{Tally}
+use Rattle.manifest.specs.declared.report.Report.{Report}
+use Rattle.manifest.specs.Records.{manifestStatus, recordFor, isListed}
+use Rattle.manifest.specs.Tables.{Table, axisIn, spanOf, isWhole, firstTable, tablesUpTo, mostTables, tablesIn}
+use Rattle.manifest.specs.Counts.{agrees, tables, equal, unequal, untold, unlisted}
+use Rattle.manifest.specs.Progress.{unread, hashedUnder, onward, matches, withTable, settled, byteTaken, taken, fresh, begun, countsSoFar, countsOf, reported}
+use Rattle.manifest.proofs.Sums.{told-add-up}
+use Rattle.manifest.proofs.StrideLaws.{full-stays}
+use Rattle.manifest.proofs.TableLaws.{nothing-whole, none-whole, contents-left, tables-behind, ends-exactly}
+use Rattle.manifest.proofs.ReadSoFar.{reading, pastHeader, complete-is-whole, whole-read}
+use Rattle.manifest.proofs.RecordLaws.{manifest-few, passing-manifest}
+use Rattle.manifest.proofs.Verdicts.{verdict}
+use Rattle.manifest.proofs.TallyOf.{tallyOf, tallied-all, unlisted-told, listed-told, none-told}
+
+-- the report of a row of tables, and of a next one of which these bytes were read
+abbrev reportOf : List ℕ → List Table → List ℕ → Report
+reportOf list ts s = record { tally = tallyOf list ts; current = reading list s }
+
+-- the axis that a header names
+header-axis : (s : List ℕ) → axisIn (take 6 s) ≡ axisIn s
+unfolding axisIn
+header-axis s = ap bigEndian (take-take 2 6 s (omega arith))
+
+module _ (list : List ℕ) (passes : manifestStatus list ≡ Done) where
+  -- ---- a table's last byte
+
+  module _ (ts : List Table) (s : List ℕ) (whole : isWhole s ≡ true) (ends : length s ≡ spanOf s) where
+    -- the running hash gives the verdict on the table
+    judged : isListed list (axisIn s) ≡ true
+        → matches list (recordFor list (axisIn s)) (pastHeader list s .hasher) ≡ agrees list (recordFor list (axisIn s)) (firstTable s .contents)
+    judged is =
+        let c = contents-left s ends in
+        ap (λ (n : ℕ). matches list (recordFor list (axisIn s)) (foldl withByte (started (hashedUnder list (axisIn s) n) .hasher) (drop 6 s))) (sym (c .0))
+        ∙ verdict list passes (axisIn s) is (drop 6 s)
+        ∙ ap (agrees list (recordFor list (axisIn s))) (sym (c .1))
+
+    -- the table goes into the tally
+    table-told : withTable list (tallyOf list ts) (reading list s) ≡ tallyOf list (ts ++ firstTable s ∷ [])
+    unfolding withTable firstTable
+    table-told =
+        ap (withTable list (tallyOf list ts)) (whole-read list s whole)
+        ∙ ⊎-elim
+        (λ (is : isListed list (axisIn s) ≡ true). rw (header-axis s, is, judged is) (listed-told list ts (firstTable s) is (manifest-few list (passing-manifest list passes))))
+        (λ (is : isListed list (axisIn s) ≡ false). rw (header-axis s, is) (unlisted-told list ts (firstTable s) is))
+        (either (isListed list (axisIn s)))
+
+  -- ---- a byte
+
+  module _ (ts : List Table) (s : List ℕ) (b : ℕ) (h : length ts < mostTables) where
+    -- it is looked at
+    looked-at : byteTaken list (reportOf list ts s) b ≡ settled list (tallyOf list ts) (reading list (s ++ b ∷ []))
+    unfolding byteTaken
+    looked-at = rw (tallied-all list ts, lt-ltb (length ts) mostTables h, foldl-append (onward list) unread s (b ∷ []))
+
+    -- a byte that ends the table
+    last-byte : isWhole s ≡ false → isWhole (s ++ b ∷ []) ≡ true → byteTaken list (reportOf list ts s) b ≡ reportOf list (ts ++ firstTable (s ++ b ∷ []) ∷ []) []
+    unfolding settled
+    last-byte short whole =
+        looked-at
+        ∙ rw (complete-is-whole list (s ++ b ∷ []), whole, table-told ts (s ++ b ∷ []) whole (ends-exactly s b short whole))
+
+    -- and one that does not
+    inner-byte : isWhole (s ++ b ∷ []) ≡ false → byteTaken list (reportOf list ts s) b ≡ reportOf list ts (s ++ b ∷ [])
+    unfolding settled
+    inner-byte short = looked-at ∙ rw (complete-is-whole list (s ++ b ∷ []), short)
+
+  -- ---- the rest of the stream
+
+  -- n tables more are looked at
+  read-on : (x : List ℕ) (n : ℕ) (ts : List Table) (s : List ℕ) → n + length ts ≡ mostTables → isWhole s ≡ false
+      → foldl (byteTaken list) (reportOf list ts s) x .tally ≡ tallyOf list (ts ++ tablesUpTo n (s ++ x))
+  read-on [] n ts s e short = rw (append-nil s, none-whole n s short, append-nil ts)
+  read-on (b ∷ x) zero ts s e short =
+      ap (λ (r : Report). r .tally) (full-stays list (reportOf list ts s) (omega (arith, tallied-all list ts)) (b ∷ x)) ∙ rw (append-nil ts)
+  read-on (b ∷ x) (suc n) ts s e short =
+      let next : List ℕ = s ++ b ∷ [] in
+      let assoc : next ++ x ≡ s ++ b ∷ x = append-assoc s (b ∷ []) x in
+      ⊎-elim
+      (λ (whole : isWhole (s ++ b ∷ []) ≡ true).
+      ap (λ (r : Report). foldl (byteTaken list) r x .tally) (last-byte ts s b (omega arith) short whole)
+      ∙ read-on x n (ts ++ firstTable next ∷ []) [] (omega (arith, length-append ts (firstTable next ∷ []))) nothing-whole
+      ∙ ap (tallyOf list)
+      (append-assoc ts (firstTable next ∷ []) (tablesUpTo n x)
+      ∙ ap (λ (us : List Table). ts ++ us) (sym (tables-behind next x n whole (ends-exactly s b short whole)) ∙ ap (tablesUpTo (suc n)) assoc)))
+      (λ (inner : isWhole (s ++ b ∷ []) ≡ false).
+      ap (λ (r : Report). foldl (byteTaken list) r x .tally) (inner-byte ts s b (omega arith) inner)
+      ∙ read-on x (suc n) ts next e inner
+      ∙ ap (λ (y : List ℕ). tallyOf list (ts ++ tablesUpTo (suc n) y)) assoc)
+      (either (isWhole (s ++ b ∷ [])))
+
+  -- ---- pieces
+
+  -- each byte of each piece in turn is each byte of the stream
+  joined-bytes : (pieces : List (List ℕ)) (r : Report) → foldl (taken list) r pieces ≡ foldl (byteTaken list) r (joined pieces)
+  unfolding taken joined
+  joined-bytes [] r = refl
+  joined-bytes (p ∷ ps) r =
+      ap (λ (t : Bool). foldl (taken list) (cond t (foldl (byteTaken list) r p) r) ps) (passing-manifest list passes)
+      ∙ joined-bytes ps (foldl (byteTaken list) r p)
+      ∙ sym (foldl-append (byteTaken list) r p (joined ps))
+
+  -- the beginning is the report of no tables
+  from-the-start : begun list .report ≡ reportOf list [] []
+  unfolding begun fresh
+  from-the-start = rw passes (ap (λ (y : Tally). record { tally = y; current = unread }) (none-told list))
+
+  -- the tally that the pieces lead to
+  reported-tally : (pieces : List (List ℕ)) → reported list pieces .tally ≡ tallyOf list (tablesIn (joined pieces))
+  unfolding reported tablesIn
+  reported-tally pieces =
+      ap (λ (r : Report). foldl (taken list) r pieces .tally) from-the-start
+      ∙ ap (λ (r : Report). r .tally) (joined-bytes pieces (reportOf list [] []))
+      ∙ read-on (joined pieces) mostTables [] [] (omega arith) nothing-whole
+
+  -- For every manifest that passes and every list of pieces: a report that is begun with the manifest and given each piece in turn comes to the
+  -- counts that are defined from the manifest and the joined pieces.
+  pub in-pieces : (pieces : List (List ℕ)) → countsSoFar (reported list pieces) ≡ countsOf list (joined pieces)
+  unfolding countsSoFar countsOf tallyOf tables equal unequal untold unlisted
+  in-pieces pieces = rw (reported-tally pieces, ← told-add-up list (joined pieces))
+
+  -- Where the stream is cut makes no difference.
+  pub cut-anywhere : (xs ys : List (List ℕ)) → joined xs ≡ joined ys → countsSoFar (reported list xs) ≡ countsSoFar (reported list ys)
+  cut-anywhere xs ys e = in-pieces xs ∙ ap (countsOf list) e ∙ sym (in-pieces ys)
+
+-- A report can be begun with exactly the manifests that pass.
+pub begun-status : (list : List ℕ) → begun list .status ≡ manifestStatus list
+unfolding begun
+begun-status list = refl

@@ -1,0 +1,157 @@
+-- The verdict on a listed table: a running hash that took its contents byte by byte matches the record that counts exactly where the table agrees with it.
+-- Assumes nothing.
+use mathlib.Core.Path.{_≡_, refl, sym, ap, ap₂, _∙_}
+use mathlib.Core.Bool.{Bool, true, false, _&&_}
+use mathlib.Core.List.{List, [], _∷_, _++_, foldl}
+use mathlib.Core.Logic.{⊎-elim}
+use Prim.Native.Nat.{ℕ, zero, suc, _-_, _≤_, _<_}
+use native.Mathlib.Omega.{arith}
+use lib.Dec.{eqb}
+use lib.ListN.{length, drop, replicate, length-drop, take-append-drop}
+use lib.Seq.{length-take-le}
+use borrow.Author.Tests.{le-leb, lt-leb, ltb-true, eqb-true}
+use Rattle.standard.specs.Chain.{messageBits, digestOf, endState}
+use Rattle.standard.specs.Variants.{variant, known}
+use Rattle.standard.proofs.Tests.{and-true, lt-or-le}
+use Rattle.standard.proofs.Variants.{bounds}
+use Rattle.answers.specs.declared.Refusal.the-variants.{BadManifest}
+use Rattle.answers.specs.declared.Status.{Status}
+use Rattle.answers.specs.declared.Status.the-variants.{Done}
+use Rattle.answers.specs.Checks.{unless, each}
+use Rattle.answers.specs.Outputs.{whenDone, most}
+use Rattle.answers.proofs.Rows.{passing-says, row-both, done-each}
+use Rattle.hasher.specs.declared.Hasher.{Hasher}
+use Rattle.hasher.specs.declared.Advanced.{Advanced}
+use Rattle.hasher.specs.declared.Wanted.the-variants.{Digest}
+use Rattle.hasher.specs.Running.{wellFormed, blank, fresh, ended, started, updated, finished}
+use Rattle.hasher.specs.Reading.{readStatus, readInto}
+use Rattle.hasher.specs.Pieces.{withByte}
+use Rattle.hasher.proofs.ByteByByte.{byte-by-byte}
+use Rattle.hasher.proofs.Next.{onward-none}
+use Rattle.hasher.proofs.Calls.{start-unknown, start-done, update-done, finish-done, result-length}
+use Rattle.hasher.proofs.Message.{taken, fresh-sized, fresh-open, fresh-kept, none-kept, taken-open, end-status, end-into, whole-done}
+use Rattle.hasher.proofs.Demand2.{whole-digest}
+use Rattle.manifest.specs.Records.{isManifest, recordChecks, recordCount, variantAt, filledAt, digestBytes, digestAt, fillerAt, zeros, manifestStatus, recordFor, isListed}
+use Rattle.manifest.specs.Counts.{same, agrees}
+use Rattle.manifest.specs.Progress.{hashedUnder, matches}
+use Rattle.manifest.proofs.Counting.{and-yes, and-assoc}
+use Rattle.manifest.proofs.RecordLaws.{filled-length}
+
+-- ---- a running hash that takes bytes one by one
+
+module _ (v : ℕ) (k : known v ≡ true) where
+  -- from its start, within the limit
+  contents-taken : (m : List ℕ) → length m ≤ most → foldl withByte (started v .hasher) m ≡ taken v m
+  contents-taken [] few =
+      ap (λ (u : Advanced). u .hasher) (start-done v k)
+      ∙ sym (onward-none (fresh v) (fresh-sized v k) (fresh-open v k) (fresh-kept v k) (none-kept v k))
+  contents-taken (b ∷ m) few =
+      ap (λ (u : Advanced). foldl withByte (u .hasher) (b ∷ m)) (start-done v k)
+      ∙ byte-by-byte (fresh v) (fresh-sized v k) b m (λ _. omega (arith, few))
+      ∙ ap (λ (u : Advanced). u .hasher) (update-done (fresh v) (b ∷ m) (fresh-open v k) (omega (arith, few)))
+
+-- one of variant 0 takes nothing
+blank-stays : (m : List ℕ) → foldl withByte (blank 0) m ≡ blank 0
+unfolding updated wellFormed
+blank-stays [] = refl
+blank-stays (b ∷ m) = blank-stays m
+
+none-taken : (m : List ℕ) → foldl withByte (started 0 .hasher) m ≡ blank 0
+none-taken m = ap (λ (u : Advanced). foldl withByte (u .hasher) m) (start-unknown 0 refl) ∙ blank-stays m
+
+-- and matches no record
+none-matches : (list : List ℕ) (k : ℕ) → matches list k (blank 0) ≡ false
+unfolding matches finished readStatus wellFormed
+none-matches list k = refl
+
+-- ---- the digest in 32 bytes, zeros behind it
+
+-- rows compared part by part
+same-append : (a b c d : List ℕ) → length a ≡ length c → same (a ++ b) (c ++ d) ≡ (same a c && same b d)
+same-append [] b [] d e = refl
+same-append [] b (y ∷ c) d e = absurd (omega arith)
+same-append (x ∷ a) b [] d e = absurd (omega arith)
+same-append (x ∷ a) b (y ∷ c) d e = ap (λ (t : Bool). eqb x y && t) (same-append a b c d (omega arith)) ∙ and-assoc (eqb x y) (same a c) (same b d)
+
+-- rows of zeros
+zeros-same : (x y : List ℕ) → length x ≡ length y → zeros x ≡ true → zeros y ≡ true → same x y ≡ true
+zeros-same [] [] l ex ey = refl
+zeros-same [] (b ∷ y) l ex ey = absurd (omega arith)
+zeros-same (a ∷ x) [] l ex ey = absurd (omega arith)
+zeros-same (a ∷ x) (b ∷ y) l ex ey =
+    let p = and-true (eqb a 0) (zeros x) ex in
+    let q = and-true (eqb b 0) (zeros y) ey in
+    rw (eqb-true a 0 (p .0), eqb-true b 0 (q .0)) (zeros-same x y (omega arith) (p .1) (q .1))
+
+zeros-drop : (n : ℕ) (x : List ℕ) → zeros x ≡ true → zeros (drop n x) ≡ true
+zeros-drop zero x e = e
+zeros-drop (suc n) [] e = refl
+zeros-drop (suc n) (a ∷ x) e = zeros-drop n x (and-true (eqb a 0) (zeros x) e .1)
+
+-- ---- a record of a manifest that passes
+
+-- its variant is known, and its filler zeros
+passed-record : (list : List ℕ) → manifestStatus list ≡ Done → (k : ℕ) → k < recordCount list → (known (variantAt list k) ≡ true) × (zeros (fillerAt list k) ≡ true)
+unfolding manifestStatus recordChecks
+passed-record list passes k h =
+    let all = row-both (unless (isManifest list) BadManifest ∷ []) (each (recordCount list) (recordChecks list)) passes .1 in
+    let p = passing-says (recordChecks list k) (done-each (recordCount list) (recordChecks list) all k h) in
+    (p .0, p .1 .0)
+
+module _ (list : List ℕ) (passes : manifestStatus list ≡ Done) (k : ℕ) (here : k < recordCount list) where
+  -- its variant
+  abbrev v : ℕ
+  v = variantAt list k
+
+  named : known v ≡ true
+  named = passed-record list passes k here .0
+
+  -- the digest fits into the 32 bytes
+  room : digestBytes v ≤ 32
+  room = omega (arith, bounds v named .digest-most)
+
+  -- so many bytes with zeros behind them are the record's 32 where they are its digest
+  digest-alone : (d : List ℕ) → length d ≡ digestBytes v → same (d ++ drop (digestBytes v) (replicate 32 0)) (filledAt list k) ≡ same d (digestAt list k)
+  unfolding digestAt fillerAt
+  digest-alone d l =
+      let filled : List ℕ = filledAt list k in
+      let long : length filled ≡ 32 = filled-length list k here in
+      let rest : same (drop (digestBytes v) (replicate 32 0)) (fillerAt list k) ≡ true =
+      zeros-same (drop (digestBytes v) (replicate 32 0)) (fillerAt list k)
+      (length-drop (digestBytes v) (replicate 32 0) ∙ sym (length-drop (digestBytes v) filled ∙ ap (λ (n : ℕ). n - digestBytes v) long))
+      (zeros-drop (digestBytes v) (replicate 32 0) refl) (passed-record list passes k here .1) in
+      ap (same (d ++ drop (digestBytes v) (replicate 32 0))) (sym (take-append-drop (digestBytes v) filled))
+      ∙ same-append d _ (digestAt list k) (fillerAt list k) (l ∙ sym (length-take-le (digestBytes v) filled (omega (arith, room))))
+      ∙ ap (λ (t : Bool). same d (digestAt list k) && t) rest
+      ∙ and-yes (same d (digestAt list k))
+
+  -- a running hash of the whole contents
+  hashed-matches : (m : List ℕ) → length m ≤ most → matches list k (taken v m) ≡ same (digestOf (variant v) (messageBits m)) (digestAt list k)
+  unfolding matches digestOf
+  hashed-matches m few =
+      let end : finished (taken v m) .hasher ≡ ended (taken v m) = ap (λ (a : Advanced). a .hasher) (finish-done (taken v m) (taken-open v named m few)) in
+      ap (λ (h : Hasher). whenDone (readStatus h Digest 32) (same (readInto h Digest (replicate 32 0)) (filledAt list k)) false) end
+      ∙ ap₂ (λ (s : Status) (x : List ℕ). whenDone s (same x (filledAt list k)) false)
+      (end-status v named m few Digest 32 ∙ whole-done v named m few Digest (replicate 32 0) room .0)
+      (end-into v named m few Digest (replicate 32 0) ∙ whole-digest v named m few (replicate 32 0) room)
+      ∙ digest-alone (digestOf (variant v) (messageBits m)) (result-length (variant v) Digest (endState (variant v) (messageBits m)))
+
+-- ---- a listed table
+
+module _ (list : List ℕ) (passes : manifestStatus list ≡ Done) (axis : ℕ) (is : isListed list axis ≡ true) (m : List ℕ) where
+  abbrev k : ℕ
+  k = recordFor list axis
+
+  here : recordFor list axis < recordCount list
+  unfolding isListed
+  here = ltb-true (recordFor list axis) (recordCount list) is
+
+  -- The running hash under the variant of the record that counts, after every byte of the contents, matches that record exactly where the table
+  -- agrees with it; past the limit neither.
+  pub verdict : matches list (recordFor list axis) (foldl withByte (started (hashedUnder list axis (length m)) .hasher) m) ≡ agrees list (recordFor list axis) m
+  unfolding hashedUnder agrees
+  verdict =
+      ⊎-elim
+      (λ l. rw (lt-leb (length m) most l, is, none-taken m) (none-matches list k))
+      (λ l. rw (le-leb (length m) most l, is, contents-taken (variantAt list k) (named list passes k here) m l) (hashed-matches list passes k here m l))
+      (lt-or-le most (length m))
