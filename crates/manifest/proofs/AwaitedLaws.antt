@@ -13,8 +13,8 @@ use Rattle.arrays.proofs.Upto.{Upto}
 use Rattle.standard.specs.Grid.{tab}
 use Rattle.standard.proofs.Tab.{tab-self, tab-cong}
 use Rattle.standard.proofs.Tests.{lt-or-le}
-use Rattle.manifest.specs.Records.{recordCount, countsAt}
-use Rattle.manifest.specs.Progress.{bit, awaitedAll}
+use Rattle.manifest.specs.Records.{recordCount}
+use Rattle.manifest.specs.Progress.{countsAt, bit, awaitedAll}
 
 module _ (list : List ℕ) where
   -- after k records

@@ -31,11 +31,9 @@ pub and-assoc : (a b c : Bool) → (a && (b && c)) ≡ (a && b && c)
 and-assoc true b c = refl
 and-assoc false b c = refl
 
--- a condition that holds only where another does
-pub bit-and : (a b : Bool) → bit (a && b) ≤ bit a
-bit-and true true = omega arith
-bit-and true false = omega arith
-bit-and false b = omega arith
+pub bit-one : (b : Bool) → bit b ≤ 1
+bit-one true = omega arith
+bit-one false = omega arith
 
 -- ---- any list
 
@@ -63,10 +61,15 @@ module _ {A : Type 0} where
   count-three p q r one [] = refl
   count-three p q r one (x ∷ xs) = omega (arith, count-cons p x xs, count-cons q x xs, count-cons r x xs, one x, count-three p q r one xs)
 
-  -- a property that holds only where another does
-  pub count-le : (p q : A → Bool) → ((x : A) → bit (p x) ≤ bit (q x)) → (xs : List A) → howMany p xs ≤ howMany q xs
-  count-le p q h [] = omega arith
-  count-le p q h (x ∷ xs) = omega (arith, count-cons p x xs, count-cons q x xs, h x, count-le p q h xs)
+  -- no more than all
+  pub count-most : (p : A → Bool) (xs : List A) → howMany p xs ≤ length xs
+  count-most p [] = omega arith
+  count-most p (x ∷ xs) = omega (arith, count-cons p x xs, bit-one (p x), count-most p xs)
+
+  -- all, where all have the property
+  pub count-all : (xs : List A) → howMany (λ x. true) xs ≡ length xs
+  count-all [] = refl
+  count-all (x ∷ xs) = ap suc (count-all xs)
 
 -- ---- the numbers below n
 
@@ -77,6 +80,11 @@ countBelow p n = howMany p (tab n (λ k. k))
 -- one number more
 pub count-suc : (p : ℕ → Bool) (n : ℕ) → countBelow p (suc n) ≡ countBelow p n + bit (p n)
 count-suc p n = ap (howMany p) (tab-snoc n (λ k. k)) ∙ count-snoc p (tab n (λ k. k)) n
+
+-- the first number apart
+pub count-first : (p : ℕ → Bool) (n : ℕ) → countBelow p (suc n) ≡ bit (p 0) + countBelow (λ k. p (suc k)) n
+count-first p zero = count-cons p 0 []
+count-first p (suc n) = omega (arith, count-suc p (suc n), count-first p n, count-suc (λ k. p (suc k)) n)
 
 -- properties that agree below n
 pub count-same : (p q : ℕ → Bool) (n : ℕ) → ((k : ℕ) → k < n → p k ≡ q k) → countBelow p n ≡ countBelow q n

@@ -10,7 +10,8 @@ use native.Mathlib.Omega.{arith}
 use lib.Dec.{eqb}
 use borrow.Author.Tests.{eqb-true, eqb-false, eq-eqb, ne-eqb, ltb-true, lt-ltb}
 use Rattle.standard.proofs.Tests.{either}
-use Rattle.manifest.specs.Records.{recordCount, axisAt, firstBelow, recordFor, isListed, countsAt}
+use Rattle.manifest.specs.Records.{recordCount, axisAt, firstBelow, recordFor, isListed}
+use Rattle.manifest.specs.Progress.{countsAt}
 
 -- the property holds of the first number below n that has it
 first-holds : (n : ℕ) (p : ℕ → Bool) → firstBelow n p < n → p (firstBelow n p) ≡ true

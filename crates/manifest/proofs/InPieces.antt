@@ -18,8 +18,9 @@ use Rattle.manifest.specs.declared.report.Tally.{Tally}
 use Rattle.manifest.specs.declared.report.Report.{Report}
 use Rattle.manifest.specs.Records.{manifestStatus, recordFor, isListed}
 use Rattle.manifest.specs.Tables.{Table, axisIn, spanOf, isWhole, firstTable, tablesUpTo, mostTables, tablesIn}
-use Rattle.manifest.specs.Counts.{agrees, tables, equal, unequal, untold, unlisted}
+use Rattle.manifest.specs.Counts.{agrees, tables, equal, unequal, unlisted}
 use Rattle.manifest.specs.Progress.{unread, hashedUnder, onward, matches, withTable, settled, byteTaken, taken, fresh, begun, countsSoFar, countsOf, reported}
+use Rattle.manifest.proofs.DistinctAxes.{untold-records}
 use Rattle.manifest.proofs.Sums.{told-add-up}
 use Rattle.manifest.proofs.StrideLaws.{full-stays}
 use Rattle.manifest.proofs.TableLaws.{nothing-whole, none-whole, contents-left, tables-behind, ends-exactly}
@@ -131,8 +132,8 @@ module _ (list : List ℕ) (passes : manifestStatus list ≡ Done) where
   -- For every manifest that passes and every list of pieces: a report that is begun with the manifest and given each piece in turn comes to the
   -- counts that are defined from the manifest and the joined pieces.
   pub in-pieces : (pieces : List (List ℕ)) → countsSoFar (reported list pieces) ≡ countsOf list (joined pieces)
-  unfolding countsSoFar countsOf tallyOf tables equal unequal untold unlisted
-  in-pieces pieces = rw (reported-tally pieces, ← told-add-up list (joined pieces))
+  unfolding countsSoFar countsOf tallyOf tables equal unequal unlisted
+  in-pieces pieces = rw (reported-tally pieces, ← told-add-up list (joined pieces), untold-records list (joined pieces))
 
   -- Where the stream is cut makes no difference.
   pub cut-anywhere : (xs ys : List (List ℕ)) → joined xs ≡ joined ys → countsSoFar (reported list xs) ≡ countsSoFar (reported list ys)

@@ -4,6 +4,7 @@ pub mod CompareLaws
 pub mod Counting
 pub mod AwaitedLaws
 pub mod StrideLaws
+pub mod DistinctAxes
 pub mod Sums
 pub mod FirstRecord
 pub mod TableLaws

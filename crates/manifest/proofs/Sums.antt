@@ -9,11 +9,11 @@ use lib.Dec.{eqb}
 use lib.ListN.{length, drop}
 use borrow.Author.Tests.{eqb-true, eq-eqb}
 use Rattle.standard.proofs.Tests.{and-true}
-use Rattle.manifest.specs.Records.{recordFor, isListed, countsAt, axisAt}
+use Rattle.manifest.specs.Records.{axesOf, recordFor, isListed}
 use Rattle.manifest.specs.Tables.{Table, isWhole, firstTable, spanOf, tablesUpTo, tablesIn, mostTables}
-use Rattle.manifest.specs.Counts.{same, agrees, isEqual, isUnequal, isUnlisted, isTold, recordsOf, listed, tables, equal, unequal, untold, unlisted, howMany}
+use Rattle.manifest.specs.Counts.{same, agrees, isEqual, isUnequal, isUnlisted, isTold, listed, tables, equal, unequal, untold, unlisted, howMany}
 use Rattle.manifest.specs.Progress.{bit}
-use Rattle.manifest.proofs.Counting.{bit-and, count-three, count-le}
+use Rattle.manifest.proofs.Counting.{count-three, count-most}
 
 -- ---- two rows of bytes
 
@@ -65,6 +65,4 @@ tables-at-most stream = up-to mostTables stream
 -- No more axes are untold than are listed.
 pub untold-at-most : (list stream : List ℕ) → untold list stream ≤ listed list
 unfolding untold listed
-untold-at-most list stream =
-    count-le (λ k. countsAt list k && not (isTold (tablesIn stream) (axisAt list k))) (countsAt list)
-    (λ k. bit-and (countsAt list k) (not (isTold (tablesIn stream) (axisAt list k)))) (recordsOf list)
+untold-at-most list stream = count-most (λ axis. not (isTold (tablesIn stream) axis)) (axesOf list)

@@ -13,12 +13,13 @@ use Rattle.standard.specs.Grid.{tab}
 use Rattle.standard.proofs.Tab.{getD-tab, tab-cong}
 use Rattle.standard.proofs.Tests.{either}
 use Rattle.manifest.specs.declared.report.Tally.{Tally}
-use Rattle.manifest.specs.Records.{recordCount, axisAt, recordFor, isListed, countsAt}
+use Rattle.manifest.specs.Records.{recordCount, axisAt, recordFor, isListed}
 use Rattle.manifest.specs.Tables.{Table}
-use Rattle.manifest.specs.Counts.{howMany, agrees, isEqual, isUnequal, isUnlisted, isTold, recordsOf, listed}
-use Rattle.manifest.specs.Progress.{bit, tallied, withListed, withUnlisted, awaitedAll, fresh}
-use Rattle.manifest.proofs.Counting.{and-yes, and-no, count-snoc, count-same, count-without}
+use Rattle.manifest.specs.Counts.{howMany, agrees, isEqual, isUnequal, isUnlisted, isTold, listed}
+use Rattle.manifest.specs.Progress.{countsAt, bit, tallied, withListed, withUnlisted, awaitedAll, fresh}
+use Rattle.manifest.proofs.Counting.{and-yes, and-no, countBelow, count-snoc, count-same, count-without}
 use Rattle.manifest.proofs.Sums.{each-counts-once}
+use Rattle.manifest.proofs.DistinctAxes.{listed-records}
 use Rattle.manifest.proofs.FirstRecord.{counting-record}
 
 -- record k counts for its axis, and no table of that axis has come
@@ -34,7 +35,7 @@ unfoldable pub tallyOf : List ℕ → List Table → Tally
 tallyOf list ts =
     record {
       listed = listed list;
-      untold = howMany (awaits list ts) (recordsOf list);
+      untold = countBelow (awaits list ts) (recordCount list);
       equal = howMany (isEqual list) ts;
       unequal = howMany (isUnequal list) ts;
       unlisted = howMany (isUnlisted list) ts;
@@ -138,7 +139,7 @@ module _ (list : List ℕ) (ts : List Table) (t : Table) where
     awaits-no-more = awaits-snoc k here ∙ rw (eq-eqb k k refl, and-no)
 
     -- the untold axes are one less if it was awaited
-    one-less : howMany (awaits list ts) (recordsOf list) - getD (awaitedBy list (awaits list ts)) (recordFor list (t .axis)) 0 ≡ howMany (awaits list (ts ++ t ∷ [])) (recordsOf list)
+    one-less : countBelow (awaits list ts) (recordCount list) - getD (awaitedBy list (awaits list ts)) (recordFor list (t .axis)) 0 ≡ countBelow (awaits list (ts ++ t ∷ [])) (recordCount list)
     one-less =
         let told = getD-tab 512 (λ i. bit (ltb i (recordCount list) && awaits list ts i)) k 0 (omega (arith, here)) in
         let fewer = count-same (awaits list (ts ++ t ∷ [])) (λ i. awaits list ts i && not (eqb i k)) (recordCount list) awaits-snoc in
@@ -163,9 +164,9 @@ module _ (list : List ℕ) (ts : List Table) (t : Table) where
 
 -- no table yet
 pub none-told : (list : List ℕ) → fresh list .tally ≡ tallyOf list []
-unfolding tallyOf fresh awaitedAll listed isTold
+unfolding tallyOf fresh awaitedAll isTold
 none-told list =
     parts-same list
-    (count-same (countsAt list) (awaits list []) (recordCount list) (λ k h. sym (and-yes (countsAt list k))))
+    (listed-records list ∙ count-same (countsAt list) (awaits list []) (recordCount list) (λ k h. sym (and-yes (countsAt list k))))
     refl refl refl
     (tab-cong 512 _ _ (λ k _. kept-alike list (countsAt list) (awaits list []) k (λ h. sym (and-yes (countsAt list k)))))

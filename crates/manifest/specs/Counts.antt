@@ -6,10 +6,9 @@ use Prim.Native.Nat.{ℕ, suc}
 use lib.Dec.{eqb, ltb, leb}
 use lib.ListN.{length}
 use Rattle.answers.specs.Outputs.{most}
-use Rattle.standard.specs.Grid.{tab}
 use Rattle.standard.specs.Chain.{messageBits, digestOf}
 use Rattle.standard.specs.Variants.{variant}
-use Rattle.manifest.specs.Records.{recordCount, axisAt, variantAt, digestAt, recordFor, isListed, countsAt}
+use Rattle.manifest.specs.Records.{variantAt, digestAt, axesOf, recordFor, isListed}
 use Rattle.manifest.specs.Tables.{Table, tablesIn}
 
 -- how many things of a list have a property
@@ -42,15 +41,11 @@ isUnlisted list t = not (isListed list (t .axis))
 unfoldable pub isTold : List Table → ℕ → Bool
 isTold ts axis = ltb 0 (howMany (λ (t : Table). eqb (t .axis) axis) ts)
 
--- the numbers of a manifest's records
-abbrev pub recordsOf : List ℕ → List ℕ
-recordsOf list = tab (recordCount list) (λ k. k)
-
 -- ---- the counts
 
--- distinct axes: each has one record that counts
+-- distinct axes
 unfoldable pub listed : List ℕ → ℕ
-listed list = howMany (countsAt list) (recordsOf list)
+listed list = length (axesOf list)
 
 unfoldable pub tables : List ℕ → ℕ
 tables stream = length (tablesIn stream)
@@ -63,7 +58,7 @@ unequal list stream = howMany (isUnequal list) (tablesIn stream)
 
 -- distinct listed axes with no table
 unfoldable pub untold : List ℕ → List ℕ → ℕ
-untold list stream = howMany (λ k. countsAt list k && not (isTold (tablesIn stream) (axisAt list k))) (recordsOf list)
+untold list stream = howMany (λ axis. not (isTold (tablesIn stream) axis)) (axesOf list)
 
 unfoldable pub unlisted : List ℕ → List ℕ → ℕ
 unlisted list stream = howMany (isUnlisted list) (tablesIn stream)

@@ -19,7 +19,7 @@ use Rattle.manifest.specs.declared.report.Current.{Current}
 use Rattle.manifest.specs.declared.report.Report.{Report}
 use Rattle.manifest.specs.declared.report.Beginning.{Beginning}
 use Rattle.manifest.specs.declared.report.Summary.{Summary}
-use Rattle.manifest.specs.Records.{isManifest, recordCount, variantAt, filledAt, manifestStatus, recordFor, isListed, countsAt}
+use Rattle.manifest.specs.Records.{isManifest, recordCount, axisAt, variantAt, filledAt, manifestStatus, recordFor, isListed}
 use Rattle.manifest.specs.Tables.{axisIn, lengthIn, mostTables}
 use Rattle.manifest.specs.Counts.{same, listed, tables, equal, unequal, untold, unlisted}
 
@@ -108,6 +108,10 @@ byteTaken list r b = cond (ltb (tallied (r .tally)) mostTables) (settled list (r
 -- each byte of a piece in turn; with what is no manifest nothing is read
 unfoldable pub taken : List ℕ → Report → List ℕ → Report
 taken list r piece = cond (isManifest list) (foldl (byteTaken list) r piece) r
+
+-- record k counts for its own axis
+unfoldable pub countsAt : List ℕ → ℕ → Bool
+countsAt list k = eqb (recordFor list (axisAt list k)) k
 
 -- every axis awaited, by the record that counts for it
 unfoldable pub awaitedAll : List ℕ → List ℕ

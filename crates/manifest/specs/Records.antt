@@ -9,11 +9,12 @@ use Rattle.answers.specs.declared.Refusal.the-variants.{BadManifest, BadRecord}
 use Rattle.answers.specs.declared.Status.{Status}
 use Rattle.answers.specs.Checks.{Check, unless, firstRefusal, each}
 use Rattle.answers.specs.Numbers.{bigEndian}
+use Rattle.standard.specs.Grid.{tab}
 use Rattle.standard.specs.Variants.{variant, known}
 
 -- 12 refuses what is not: whole records, and no more than 512 of them
 unfoldable pub isManifest : List ℕ → Bool
-isManifest list = eqb (length list % 35) 0 && leb (length list) 17920
+isManifest list = eqb (length list % 35) 0 && leb (length list) (512 * 35)
 
 -- how many records a manifest has
 abbrev pub recordCount : List ℕ → ℕ
@@ -57,6 +58,21 @@ manifestChecks list = unless (isManifest list) BadManifest ∷ each (recordCount
 unfoldable pub manifestStatus : List ℕ → Status
 manifestStatus list = firstRefusal (manifestChecks list)
 
+-- ---- the axes
+
+-- a row of numbers without x, and each number of a row once
+abbrev pub without : ℕ → List ℕ → List ℕ
+without x [] = []
+without x (y ∷ ys) = cond (eqb x y) (without x ys) (y ∷ without x ys)
+
+abbrev pub distinct : List ℕ → List ℕ
+distinct [] = []
+distinct (x ∷ xs) = x ∷ without x (distinct xs)
+
+-- the axes of a manifest, each once
+unfoldable pub axesOf : List ℕ → List ℕ
+axesOf list = distinct (tab (recordCount list) (axisAt list))
+
 -- the first number below n of which p holds, and n where it holds of none
 abbrev pub firstBelow : ℕ → (ℕ → Bool) → ℕ
 firstBelow zero p = 0
@@ -69,7 +85,3 @@ recordFor list axis = firstBelow (recordCount list) (λ k. eqb (axisAt list k) a
 -- an axis has a record
 unfoldable pub isListed : List ℕ → ℕ → Bool
 isListed list axis = ltb (recordFor list axis) (recordCount list)
-
--- record k counts for its own axis
-unfoldable pub countsAt : List ℕ → ℕ → Bool
-countsAt list k = eqb (recordFor list (axisAt list k)) k

@@ -4,6 +4,7 @@ mod report;
 
 pub use records::check;
 pub use report::Beginning;
+pub use report::MOST_TABLES;
 pub use report::Report;
 pub use report::Summary;
 pub use report::begun;

@@ -1,7 +1,7 @@
 -- `manifest::report::counts_at` meets its contract. Assumes nothing.
 use mathlib.Core.Path.{_≡_}
 use borrow.Author.Needs.{needs}
-use Rattle.manifest.specs.Records.{countsAt}
+use Rattle.manifest.specs.Progress.{countsAt}
 use Rattle.manifest.proofs.report.counts_at.Statement.{statement}
 use Rattle.manifest.proofs.report.counts_at.Tie as tie
 

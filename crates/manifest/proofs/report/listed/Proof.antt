@@ -3,10 +3,10 @@ use mathlib.Core.Path.{_≡_, refl, sym, ap, _∙_}
 use Prim.Native.Nat.{_-_, _≤_}
 use native.Mathlib.Numerals.{add-one}
 use native.Mathlib.Omega.{arith}
-use Rattle.manifest.specs.Records.{recordCount, countsAt}
-use Rattle.manifest.specs.Counts.{listed}
-use Rattle.manifest.specs.Progress.{bit}
+use Rattle.manifest.specs.Records.{recordCount}
+use Rattle.manifest.specs.Progress.{countsAt, bit}
 use Rattle.manifest.proofs.Counting.{countBelow, count-suc}
+use Rattle.manifest.proofs.DistinctAxes.{listed-records}
 use Rattle.manifest.proofs.RecordLaws.{manifest-few}
 use Rattle.manifest.proofs.report.listed.Statement.{statement}
 use Rattle.manifest.proofs.report.listed.Tie as tie
@@ -31,10 +31,9 @@ loop-again c =
     (omega arith, omega (arith, c .bit .ensures), rw (add-one, count-suc, at .loop .inv .2, e))
 
 returns : tie.Need-returns Inv-loop μ-loop
-unfolding listed
 returns c =
     let e : c .before .loop .k ≡ recordCount (c .before .before .before .args .list .now) = omega arith in
-    c .before .loop .inv .2 ∙ ap (countBelow (countsAt _)) e
+    c .before .loop .inv .2 ∙ ap (countBelow (countsAt _)) e ∙ sym (listed-records _)
 
 pub listed-spec : {M : Type 1} → statement M
 listed-spec =
