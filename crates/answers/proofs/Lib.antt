@@ -1,4 +1,7 @@
--- Laws about answers, rows of checks and numbers in bytes.
+-- Laws about answers, rows of checks, outputs, and numbers in bytes and as text.
 pub mod Statuses
 pub mod Rows
 pub mod NumberLaws
+pub mod WrittenAt
+pub mod DecimalLaws
+pub mod DecimalWriting

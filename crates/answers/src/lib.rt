@@ -1,4 +1,6 @@
-// What a call answers: Done, or the one refusal whose condition holds and whose earlier checks passed; and numbers in bytes.
+// What a call answers: Done, or the one refusal whose condition holds and whose earlier checks passed; and numbers in bytes and as text.
+pub mod text;
+
 ghost use mathlib.Core.Path.{_≡_};
 ghost use Prim.Native.Nat.{_+_, _*_, _<_, _≤_};
 ghost use lib.ListN.{length, take, drop};
