@@ -1,0 +1,112 @@
+// Reads the manifest in the file `rig` of the current folder and then tables from standard input, and prints the six counts of the report, a
+// line each, or, where the manifest is refused, "refused" and the number. The tables are read in pieces and never held.
+mod text;
+
+use answers::Refusal;
+use answers::Status;
+use libc::STDERR_FILENO;
+use libc::STDIN_FILENO;
+use libc::STDOUT_FILENO;
+use manifest::Report;
+use manifest::Summary;
+
+// How the input stands after a read of it.
+struct Fed {
+    report: Report,
+    more: bool,
+    failed: bool,
+}
+
+// 512 records of 35 bytes.
+const MOST_LIST_BYTES: usize = 512 * 35;
+
+// The most tables that a report looks at.
+const MOST_TABLES: u32 = 65535;
+
+// As many as the most bytes that 65,535 tables can have. A read that goes on brings one byte or more, so the last table is told before
+// these are used up.
+const MOST_READS: u64 = 65535 * (6 + 4294967295);
+
+// Reads once, and takes the piece that came into the report.
+fn feed_some(list: &[u8], report: Report) -> Fed {
+    let mut buffer = io::large_buffer();
+    let got = libc::read(STDIN_FILENO, &mut buffer);
+    let n = io::count(got, &buffer);
+    let next = manifest::taken(list, report, &buffer[..n]);
+    let counts = manifest::counts(next);
+    Fed {
+        report: next,
+        more: 0 < got && counts.tables < MOST_TABLES,
+        failed: got < 0,
+    }
+}
+
+// Reads until the input ends, a read fails or the last table was told.
+fn feed_all(list: &[u8], report: Report) -> Fed {
+    let mut fed = feed_some(list, report);
+    let mut left = MOST_READS;
+    while 0 < left && fed.more {
+        fed = feed_some(list, fed.report);
+        left -= 1;
+    }
+    fed
+}
+
+fn show_refusal(r: Refusal) {
+    io::write_all(STDOUT_FILENO, b"refused ");
+    io::print_decimal(STDOUT_FILENO, answers::number_of(r) as u64);
+    io::write_all(STDOUT_FILENO, b"\n");
+}
+
+fn show_summary(s: Summary) {
+    let mut lines = [0u8; text::MOST_BYTES];
+    let n = text::write_summary(s, &mut lines);
+    io::write_all(STDOUT_FILENO, &lines[0..n]);
+}
+
+fn complain() {
+    io::write_all(STDERR_FILENO, b"report: standard input cannot be read\n");
+}
+
+// The counts of what was fed. Nothing but a complaint is printed where the input cannot be read.
+fn show_fed(fed: Fed) {
+    if fed.failed {
+        complain();
+    } else {
+        show_summary(manifest::counts(fed.report));
+    }
+}
+
+// The report of the tables in the input.
+fn report_on(list: &[u8]) {
+    let begun = manifest::begun(list);
+    let status = begun.status;
+    match status {
+        Status::Done => show_fed(feed_all(list, begun.report)),
+        Status::Refused(r) => show_refusal(r),
+    }
+}
+
+// Whether the file has nothing more. A read that fails does not say so.
+fn is_at_end(fd: i32) -> bool {
+    let mut past = [0u8; 1];
+    libc::read(fd, &mut past) == 0
+}
+
+fn main() {
+    let fd = os::open_read(b"rig");
+    if fd < 0 {
+        show_refusal(Refusal::BadManifest);
+        return;
+    }
+    let mut list = [0u8; MOST_LIST_BYTES];
+    let n = io::read_full(fd, &mut list);
+    let whole = is_at_end(fd);
+    // Were standard input closed, the file would have its number: left open, it would be read as the tables.
+    libc::close(fd);
+    if whole {
+        report_on(&list[..n]);
+    } else {
+        show_refusal(Refusal::BadManifest);
+    }
+}
