@@ -2,6 +2,8 @@
 mod records;
 mod report;
 
+pub use records::MOST_RECORDS;
+pub use records::RECORD_BYTES;
 pub use records::check;
 pub use report::Beginning;
 pub use report::MOST_TABLES;

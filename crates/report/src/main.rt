@@ -7,6 +7,9 @@ use answers::Status;
 use libc::STDERR_FILENO;
 use libc::STDIN_FILENO;
 use libc::STDOUT_FILENO;
+use manifest::MOST_RECORDS;
+use manifest::MOST_TABLES;
+use manifest::RECORD_BYTES;
 use manifest::Report;
 use manifest::Summary;
 
@@ -16,12 +19,6 @@ struct Fed {
     more: bool,
     failed: bool,
 }
-
-// 512 records of 35 bytes.
-const MOST_LIST_BYTES: usize = 512 * 35;
-
-// The most tables that a report looks at.
-const MOST_TABLES: u32 = 65535;
 
 // As many as the most bytes that 65,535 tables can have. A read that goes on brings one byte or more, so the last table is told before
 // these are used up.
@@ -99,7 +96,7 @@ fn main() {
         show_refusal(Refusal::BadManifest);
         return;
     }
-    let mut list = [0u8; MOST_LIST_BYTES];
+    let mut list = [0u8; MOST_RECORDS * RECORD_BYTES];
     let n = io::read_full(fd, &mut list);
     let whole = is_at_end(fd);
     // Were standard input closed, the file would have its number: left open, it would be read as the tables.
