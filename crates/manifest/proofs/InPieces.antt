@@ -4,7 +4,7 @@ use mathlib.Core.Path.{_≡_, refl, sym, ap, _∙_}
 use mathlib.Core.Bool.{Bool, true, false, cond}
 use mathlib.Core.List.{List, [], _∷_, _++_, foldl, foldl-append, append-assoc, append-nil}
 use mathlib.Core.Logic.{⊎-elim}
-use Prim.Native.Nat.{ℕ, zero, suc, _+_, _<_}
+use Prim.Native.Nat.{ℕ, zero, suc, _+_, _≤_, _<_}
 use native.Mathlib.Omega.{arith}
 use lib.ListN.{length, take, drop, length-append}
 use lib.Seq.{take-take}
@@ -21,7 +21,7 @@ use Rattle.manifest.specs.Tables.{Table, axisIn, spanOf, isWhole, firstT
 use Rattle.manifest.specs.Counts.{agrees, tables, equal, unequal, unlisted}
 use Rattle.manifest.specs.Progress.{unread, hashedUnder, onward, matches, withTable, settled, byteTaken, taken, fresh, begun, countsSoFar, countsOf, reported}
 use Rattle.manifest.proofs.DistinctAxes.{untold-records}
-use Rattle.manifest.proofs.Sums.{told-add-up}
+use Rattle.manifest.proofs.Sums.{told-add-up, tables-at-most, untold-at-most}
 use Rattle.manifest.proofs.StrideLaws.{full-stays}
 use Rattle.manifest.proofs.TableLaws.{nothing-whole, none-whole, contents-left, tables-behind, ends-exactly}
 use Rattle.manifest.proofs.ReadSoFar.{reading, pastHeader, complete-is-whole, whole-read}
@@ -134,6 +134,17 @@ module _ (list : List ℕ) (passes : manifestStatus list ≡ Done) where
   pub in-pieces : (pieces : List (List ℕ)) → countsSoFar (reported list pieces) ≡ countsOf list (joined pieces)
   unfolding countsSoFar countsOf tallyOf tables equal unequal unlisted
   in-pieces pieces = rw (reported-tally pieces, ← told-add-up list (joined pieces), untold-records list (joined pieces))
+
+  -- So of the counts that a caller finds: equal, unequal and unlisted tables are all that were looked at, those are no more than 65,535, and no more
+  -- axes are untold than are listed.
+  pub counts-in-pieces : (pieces : List (List ℕ))
+      → (countsSoFar (reported list pieces) .equal + countsSoFar (reported list pieces) .unequal + countsSoFar (reported list pieces) .unlisted
+      ≡ countsSoFar (reported list pieces) .tables)
+      × (countsSoFar (reported list pieces) .tables ≤ mostTables)
+      × (countsSoFar (reported list pieces) .untold ≤ countsSoFar (reported list pieces) .listed)
+  unfolding countsOf
+  counts-in-pieces pieces =
+      rw (in-pieces pieces) (told-add-up list (joined pieces), tables-at-most (joined pieces), untold-at-most list (joined pieces))
 
   -- Where the stream is cut makes no difference.
   pub cut-anywhere : (xs ys : List (List ℕ)) → joined xs ≡ joined ys → countsSoFar (reported list xs) ≡ countsSoFar (reported list ys)
