@@ -3,7 +3,8 @@
 //! This is the second version that the proved library is compared with, so
 //! it takes other ways to the same results: constants come from their shift
 //! registers, the mixing matrix is a matrix power, inverses are solved for
-//! or read backwards, and the sponge works on lists of bits.
+//! or read backwards, the sponge works on lists of bits, and a report keeps
+//! its records in a map.
 //!
 //! Variants go by the numbers 1 to 10 of [`VARIANTS`]. A call that is
 //! refused gives its refusal number and leaves the caller's bytes as they
@@ -27,6 +28,7 @@ pub mod bits;
 pub mod field;
 pub mod image;
 pub mod lookup;
+pub mod manifest;
 pub mod matrix;
 pub mod padding;
 pub mod photon;
@@ -67,6 +69,12 @@ pub const BAD_LIST: u8 = 9;
 pub const MISORDERED: u8 = 10;
 /// Refusal: an entry ends past the buffer.
 pub const PAST_END: u8 = 11;
+/// Refusal: a manifest that cannot be read, is not in whole records, or has
+/// more than 512.
+pub const BAD_MANIFEST: u8 = 12;
+/// Refusal: a record's variant is not 1 to 10, or a byte behind its digest is
+/// not zero.
+pub const BAD_RECORD: u8 = 13;
 
 /// The greatest number of message bytes.
 pub const MESSAGE_LIMIT: usize = 16_777_215;
