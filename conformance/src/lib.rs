@@ -1,8 +1,8 @@
 //! The archive of the proved library, held against the Rust version built
 //! apart: [`wickslate`] calls the archive, [`compare`] makes the same call on
 //! both sides and looks at every lent byte, [`stack`] makes it on a stack of
-//! its own, [`random`], [`make`] and [`faults`] give the tests their inputs,
-//! [`chains`] are digests of digests.
+//! its own, [`programs`] runs the programs, [`random`], [`make`] and [`faults`]
+//! give the tests their inputs, [`chains`] are digests of digests.
 
 #![warn(missing_docs)]
 
@@ -13,6 +13,7 @@ pub mod faults;
 pub mod generator;
 pub mod lent;
 pub mod make;
+pub mod programs;
 pub mod random;
 pub mod settings;
 pub mod stack;

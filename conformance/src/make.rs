@@ -1,8 +1,9 @@
-//! Inputs for the tests: running hashes, images and segment lists, sound or
-//! damaged in one place.
+//! Inputs for the tests: running hashes, images, segment lists, manifests and
+//! tables, sound or damaged in one place.
 
+use wickslate_reference::manifest::RECORD_BYTES;
 use wickslate_reference::running::Running;
-use wickslate_reference::{Family, Variant, MESSAGE_LIMIT, VARIANTS};
+use wickslate_reference::{digest, Family, Variant, MESSAGE_LIMIT, VARIANTS};
 
 use crate::compare::hasher;
 use crate::lent::filled_behind;
@@ -139,4 +140,42 @@ pub fn entries(random: &mut Random, most: usize, buffer_bytes: usize) -> Vec<Ent
         free += gap + length;
     }
     entries
+}
+
+/// A record of a manifest, with zeros behind the digest.
+pub fn record(axis: u16, variant: u8, digest: &[u8]) -> Vec<u8> {
+    let mut record = [&axis.to_be_bytes()[..], &[variant], digest].concat();
+    record.resize(RECORD_BYTES, 0);
+    record
+}
+
+/// The record of an axis whose table should have these contents.
+pub fn record_of(axis: u16, variant: &Variant, contents: &[u8]) -> Vec<u8> {
+    let digest = digest(variant.number, contents).expect("a short table");
+    record(axis, variant.number as u8, &digest)
+}
+
+/// The front of a table in a stream.
+pub fn header(axis: u16, bytes: u32) -> Vec<u8> {
+    [&axis.to_be_bytes()[..], &bytes.to_be_bytes()].concat()
+}
+
+/// A table in a stream.
+pub fn table(axis: u16, contents: &[u8]) -> Vec<u8> {
+    [&header(axis, contents.len() as u32), contents].concat()
+}
+
+/// A manifest of sound records for some axes and what their tables should be;
+/// some axes have a second record, of other bytes.
+pub fn manifest(random: &mut Random, most: usize) -> (Vec<u8>, Vec<(u16, Vec<u8>)>) {
+    let (mut list, mut tables) = (Vec::new(), Vec::new());
+    for _ in 0..random.below(most + 1) {
+        let any = u16::from_be_bytes(random.array());
+        let axis = random.pick(&[0, 1, 255, 256, 257, 65_535, any]);
+        let bytes = random.below(40);
+        let contents = random.bytes(bytes);
+        list.extend(record_of(axis, variant(random), &contents));
+        tables.push((axis, contents));
+    }
+    (list, tables)
 }

@@ -1,27 +1,20 @@
 //! The program `digest` and the script around it, run as a user runs them.
 
 use std::fs::{self, File};
-use std::io::Write;
-use std::path::{Path, PathBuf};
+use std::path::Path;
 use std::process::{Command, Output, Stdio};
 use std::sync::Once;
-use std::thread;
 
 use wickslate_conformance::chains::hexadecimal;
+use wickslate_conformance::programs::{self, expect, fed, root};
 use wickslate_conformance::random::Random;
 use wickslate_reference::{digest, MESSAGE_LIMIT, VARIANTS};
 
 /// The variant that takes the least time for a byte.
 const FAST: u32 = 5;
 
-fn root() -> PathBuf {
-    Path::new(env!("CARGO_MANIFEST_DIR")).join("..")
-}
-
 fn program() -> Command {
-    let path = root().join("target/bin/digest");
-    assert!(path.exists(), "no target/bin/digest: run `rt check digest`");
-    Command::new(path)
+    programs::program("digest")
 }
 
 /// The script. Its first use after a change proves and builds, and says so.
@@ -37,43 +30,14 @@ fn script(words: &[&str]) -> Command {
     command
 }
 
-/// Runs a command over a pipe that brings these pieces. A command that has
-/// read enough may end before the last one.
-fn fed(mut command: Command, pieces: Vec<Vec<u8>>) -> Output {
-    let mut child = command
-        .stdin(Stdio::piped())
-        .stdout(Stdio::piped())
-        .stderr(Stdio::piped())
-        .spawn()
-        .expect("a program to run");
-    let mut pipe = child.stdin.take().expect("a pipe");
-    let feeder = thread::spawn(move || {
-        for piece in pieces {
-            if pipe.write_all(&piece).is_err() {
-                return;
-            }
-        }
-    });
-    let output = child.wait_with_output().expect("an end");
-    feeder.join().expect("no panic");
-    output
-}
-
 /// Expects these bytes on standard output and nothing on the other.
 fn expect_line(output: &Output, status: i32, line: &str) {
-    let [out, err] = [&output.stdout, &output.stderr].map(|text| String::from_utf8_lossy(text));
-    let given = (output.status.code(), out.as_ref(), err.as_ref());
-    assert_eq!(given, (Some(status), format!("{line}\n").as_str(), ""));
+    expect(output, status, &format!("{line}\n"), "");
 }
 
 /// Expects a complaint alone.
 fn expect_complaint(output: &Output, status: i32, complaint: &str) {
-    let [out, err] = [&output.stdout, &output.stderr].map(|text| String::from_utf8_lossy(text));
-    let given = (output.status.code(), out.as_ref(), err.as_ref());
-    assert_eq!(
-        given,
-        (Some(status), "", format!("digest: {complaint}\n").as_str())
-    );
+    expect(output, status, "", &format!("digest: {complaint}\n"));
 }
 
 /// The line for a message.
