@@ -81,6 +81,8 @@
 #define WICKSLATE_BAD_LIST 9         /* not whole entries, or more than 512 */
 #define WICKSLATE_MISORDERED 10      /* begins before the entry before it ends */
 #define WICKSLATE_PAST_END 11        /* an entry ends past the buffer */
+#define WICKSLATE_BAD_MANIFEST 12    /* not whole records, or more than 512 */
+#define WICKSLATE_BAD_RECORD 13      /* no such variant, or filler not zero */
 
 /* ---- Sizes in bytes ---------------------------------------------------- */
 
@@ -130,10 +132,12 @@
 #define WICKSLATE_SPONGENT_272_BLOCK_BYTES 2
 #define WICKSLATE_MOST_BLOCK_BYTES 5
 
-/* The longest message, and the longest segment list. */
+/* The longest message, the longest segment list, and the longest manifest. */
 #define WICKSLATE_MOST_MESSAGE_BYTES 16777215
 #define WICKSLATE_ENTRY_BYTES 8
 #define WICKSLATE_MOST_ENTRIES 512
+#define WICKSLATE_RECORD_BYTES 35
+#define WICKSLATE_MOST_RECORDS 512
 
 /* What wickslate_whole and wickslate_digest_list are asked for. */
 #define WICKSLATE_DIGEST 0
@@ -420,6 +424,26 @@ WICKSLATE_CALL uint32_t wickslate_check_entry(const uint8_t *list, size_t list_l
 WICKSLATE_CALL uint32_t wickslate_digest_list(uint32_t variant, const uint8_t *list, size_t list_length,
                                               const uint8_t *buffer, size_t buffer_length, uint32_t wanted,
                                               uint8_t *out, size_t out_length);
+
+/*
+ * A manifest says which table each axis of an installation should hold. Each
+ * record has 35 bytes: an axis number of two bytes, the high byte first; a
+ * variant of one; and the digest of the axis's table, filled to 32 bytes with
+ * zeros. Records come in any order, and the first with a number counts.
+ *
+ * Tells whether a manifest is sound. The program `report` compares tables with
+ * one that is.
+ *
+ * Refusals: 12; 13 if the variant of a record is not 1 to 10, or a byte behind
+ *           its digest is not zero, also in a record that does not count.
+ * Writes:   nothing.
+ * Stack:    320 bytes.
+ *
+ *     uint32_t answer = wickslate_check_manifest(list, list_length);
+ *     if (answer == WICKSLATE_BAD_MANIFEST || answer == WICKSLATE_BAD_RECORD)
+ *         return give_up();
+ */
+WICKSLATE_CALL uint32_t wickslate_check_manifest(const uint8_t *list, size_t list_length);
 
 #ifdef __cplusplus
 }

@@ -4,6 +4,7 @@
 //! something, and gives the answer and what was written.
 
 use wickslate_reference as reference;
+use wickslate_reference::manifest;
 use wickslate_reference::running::{self, Running};
 use wickslate_reference::segments::{self, Refusal};
 
@@ -230,4 +231,11 @@ pub fn digest_list(
             wickslate::digest_list(variant, list, buffer, wanted, out)
         })
     })
+}
+
+/// Whether a manifest is sound.
+pub fn check_manifest(list: &[u8]) -> u32 {
+    let Answer(given) = only_read(&[list], || wickslate::check_manifest(list));
+    assert_eq!(given, manifest::check(list).err().unwrap_or(0).into());
+    given
 }

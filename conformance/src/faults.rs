@@ -3,12 +3,13 @@
 
 use std::sync::LazyLock;
 
+use wickslate_reference::manifest::{RECORD_BYTES, RECORD_LIMIT};
 use wickslate_reference::padding::block_count;
 use wickslate_reference::{end_state, Variant, MESSAGE_LIMIT};
 
 use crate::compare::at;
 use crate::make::{
-    block_bytes, image, list, result_bytes, spare_held, spare_state, well_formed, Entry,
+    block_bytes, image, list, record, result_bytes, spare_held, spare_state, well_formed, Entry,
 };
 use crate::random::Random;
 use crate::wickslate::Hasher;
@@ -37,6 +38,8 @@ pub struct Call {
     pub cut: usize,
     /// The number of one of the entries.
     pub entry: usize,
+    /// A manifest of two records.
+    pub manifest: Vec<u8>,
     /// The bytes of the output.
     pub out: usize,
 }
@@ -60,6 +63,7 @@ impl Call {
             entries: vec![(0, 2), (3, 2)],
             cut: 0,
             entry: 1,
+            manifest: two_records(variant),
             out: 36,
         }
     }
@@ -82,6 +86,12 @@ impl Call {
     pub fn output(&self) -> Vec<u8> {
         vec![0x5e; self.out]
     }
+}
+
+/// Records of one axis, filled up.
+fn two_records(variant: &Variant) -> Vec<u8> {
+    let digest = vec![0xff; variant.digest_bytes()];
+    record(7, variant.number as u8, &digest).repeat(2)
 }
 
 /// A closed running hash holds no bits.
@@ -217,6 +227,33 @@ fn past_end() -> Vec<Fault<'static>> {
     vec![fault(at(11, 1), |call| call.entries[1].1 = u32::MAX)]
 }
 
+/// A byte too few, one too many, and a record too many.
+fn bad_manifest() -> Vec<Fault<'static>> {
+    let most = RECORD_LIMIT * RECORD_BYTES;
+    vec![
+        fault(12, |call| call.manifest.truncate(2 * RECORD_BYTES - 1)),
+        fault(12, |call| call.manifest.push(0)),
+        fault(12, move |call| {
+            call.manifest = call.manifest.repeat(RECORD_LIMIT);
+            call.manifest.truncate(most + RECORD_BYTES);
+        }),
+    ]
+}
+
+/// In the second record, which does not count.
+fn bad_record(variant: &Variant) -> Vec<Fault<'_>> {
+    let (number, digest) = (RECORD_BYTES + 2, RECORD_BYTES + 3);
+    let mut faults: Vec<_> = [0, 11, 255]
+        .map(|wrong| fault(13, move |call| call.manifest[number] = wrong))
+        .into();
+    if variant.digest_bytes() < 32 {
+        for place in [variant.digest_bytes(), 31] {
+            faults.push(fault(13, move |call| call.manifest[digest + place] = 1));
+        }
+    }
+    faults
+}
+
 /// The faults of `start`.
 pub fn of_start(variant: &Variant) -> Vec<Fault<'_>> {
     unknown_variant(variant)
@@ -281,6 +318,11 @@ pub fn of_digest_list(variant: &Variant, wanted: u32) -> Vec<Fault<'_>> {
         too_long_together(),
         too_short(result_bytes(variant, wanted)),
     ])
+}
+
+/// The faults of `check_manifest`.
+pub fn of_check_manifest(variant: &Variant) -> Vec<Fault<'_>> {
+    row([bad_manifest(), bad_record(variant)])
 }
 
 fn row<'a, const N: usize>(checks: [Vec<Fault<'a>>; N]) -> Vec<Fault<'a>> {

@@ -164,6 +164,7 @@ mod archive {
             out: *mut u8,
             out_bytes: usize,
         ) -> Answer;
+        pub fn wickslate_check_manifest(list: *const u8, list_bytes: usize) -> Answer;
     }
 }
 
@@ -288,4 +289,10 @@ pub fn digest_list(
             out.len(),
         )
     }
+}
+
+/// Whether a manifest is sound: refusals 12, 13.
+pub fn check_manifest(list: &[u8]) -> Answer {
+    // SAFETY: see above.
+    unsafe { archive::wickslate_check_manifest(list.as_ptr(), list.len()) }
 }

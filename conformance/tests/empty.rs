@@ -72,3 +72,8 @@ fn an_empty_list_or_buffer() {
         }
     }
 }
+
+#[test]
+fn an_empty_manifest() {
+    assert!(wickslate::check_manifest(&nowhere()).is_done());
+}

@@ -30,6 +30,7 @@ uint32_t wickslate_advance(wickslate_cursor *);
 uint32_t wickslate_check_entry(const uint8_t *, size_t, const uint8_t *, size_t, size_t);
 uint32_t wickslate_digest_list(uint32_t, const uint8_t *, size_t, const uint8_t *, size_t,
                                uint32_t, uint8_t *, size_t);
+uint32_t wickslate_check_manifest(const uint8_t *, size_t);
 #ifdef __cplusplus
 }
 #endif
@@ -64,6 +65,8 @@ fn constants() -> Vec<(String, usize)> {
         ("BAD_LIST", reference::BAD_LIST),
         ("MISORDERED", reference::MISORDERED),
         ("PAST_END", reference::PAST_END),
+        ("BAD_MANIFEST", reference::BAD_MANIFEST),
+        ("BAD_RECORD", reference::BAD_RECORD),
     ] {
         constants.push((name.into(), number.into()));
     }
@@ -74,6 +77,8 @@ fn constants() -> Vec<(String, usize)> {
         ("MOST_MESSAGE_BYTES", reference::MESSAGE_LIMIT),
         ("ENTRY_BYTES", 8),
         ("MOST_ENTRIES", 512),
+        ("RECORD_BYTES", reference::manifest::RECORD_BYTES),
+        ("MOST_RECORDS", reference::manifest::RECORD_LIMIT),
         ("DIGEST", 0),
         ("END_STATE", 1),
         ("OPEN", 0),
@@ -217,7 +222,7 @@ fn every_constant_is_compared() {
 }
 
 /// A sound call of every function, word by word.
-const CALLS: [(&str, &str); 13] = [
+const CALLS: [(&str, &str); 14] = [
     ("start", "&h 1"),
     ("update", "&h in 9"),
     ("finish", "&h"),
@@ -231,6 +236,7 @@ const CALLS: [(&str, &str); 13] = [
     ("advance", "&c"),
     ("check_entry", "in 8 in 9 0"),
     ("digest_list", "1 in 8 in 9 0 out 9"),
+    ("check_manifest", "in 9"),
 ];
 
 /// A line for every sound call, for every one whose answer is thrown away, and

@@ -128,3 +128,13 @@ fn digest_list() {
         });
     }
 }
+
+#[test]
+fn check_manifest() {
+    for variant in &VARIANTS {
+        let faults = faults::of_check_manifest(variant);
+        expect_order(&Call::sound(variant), &faults, |call| {
+            compare::check_manifest(&call.manifest)
+        });
+    }
+}

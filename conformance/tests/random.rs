@@ -17,12 +17,14 @@ const FAST: u32 = 5;
 /// A random call: its answer.
 type Call = fn(&mut Random) -> u32;
 
-const CALLS: [Call; 6] = [whole, image, running, one_entry, whole_list, lost_block];
+const CALLS: [Call; 7] = [
+    whole, image, running, one_entry, whole_list, lost_block, records,
+];
 
 #[test]
 fn random_calls() {
     let mut random = Random::of_test("random_calls");
-    let mut seen = [0; 12];
+    let mut seen = [0; 14];
     match settings::minutes() {
         None => {
             for _ in 0..settings::amount(30_000, 6000) {
@@ -37,7 +39,7 @@ fn random_calls() {
             }
         }
     }
-    println!("answers 0 to 11: {seen:?}");
+    println!("answers 0 to 13: {seen:?}");
     assert!(!seen.contains(&0), "an answer did not come up: {seen:?}");
 }
 
@@ -177,6 +179,20 @@ fn lost_block(random: &mut Random) -> u32 {
     }
     let out = output(random, make::block_bytes(variant));
     compare::recover(number, &message, place, &image, &out).0
+}
+
+/// A manifest or, in one of two cases, one with a byte changed or lost.
+fn records(random: &mut Random) -> u32 {
+    let (mut list, _) = make::manifest(random, 4);
+    match random.below(8) {
+        0 => list.truncate(list.len().saturating_sub(1)),
+        1..=3 if !list.is_empty() => {
+            let place = random.below(list.len());
+            list[place] ^= 1 << random.below(8);
+        }
+        _ => {}
+    }
+    compare::check_manifest(&list)
 }
 
 /// 16,777,215 bytes: whole, in pieces, and as two segments.

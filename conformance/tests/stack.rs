@@ -31,6 +31,7 @@ extern "C" {
     fn wickslate_advance();
     fn wickslate_check_entry();
     fn wickslate_digest_list();
+    fn wickslate_check_manifest();
 }
 
 /// The bytes between what was seen and what the header says, at least.
@@ -160,6 +161,11 @@ impl Most {
         self.call("digest_list", wickslate_digest_list, &words)
     }
 
+    fn check_manifest(&mut self, call: &Call) -> u32 {
+        let words = read(&call.manifest);
+        self.call("check_manifest", wickslate_check_manifest, &words)
+    }
+
     /// A call without a fault, and with each of them.
     fn each(&mut self, sound: &Call, faults: &[Fault], answer: impl Fn(&mut Most, &Call) -> u32) {
         assert_eq!(answer(self, sound), 0, "no fault");
@@ -180,6 +186,8 @@ impl Most {
         self.each(&sound, &faults::of_entry(), Most::entry);
         self.each(&sound, &faults::of_entry(), Most::advance);
         self.each(&sound, &faults::of_check_entry(), Most::check_entry);
+        let faults = faults::of_check_manifest(variant);
+        self.each(&sound, &faults, Most::check_manifest);
         for wanted in [0, 1] {
             let faults = faults::of_read(variant, wanted);
             self.each(&Call::closed(variant), &faults, |most, call| {
@@ -193,7 +201,8 @@ impl Most {
     }
 
     /// A message in one piece behind so many bytes before it, a whole one, and
-    /// a list of 512 segments, of which the last is all of it.
+    /// a list of 512 segments, of which the last is all of it; a manifest of 512
+    /// records.
     fn message_calls(&mut self, call: &mut Call, variant: &Variant, totals: u32) {
         let mut random = Random::of_test("message_calls");
         for total in 0..totals {
@@ -211,6 +220,8 @@ impl Most {
         assert_eq!(self.entry(call), 0);
         assert_eq!(self.advance(call), 0);
         assert_eq!(self.check_entry(call), 0);
+        call.manifest = call.manifest.repeat(256);
+        assert_eq!(self.check_manifest(call), 0);
     }
 
     /// The first block lost, one in the middle and the last, of the message

@@ -10,6 +10,7 @@ ghost use Rattle.hasher.specs.Reading.{readStatus, readInto, wholeStatus, whole
 ghost use Rattle.recover.specs.Recovering.{recoverStatus, recoverInto};
 ghost use Rattle.segments.specs.Entries.{segmentStatus};
 ghost use Rattle.segments.specs.Digests.{listStatus, listInto};
+ghost use Rattle.manifest.specs.Records.{manifestStatus};
 ghost use Rattle.lent.specs.Cursors.{stepAnswer, foundAt, movedOn};
 ghost use Rattle.wickslate.specs.Exports.{wantedOf, offsetGiven, lengthGiven};
 use hasher::Hasher;
@@ -174,4 +175,12 @@ pub extern "C" fn wickslate_digest_list(
         × (now (out .exit) ≡ listInto variant (now (list .entry)) (now (buffer .entry)) (wantedOf wanted) (now (out .entry))) ⌝ }
 {
     answers::answer_of(segments::digest_list(variant, list, buffer, wanted_of(wanted), out))
+}
+
+// Whether a report can be made of a manifest: refusals 12, 13.
+#[no_mangle]
+pub extern "C" fn wickslate_check_manifest(list: &[u8]) -> u32
+    ensures { λ r. ⌜ r ≡ answer (manifestStatus (now (list .entry))) ⌝ }
+{
+    answers::answer_of(manifest::check(list))
 }
