@@ -439,8 +439,7 @@ WICKSLATE_CALL uint32_t wickslate_digest_list(uint32_t variant, const uint8_t *l
  * Writes:   nothing.
  * Stack:    320 bytes.
  *
- *     uint32_t answer = wickslate_check_manifest(list, list_length);
- *     if (answer == WICKSLATE_BAD_MANIFEST || answer == WICKSLATE_BAD_RECORD)
+ *     if (wickslate_check_manifest(list, list_length) != WICKSLATE_DONE)
  *         return give_up();
  */
 WICKSLATE_CALL uint32_t wickslate_check_manifest(const uint8_t *list, size_t list_length);
