@@ -74,7 +74,8 @@ fn lines_begin_with_annex_b() {
 }
 
 /// Every operation has a line for each of its refusals but for a message
-/// that is too long, which a program without a heap cannot hold.
+/// that is too long, which a program without a heap cannot hold, and for a
+/// report with a wrong record, which no caller goes on with.
 #[test]
 fn every_answer_has_a_line() {
     let lines = vector_lines();
@@ -85,7 +86,7 @@ fn every_answer_has_a_line() {
             words[0] == operation && number == Some(refusal.to_string().as_str())
         })
     };
-    let answers: [(&str, &[u8]); 13] = [
+    let answers: [(&str, &[u8]); 15] = [
         ("permute", &[0, 1, 6]),
         ("unpermute", &[0, 1, 6]),
         ("digest", &[0, 1, 5]),
@@ -99,6 +100,8 @@ fn every_answer_has_a_line() {
         ("segment", &[0, 9, 7, 10, 11]),
         ("list-digest", &[0, 1, 9, 10, 11, 5]),
         ("recover", &[0, 1, 7, 6, 5, 8]),
+        ("check-manifest", &[0, 12, 13]),
+        ("report", &[0, 12]),
     ];
     for (operation, refusals) in answers {
         for &refusal in refusals {
@@ -108,7 +111,8 @@ fn every_answer_has_a_line() {
 }
 
 /// What a refused call was lent is printed as it was: an image, a running
-/// hash, or an output of bytes a0; a segment is empty then.
+/// hash, or an output of bytes a0; a segment is empty then, and a report has
+/// counted nothing.
 #[test]
 fn refused_calls_leave_their_bytes() {
     for line in vector_lines().lines() {
@@ -125,6 +129,7 @@ fn refused_calls_leave_their_bytes() {
                 format!("0:0:0:{}:{}", "00".repeat(36), "00".repeat(5))
             ),
             "segment" => assert_eq!(output, "-"),
+            "report" => assert_eq!(output, "0:0:0:0:0:0"),
             _ if output == "-" => {}
             _ => assert!(bytes(output).iter().all(|&byte| byte == 0xa0), "{line}"),
         }

@@ -3,6 +3,7 @@
 mod lists;
 mod lost;
 mod permutations;
+mod reports;
 mod running;
 mod show;
 mod whole;
@@ -13,4 +14,5 @@ fn main() {
     running::all();
     lists::all();
     lost::all();
+    reports::all();
 }

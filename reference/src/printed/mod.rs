@@ -4,6 +4,7 @@
 mod lists;
 mod lost;
 mod permutations;
+mod reports;
 mod running;
 mod whole;
 
@@ -28,6 +29,7 @@ pub fn vector_lines() -> String {
     running::add(&mut lines);
     lists::add(&mut lines);
     lost::add(&mut lines);
+    reports::add(&mut lines);
     lines
 }
 
