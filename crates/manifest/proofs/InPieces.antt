@@ -14,7 +14,7 @@ use Rattle.answers.specs.Numbers.{bigEndian}
 use Rattle.standard.proofs.Tests.{either}
 use Rattle.hasher.specs.Pieces.{joined, withByte}
 use Rattle.hasher.specs.Running.{started}
-use Rattle.manifest.specs.declared.report.Tally.{Tally}
+use Rattle.manifest.specs.declared.tally.Tally.{Tally}
 use Rattle.manifest.specs.declared.report.Report.{Report}
 use Rattle.manifest.specs.Records.{manifestStatus, recordFor, isListed}
 use Rattle.manifest.specs.Tables.{Table, axisIn, spanOf, isWhole, firstTable, tablesUpTo, mostTables, tablesIn}

@@ -12,7 +12,7 @@ use borrow.Author.Tests.{le-leb, lt-leb, eq-eqb, ne-eqb}
 use Rattle.standard.proofs.Tests.{lt-or-le}
 use Rattle.hasher.specs.Running.{started}
 use Rattle.hasher.specs.Pieces.{withByte}
-use Rattle.manifest.specs.declared.report.Current.{Current}
+use Rattle.manifest.specs.declared.current.Current.{Current}
 use Rattle.manifest.specs.Tables.{axisIn, lengthIn, spanOf, isWhole}
 use Rattle.manifest.specs.Progress.{unread, hashedUnder, opened, headed, onward, isComplete}
 use Rattle.manifest.proofs.StrideLaws.{further, onward-bytes}

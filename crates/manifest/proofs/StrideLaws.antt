@@ -11,8 +11,8 @@ use borrow.Author.Tests.{lt-ltb, le-ltb, le-leb, ne-eqb}
 use Rattle.standard.proofs.Tests.{lt-or-le}
 use Rattle.hasher.specs.declared.Hasher.{Hasher}
 use Rattle.hasher.specs.Pieces.{withByte}
-use Rattle.manifest.specs.declared.report.Tally.{Tally}
-use Rattle.manifest.specs.declared.report.Current.{Current}
+use Rattle.manifest.specs.declared.tally.Tally.{Tally}
+use Rattle.manifest.specs.declared.current.Current.{Current}
 use Rattle.manifest.specs.declared.report.Report.{Report}
 use Rattle.manifest.specs.Tables.{mostTables}
 use Rattle.manifest.specs.Progress.{headed, grown, onward, isComplete, tallied, settled, byteTaken, Stride}

@@ -12,7 +12,7 @@ use borrow.Author.Tests.{lt-ltb, ltb-true, ltb-false, eq-eqb, ne-eqb}
 use Rattle.standard.specs.Grid.{tab}
 use Rattle.standard.proofs.Tab.{getD-tab, tab-cong}
 use Rattle.standard.proofs.Tests.{either}
-use Rattle.manifest.specs.declared.report.Tally.{Tally}
+use Rattle.manifest.specs.declared.tally.Tally.{Tally}
 use Rattle.manifest.specs.Records.{recordCount, axisAt, recordFor, isListed}
 use Rattle.manifest.specs.Tables.{Table}
 use Rattle.manifest.specs.Counts.{howMany, agrees, isEqual, isUnequal, isUnlisted, isTold, listed}

@@ -14,8 +14,8 @@ use Rattle.hasher.specs.declared.Wanted.the-variants.{Digest}
 use Rattle.hasher.specs.Running.{blank, started, finished}
 use Rattle.hasher.specs.Reading.{readStatus, readInto}
 use Rattle.hasher.specs.Pieces.{withByte}
-use Rattle.manifest.specs.declared.report.Tally.{Tally}
-use Rattle.manifest.specs.declared.report.Current.{Current}
+use Rattle.manifest.specs.declared.tally.Tally.{Tally}
+use Rattle.manifest.specs.declared.current.Current.{Current}
 use Rattle.manifest.specs.declared.report.Report.{Report}
 use Rattle.manifest.specs.declared.report.Beginning.{Beginning}
 use Rattle.manifest.specs.declared.report.Summary.{Summary}

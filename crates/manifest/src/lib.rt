@@ -1,6 +1,8 @@
 // Manifests: which table each axis of an installation should hold, and a report of the tables that it does hold.
+mod current;
 mod records;
 mod report;
+mod tally;
 
 pub use records::MOST_RECORDS;
 pub use records::RECORD_BYTES;

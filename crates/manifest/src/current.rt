@@ -1,0 +1,173 @@
+// The table that is being read.
+ghost use mathlib.Core.Path.{_≡_};
+ghost use mathlib.Core.List.{foldl};
+ghost use Prim.Native.Nat.{_+_, _-_, _≤_, _<_};
+ghost use lib.ListN.{length};
+ghost use Rattle.answers.specs.Outputs.{most};
+ghost use Rattle.hasher.specs.Pieces.{withByte};
+ghost use Rattle.manifest.specs.Tables.{axisIn, lengthIn};
+ghost use Rattle.manifest.specs.Progress.{unread, hashedUnder, opened, headed, onward, isComplete, Stride};
+use crate::records;
+use crate::records::RECORD_BYTES;
+use answers::MOST;
+use hasher::Hasher;
+
+// Two bytes of axis number and four of length.
+const HEADER_BYTES: usize = 6;
+
+// The table that is being read: so many bytes of its header; once all of it is there, how much of the contents is still to come, and
+// the running hash of what came. A table that need not be hashed has one of variant 0, which takes nothing.
+pub struct Current {
+    pub header: [u8; HEADER_BYTES],
+    pub got: u8,
+    pub left: u32,
+    pub hasher: Hasher,
+}
+
+// No byte of it read yet.
+pub fn unread() -> Current
+    ensures { λ r. ⌜ r ≡ unread ⌝ }
+{
+    let refused = hasher::start(0);
+    let none = refused.hasher;
+    Current {
+        header: [0u8; HEADER_BYTES],
+        got: 0,
+        left: 0,
+        hasher: none,
+    }
+}
+
+// The variant under which a table of n bytes is hashed: 0, under which nothing is, where it need not be.
+fn hashed_under(list: &[u8], axis: u16, n: u32) -> u32
+    ensures { λ r. ⌜ r ≡ hashedUnder (now (list .entry)) axis n ⌝ }
+{
+    let k = records::record_for(list, axis);
+    if list.len() / RECORD_BYTES <= k {
+        return 0;
+    }
+    if MOST < n as usize {
+        return 0;
+    }
+    records::variant_at(list, k) as u32
+}
+
+pub fn axis_in(header: [u8; HEADER_BYTES]) -> u16
+    ensures { λ r. ⌜ r ≡ axisIn header ⌝ }
+{
+    answers::u16_at(&header, 0)
+}
+
+fn length_in(header: [u8; HEADER_BYTES]) -> u32
+    ensures { λ r. ⌜ r ≡ lengthIn header ⌝ }
+{
+    answers::u32_at(&header, 2)
+}
+
+// The header is there, and the contents are to come.
+fn opened(list: &[u8], header: [u8; HEADER_BYTES]) -> Current
+    ensures { λ r. ⌜ r ≡ opened (now (list .entry)) header ⌝ }
+{
+    let n = length_in(header);
+    let begun = hasher::start(hashed_under(list, axis_in(header), n));
+    let h = begun.hasher;
+    Current {
+        header: header,
+        got: HEADER_BYTES as u8,
+        left: n,
+        hasher: h,
+    }
+}
+
+// One byte more of the header.
+fn headed(list: &[u8], c: Current, b: u8) -> Current
+    requires { ⌜ c .got < 6 ⌝ }
+    ensures { λ r. ⌜ r ≡ headed (now (list .entry)) c b ⌝ }
+{
+    let mut header = c.header;
+    header[c.got as usize] = b;
+    if (c.got as usize) < HEADER_BYTES - 1 {
+        let h = c.hasher;
+        return Current {
+            header: header,
+            got: c.got + 1,
+            left: c.left,
+            hasher: h,
+        };
+    }
+    opened(list, header)
+}
+
+fn least(a: usize, b: usize) -> usize
+    ensures { λ r. ⌜ (r ≤ a) × (r ≤ b) × (1 ≤ a → 1 ≤ b → 1 ≤ r) ⌝ }
+{
+    if a < b { a } else { b }
+}
+
+// The bytes that a running hash of so many can still take; any number where it can take none, since it then refuses them all.
+fn room(total: u32) -> usize
+    ensures { λ r. ⌜ (1 ≤ r) × (total < most → total + r ≤ most) ⌝ }
+{
+    if (total as usize) < MOST {
+        MOST - total as usize
+    } else {
+        MOST
+    }
+}
+
+// How many of the bytes that are there are read at once: one of a header, of contents all that the table has and its running hash can take.
+pub fn stride(c: Current, available: usize) -> usize
+    requires { ⌜ 1 ≤ available ⌝ }
+    ensures { λ r. ⌜ (r ≤ available) × Stride c r ⌝ }
+{
+    if (c.got as usize) < HEADER_BYTES {
+        return 1;
+    }
+    // No stream leads to a table with nothing left, but the next byte must move even that one on.
+    if c.left == 0 {
+        return 1;
+    }
+    least(least(available, c.left as usize), room(c.hasher.total))
+}
+
+// What is left of a when b is taken away.
+pub fn less(a: u32, b: u32) -> u32
+    ensures { λ r. ⌜ r ≡ a - b ⌝ }
+{
+    if a < b { 0 } else { a - b }
+}
+
+// The running hash after some bytes more, which it takes whole or not at all.
+fn with_bytes(h: Hasher, part: &[u8]) -> Hasher
+    requires { ⌜ 1 ≤ length (now part) ⌝ }
+    requires { ⌜ (h .total < most → h .total + length (now part) ≤ most) ⌝ }
+    ensures { λ r. ⌜ r ≡ foldl withByte h (now (part .entry)) ⌝ }
+{
+    let u = hasher::update(h, part);
+    u.hasher
+}
+
+// A stride more of the table.
+pub fn onward(list: &[u8], c: Current, part: &[u8]) -> Current
+    requires { ⌜ Stride c (length (now part)) ⌝ }
+    ensures { λ r. ⌜ r ≡ foldl (onward (now (list .entry))) c (now (part .entry)) ⌝ }
+{
+    if (c.got as usize) < HEADER_BYTES {
+        return headed(list, c, part[0]);
+    }
+    let header = c.header;
+    let h = with_bytes(c.hasher, part);
+    Current {
+        header: header,
+        got: c.got,
+        left: less(c.left, part.len() as u32),
+        hasher: h,
+    }
+}
+
+// Whether its last byte was read.
+pub fn is_complete(c: Current) -> bool
+    ensures { λ r. ⌜ r ≡ isComplete c ⌝ }
+{
+    HEADER_BYTES <= c.got as usize && c.left == 0
+}

@@ -1,0 +1,157 @@
+// The tally of the tables that were read.
+ghost use mathlib.Core.Path.{_≡_};
+ghost use mathlib.Core.Bool.{true};
+ghost use Prim.Native.Nat.{_≤_, _<_};
+ghost use lib.ListN.{length};
+ghost use Rattle.manifest.specs.Records.{isManifest, recordCount};
+ghost use Rattle.manifest.specs.Tables.{mostTables};
+ghost use Rattle.manifest.specs.Counts.{same, listed};
+ghost use Rattle.manifest.specs.Progress.{bit, tallied, matches, withListed, withUnlisted, withTable, countsAt, awaitedAll};
+use crate::current::Current;
+use crate::current::axis_in;
+use crate::current::less;
+use crate::records;
+use crate::records::MOST_RECORDS;
+use crate::records::RECORD_BYTES;
+use answers::Status;
+use hasher::Hasher;
+
+// The tables read so far. Where record k counts for its axis and no table of that axis has come, awaited[k] is 1.
+pub struct Tally {
+    pub listed: u16,
+    pub untold: u16,
+    pub equal: u16,
+    pub unequal: u16,
+    pub unlisted: u16,
+    pub awaited: [u8; MOST_RECORDS],
+}
+
+// 1 where the condition holds.
+fn bit(b: bool) -> u8
+    ensures { λ r. ⌜ (r ≡ bit b) × (r ≤ 1) ⌝ }
+{
+    if b { 1 } else { 0 }
+}
+
+// Whether record k counts for its own axis.
+fn counts_at(list: &[u8], k: usize) -> bool
+    requires { ⌜ k < recordCount (now list) ⌝ }
+    ensures { λ r. ⌜ r ≡ countsAt (now (list .entry)) k ⌝ }
+{
+    records::record_for(list, records::axis_at(list, k)) == k
+}
+
+// At the beginning every axis is awaited, by the record that counts for it.
+pub fn awaited_all(list: &[u8]) -> [u8; MOST_RECORDS]
+    requires { ⌜ isManifest (now list) ≡ true ⌝ }
+    ensures { λ r. ⌜ r ≡ awaitedAll (now (list .entry)) ⌝ }
+{
+    let n = list.len() / RECORD_BYTES;
+    let mut out = [0u8; MOST_RECORDS];
+    let mut k = 0;
+    while k < n {
+        out[k] = bit(counts_at(list, k));
+        k += 1;
+    }
+    out
+}
+
+// How many axes are listed.
+pub fn listed(list: &[u8]) -> u16
+    requires { ⌜ isManifest (now list) ≡ true ⌝ }
+    ensures { λ r. ⌜ r ≡ listed (now (list .entry)) ⌝ }
+{
+    let n = list.len() / RECORD_BYTES;
+    let mut sum: u16 = 0;
+    let mut k = 0;
+    while k < n {
+        sum += bit(counts_at(list, k)) as u16;
+        k += 1;
+    }
+    sum
+}
+
+// How many tables were read. Since none of the three counts is above it, none passes its type while this is below the most tables.
+pub fn tallied(y: Tally) -> u32
+    ensures { λ r. ⌜ r ≡ tallied y ⌝ }
+{
+    y.equal as u32 + y.unequal as u32 + y.unlisted as u32
+}
+
+// Whether two rows of bytes are the same.
+fn is_same(a: &[u8], b: &[u8]) -> bool
+    requires { ⌜ length (now a) ≡ length (now b) ⌝ }
+    ensures { λ r. ⌜ r ≡ same (now (a .entry)) (now (b .entry)) ⌝ }
+{
+    let mut i = 0;
+    while i < a.len() {
+        if a[i] != b[i] {
+            return false;
+        }
+        i += 1;
+    }
+    true
+}
+
+// Whether a running hash ends in the digest of record k.
+fn matches(list: &[u8], k: usize, h: Hasher) -> bool
+    requires { ⌜ k < recordCount (now list) ⌝ }
+    ensures { λ r. ⌜ r ≡ matches (now (list .entry)) k h ⌝ }
+{
+    let mut digest = [0u8; 32];
+    let ended = hasher::finish(h);
+    let status = hasher::digest(ended.hasher, &mut digest);
+    if let Status::Done = status {
+        return is_same(&digest, records::filled_at(list, k));
+    }
+    false
+}
+
+// The tally with a table of record k. Its axis is awaited no longer, so that a second table of it leaves the untold ones as they are.
+fn with_listed(y: Tally, k: usize, agrees: bool) -> Tally
+    requires { ⌜ k < 512 ⌝ }
+    requires { ⌜ tallied y < mostTables ⌝ }
+    ensures { λ r. ⌜ r ≡ withListed y k agrees ⌝ }
+{
+    let mut awaited = y.awaited;
+    let due = awaited[k];
+    awaited[k] = 0;
+    Tally {
+        listed: y.listed,
+        untold: less(y.untold as u32, due as u32) as u16,
+        equal: y.equal + bit(agrees) as u16,
+        unequal: y.unequal + bit(!agrees) as u16,
+        unlisted: y.unlisted,
+        awaited: awaited,
+    }
+}
+
+// The tally with a table of no listed axis.
+fn with_unlisted(y: Tally) -> Tally
+    requires { ⌜ tallied y < mostTables ⌝ }
+    ensures { λ r. ⌜ r ≡ withUnlisted y ⌝ }
+{
+    let awaited = y.awaited;
+    Tally {
+        listed: y.listed,
+        untold: y.untold,
+        equal: y.equal,
+        unequal: y.unequal,
+        unlisted: y.unlisted + 1,
+        awaited: awaited,
+    }
+}
+
+// The tally with the table that was read.
+pub fn with_table(list: &[u8], y: Tally, c: Current) -> Tally
+    requires { ⌜ isManifest (now list) ≡ true ⌝ }
+    requires { ⌜ tallied y < mostTables ⌝ }
+    ensures { λ r. ⌜ r ≡ withTable (now (list .entry)) y c ⌝ }
+{
+    let header = c.header;
+    let k = records::record_for(list, axis_in(header));
+    if k < list.len() / RECORD_BYTES {
+        return with_listed(y, k, matches(list, k, c.hasher));
+    }
+    with_unlisted(y)
+}
