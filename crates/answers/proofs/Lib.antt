@@ -5,3 +5,4 @@ pub mod NumberLaws
 pub mod WrittenAt
 pub mod DecimalLaws
 pub mod DecimalWriting
+pub mod LineLaws

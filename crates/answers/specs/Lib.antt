@@ -3,3 +3,4 @@ pub mod Refusals
 pub mod Checks
 pub mod Outputs
 pub mod Numbers
+pub mod Lines

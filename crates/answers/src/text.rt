@@ -4,6 +4,7 @@ ghost use Prim.Native.Nat.{_+_, _%_, _≤_};
 ghost use lib.ListN.{length};
 ghost use Rattle.answers.specs.Numbers.{digitCode, decimal};
 ghost use Rattle.answers.specs.Outputs.{writtenAt};
+ghost use Rattle.answers.specs.Lines.{lineOf};
 
 pub fn write_bytes(bytes: &[u8], out: &mut [u8], at: usize) -> usize
     requires { ⌜ at + length (now bytes) ≤ length (now out) ⌝ }
@@ -51,4 +52,16 @@ pub fn write_decimal(n: u32, out: &mut [u8], at: usize) -> usize
     }
     out[at] = last_digit(rest);
     end
+}
+
+// A name, a space, a number in decimal and a line end, in a place with room for any number.
+pub fn write_line(name: &[u8], n: u32, out: &mut [u8], at: usize) -> usize
+    requires { ⌜ at + length (now name) + 12 ≤ length (now out) ⌝ }
+    ensures { λ r. ⌜ now (out .exit) ≡ writtenAt at (lineOf (now (name .entry)) n) (now (out .entry)) ⌝ }
+    ensures { λ r. ⌜ (r ≡ at + length (lineOf (now (name .entry)) n)) × (r ≤ at + length (now (name .entry)) + 12) ⌝ }
+{
+    let named = write_bytes(name, out, at);
+    let spaced = write_bytes(b" ", out, named);
+    let counted = write_decimal(n, out, spaced);
+    write_bytes(b"\n", out, counted)
 }

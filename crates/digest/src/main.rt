@@ -5,6 +5,7 @@ mod text;
 ghost use Prim.Native.Nat.{_≤_};
 use answers::Refusal;
 use answers::Status;
+use answers::text::write_line;
 use hasher::Hasher;
 use libc::STDERR_FILENO;
 use libc::STDIN_FILENO;
@@ -53,9 +54,9 @@ fn feed_all(h: Hasher) -> Fed {
 }
 
 fn show_refusal(r: Refusal) {
-    io::write_all(STDOUT_FILENO, b"refused ");
-    io::print_decimal(STDOUT_FILENO, answers::number_of(r) as u64);
-    io::write_all(STDOUT_FILENO, b"\n");
+    let mut line = [0u8; 19];
+    let n = write_line(b"refused", answers::number_of(r) as u32, &mut line, 0);
+    io::write_all(STDOUT_FILENO, &line[0..n]);
 }
 
 // The front of a digest that has n digits.

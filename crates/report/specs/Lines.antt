@@ -2,12 +2,8 @@
 -- Assumes nothing.
 use mathlib.Core.List.{List, [], _∷_, _++_}
 use Prim.Native.Nat.{ℕ}
-use Rattle.answers.specs.Numbers.{decimal}
+use Rattle.answers.specs.Lines.{lineOf}
 use Rattle.manifest.specs.declared.report.Summary.{Summary}
-
--- a line: 32 is a space and 10 a line end
-unfoldable pub lineOf : List ℕ → ℕ → List ℕ
-lineOf name n = name ++ 32 ∷ [] ++ decimal n ++ 10 ∷ []
 
 -- the names in ASCII codes: listed, tables, equal, unequal, untold, unlisted
 abbrev pub listedName : List ℕ

@@ -4,6 +4,7 @@ mod text;
 
 use answers::Refusal;
 use answers::Status;
+use answers::text::write_line;
 use libc::STDERR_FILENO;
 use libc::STDIN_FILENO;
 use libc::STDOUT_FILENO;
@@ -50,9 +51,9 @@ fn feed_all(list: &[u8], report: Report) -> Fed {
 }
 
 fn show_refusal(r: Refusal) {
-    io::write_all(STDOUT_FILENO, b"refused ");
-    io::print_decimal(STDOUT_FILENO, answers::number_of(r) as u64);
-    io::write_all(STDOUT_FILENO, b"\n");
+    let mut line = [0u8; 19];
+    let n = write_line(b"refused", answers::number_of(r) as u32, &mut line, 0);
+    io::write_all(STDOUT_FILENO, &line[0..n]);
 }
 
 fn show_summary(s: Summary) {

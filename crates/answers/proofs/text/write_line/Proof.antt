@@ -1,10 +1,10 @@
--- `report::text::write_line` meets its contract: the four parts of a line, one behind the other. Assumes nothing.
+-- `answers::text::write_line` meets its contract: the four parts of a line, one behind the other. Assumes nothing.
 use native.Mathlib.Omega.{arith}
 use borrow.Author.Needs.{needs}
 use Rattle.answers.proofs.DecimalLaws.{decimal-short}
-use Rattle.report.proofs.LineLaws.{line-short, line-written}
-use Rattle.report.proofs.text.write_line.Statement.{statement}
-use Rattle.report.proofs.text.write_line.Tie as tie
+use Rattle.answers.proofs.LineLaws.{line-short, line-written}
+use Rattle.answers.proofs.text.write_line.Statement.{statement}
+use Rattle.answers.proofs.text.write_line.Tie as tie
 
 write-decimal-requires : tie.Need-write-decimal-requires
 write-decimal-requires c κs =
