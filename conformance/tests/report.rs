@@ -18,7 +18,7 @@ use std::time::{Duration, Instant};
 
 use hexadecimal::bytes;
 use wickslate_conformance::make::{header, manifest, record, record_of, table};
-use wickslate_conformance::programs::{self, expect, fed, root};
+use wickslate_conformance::programs::{self, expect, fed, peak, root, started};
 use wickslate_conformance::random::Random;
 use wickslate_conformance::settings::{self, amount};
 use wickslate_reference::manifest::{report, Counts};
@@ -308,7 +308,7 @@ fn axes_with_more_than_one_record() {
     let first = record_of(7, &VARIANTS[5], HOLD);
     let second = record_of(7, &VARIANTS[1], LIFT);
     let other = record_of(8, FAST, LIFT);
-    let list = [first.clone(), other, second, first.clone()].concat();
+    let list = [first.clone(), other, second].concat();
     let [hold, lift] = [table(7, HOLD), table(7, LIFT)];
     for (stream, expected) in [
         (hold.clone(), [2, 1, 1, 0, 1, 0]),
@@ -365,18 +365,6 @@ fn ended(mut child: Child) -> Output {
         thread::sleep(Duration::from_millis(5));
     }
     child.wait_with_output().expect("an end")
-}
-
-/// The program, started over a pipe.
-fn started(mut program: Command) -> (Child, impl Write) {
-    let mut child = program
-        .stdin(Stdio::piped())
-        .stdout(Stdio::piped())
-        .stderr(Stdio::piped())
-        .spawn()
-        .expect("a program to run");
-    let pipe = child.stdin.take().expect("a pipe");
-    (child, pipe)
 }
 
 /// The pipe stays open, and the program ends all the same.
@@ -609,18 +597,6 @@ fn input_that_cannot_be_read() {
         let output = without_input(&place.program(&list)).output();
         expect(&output.expect("an end"), 0, out, err);
     }
-}
-
-/// The most memory that a program has had so far, in KiB.
-fn peak(child: &Child) -> usize {
-    let path = format!("/proc/{}/status", child.id());
-    let status = fs::read_to_string(path).expect("a program that runs");
-    let line = status
-        .lines()
-        .find_map(|line| line.strip_prefix("VmHWM:"))
-        .expect("its memory");
-    let number = line.split_whitespace().next().expect("a number");
-    number.parse().expect("a number")
 }
 
 /// The most memory that the program has over a stream of so many such tables,

@@ -4,11 +4,10 @@
 
 use std::env;
 use std::ffi::{c_int, c_long};
-use std::fs;
 use std::process::exit;
-use std::thread::available_parallelism;
 use std::time::Duration;
 
+use wickslate_conformance::rows::{machine, print_head, print_row};
 use wickslate_conformance::wickslate;
 use wickslate_reference::{digest, Variant, VARIANTS};
 
@@ -95,17 +94,6 @@ fn with_numbers(numbers: &[usize]) -> Result<Vec<&'static Variant>, String> {
     numbers.iter().map(with).collect()
 }
 
-/// The processor's model and how many there are.
-fn machine() -> String {
-    let about = fs::read_to_string("/proc/cpuinfo").unwrap_or_default();
-    let model = about
-        .lines()
-        .find_map(|line| line.strip_prefix("model name")?.split_once(": "))
-        .map_or("unknown processor", |(_, model)| model);
-    let cores = available_parallelism().map_or(0, usize::from);
-    format!("{model}, {cores} cores")
-}
-
 fn print_speeds(wish: &Wish) {
     let mut head = vec!["Variant".to_string()];
     for &bytes in &wish.lengths {
@@ -148,23 +136,6 @@ fn size(bytes: usize) -> String {
         _ if bytes.is_multiple_of(1 << 10) => format!("{} KiB", bytes >> 10),
         _ => format!("{bytes} B"),
     }
-}
-
-fn print_head(markdown: bool, cells: &[String]) {
-    print_row(markdown, cells);
-    if markdown {
-        println!("|---{}|", "|--:".repeat(cells.len() - 1));
-    }
-}
-
-fn print_row(markdown: bool, cells: &[String]) {
-    if markdown {
-        println!("| {} |", cells.join(" | "));
-        return;
-    }
-    let (first, rest) = cells.split_first().expect("a name");
-    let rest: String = rest.iter().map(|cell| format!("{cell:>16}")).collect();
-    println!("{first:<16}{rest}");
 }
 
 /// Some bytes; their values make no difference to the time.
