@@ -18,8 +18,8 @@ use Rattle.manifest.specs.declared.tally.Tally.{Tally}
 use Rattle.manifest.specs.declared.report.Report.{Report}
 use Rattle.manifest.specs.Records.{manifestStatus, recordFor, isListed}
 use Rattle.manifest.specs.Tables.{Table, axisIn, spanOf, isWhole, firstTable, tablesUpTo, mostTables, tablesIn}
-use Rattle.manifest.specs.Counts.{agrees, tables, equal, unequal, unlisted}
-use Rattle.manifest.specs.Progress.{unread, hashedUnder, onward, matches, withTable, settled, byteTaken, taken, fresh, begun, countsSoFar, countsOf, reported}
+use Rattle.manifest.specs.Counts.{agrees, tables, equal, unequal, unlisted, countsOf}
+use Rattle.manifest.specs.Progress.{unread, hashedUnder, onward, matches, withTable, settled, byteTaken, taken, fresh, begun, countsSoFar, reported}
 use Rattle.manifest.proofs.DistinctAxes.{untold-records}
 use Rattle.manifest.proofs.Sums.{told-add-up, tables-at-most, untold-at-most}
 use Rattle.manifest.proofs.StrideLaws.{full-stays}

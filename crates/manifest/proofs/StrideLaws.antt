@@ -15,7 +15,8 @@ use Rattle.manifest.specs.declared.tally.Tally.{Tally}
 use Rattle.manifest.specs.declared.current.Current.{Current}
 use Rattle.manifest.specs.declared.report.Report.{Report}
 use Rattle.manifest.specs.Tables.{mostTables}
-use Rattle.manifest.specs.Progress.{headed, grown, onward, isComplete, tallied, settled, byteTaken, Stride}
+use Rattle.manifest.specs.Progress.{headed, grown, onward, isComplete, tallied, settled, byteTaken}
+use Rattle.manifest.specs.Strides.{Stride}
 
 -- the table that is being read, with so much left and this running hash
 abbrev pub further : Current → ℕ → Hasher → Current

@@ -8,6 +8,7 @@ use lib.ListN.{length}
 use Rattle.answers.specs.Outputs.{most}
 use Rattle.standard.specs.Chain.{messageBits, digestOf}
 use Rattle.standard.specs.Variants.{variant}
+use Rattle.manifest.specs.declared.report.Summary.{Summary}
 use Rattle.manifest.specs.Records.{variantAt, digestAt, axesOf, recordFor, isListed}
 use Rattle.manifest.specs.Tables.{Table, tablesIn}
 
@@ -47,9 +48,11 @@ isTold ts axis = ltb 0 (howMany (λ (t : Table). eqb (t .axis) axis) ts)
 unfoldable pub listed : List ℕ → ℕ
 listed list = length (axesOf list)
 
+-- tables that came whole, as far as a report looks
 unfoldable pub tables : List ℕ → ℕ
 tables stream = length (tablesIn stream)
 
+-- tables whose digest under the listed variant is the listed one, and other tables of a listed axis
 unfoldable pub equal : List ℕ → List ℕ → ℕ
 equal list stream = howMany (isEqual list) (tablesIn stream)
 
@@ -60,5 +63,18 @@ unequal list stream = howMany (isUnequal list) (tablesIn stream)
 unfoldable pub untold : List ℕ → List ℕ → ℕ
 untold list stream = howMany (λ axis. not (isTold (tablesIn stream) axis)) (axesOf list)
 
+-- tables of no listed axis
 unfoldable pub unlisted : List ℕ → List ℕ → ℕ
 unlisted list stream = howMany (isUnlisted list) (tablesIn stream)
+
+-- all six
+unfoldable pub countsOf : List ℕ → List ℕ → Summary
+countsOf list stream =
+    record {
+      listed = listed list;
+      tables = tables stream;
+      equal = equal list stream;
+      unequal = unequal list stream;
+      untold = untold list stream;
+      unlisted = unlisted list stream;
+    }

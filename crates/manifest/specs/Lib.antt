@@ -3,3 +3,4 @@ pub mod Records
 pub mod Tables
 pub mod Counts
 pub mod Progress
+pub mod Strides

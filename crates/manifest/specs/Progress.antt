@@ -1,9 +1,9 @@
--- A report in progress: what each byte of the stream makes of it. Total: a report that no stream leads to has its next one too.
+-- A report in progress: what each byte of the stream makes of it, for the contracts. What a report comes to is defined in Counts, from the bytes alone, and
+-- the theorem in-pieces shows that the two agree. Total: a report that no stream leads to has its next one too.
 -- Assumes nothing.
-use mathlib.Core.Path.{_≡_}
 use mathlib.Core.Bool.{Bool, false, cond, not, _&&_}
 use mathlib.Core.List.{List, [], _∷_, foldl}
-use Prim.Native.Nat.{ℕ, _+_, _-_, _≤_, _<_}
+use Prim.Native.Nat.{ℕ, _+_, _-_}
 use lib.Dec.{eqb, ltb, leb}
 use lib.ListN.{length, replicate, getD, set}
 use Rattle.answers.specs.declared.Status.{Status}
@@ -21,7 +21,7 @@ use Rattle.manifest.specs.declared.report.Beginning.{Beginning}
 use Rattle.manifest.specs.declared.report.Summary.{Summary}
 use Rattle.manifest.specs.Records.{isManifest, recordCount, axisAt, variantAt, filledAt, manifestStatus, recordFor, isListed}
 use Rattle.manifest.specs.Tables.{axisIn, lengthIn, mostTables}
-use Rattle.manifest.specs.Counts.{same, listed, tables, equal, unequal, untold, unlisted}
+use Rattle.manifest.specs.Counts.{same, listed}
 
 -- ---- the table that is being read
 
@@ -146,25 +146,6 @@ countsSoFar r =
       unlisted = r .tally .unlisted;
     }
 
--- those of a manifest and a stream
-unfoldable pub countsOf : List ℕ → List ℕ → Summary
-countsOf list stream =
-    record {
-      listed = listed list;
-      tables = tables stream;
-      equal = equal list stream;
-      unequal = unequal list stream;
-      untold = untold list stream;
-      unlisted = unlisted list stream;
-    }
-
 -- a report from its beginning, with every piece in turn
 unfoldable pub reported : List ℕ → List (List ℕ) → Report
 reported list pieces = foldl (taken list) (begun list .report) pieces
-
--- ---- for the code: so many bytes that nothing but the last of them can end the table, and that its running hash takes whole or not at all
-pub record Stride (c : Current) (n : ℕ) : Type 0 where
-  pub some : 1 ≤ n
-  pub header : c .got < 6 → n ≡ 1
-  pub inside : 1 < n → n ≤ c .left
-  pub room : c .hasher .total < most → c .hasher .total + n ≤ most

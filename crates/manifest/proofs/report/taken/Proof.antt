@@ -7,7 +7,8 @@ use lib.ListN.{length, drop, drop-of-length-le}
 use borrow.Author.Needs.{needs}
 use borrow.Author.Tests.{ltb-true, ltb-false, not-true, not-false}
 use Rattle.manifest.specs.Tables.{mostTables}
-use Rattle.manifest.specs.Progress.{tallied, byteTaken, taken, Stride}
+use Rattle.manifest.specs.Progress.{tallied, byteTaken, taken}
+use Rattle.manifest.specs.Strides.{Stride}
 use Rattle.manifest.proofs.StrideLaws.{part-length, full-stays, stream-stepped}
 use Rattle.manifest.proofs.report.taken.Statement.{statement}
 use Rattle.manifest.proofs.report.taken.Tie as tie
