@@ -1,38 +1,38 @@
 -- `manifest::records::check_record` meets its contract: the variant, then the filler. Assumes nothing.
 use mathlib.Core.Path.{_≡_, sym, ap, _∙_}
+use mathlib.Core.Bool.{true}
+use Prim.Native.Nat.{ℕ}
 use borrow.Author.Needs.{needs}
 use borrow.Author.Tests.{not-true, not-false}
-use Rattle.manifest.specs.Records.{recordChecks, fillerAt}
+use Rattle.standard.specs.Variants.{known}
+use Rattle.manifest.specs.Records.{variantAt, zeros, recordChecks, fillerAt}
 use Rattle.manifest.proofs.records.check_record.Statement.{statement}
 use Rattle.manifest.proofs.records.check_record.Tie as tie
+
+-- the variant is known
+named : (c : tie.Else1) → known (variantAt (c .before .before .before .before .args .list .now) (c .before .before .before .before .args .k)) ≡ true
+named c = ap known (sym (c .before .before .variant-at .ensures)) ∙ sym (c .before .is-known .ensures) ∙ not-false _ (c .if1 .left)
+
+-- what was found of the filler
+looked-at : (c : tie.After-zero-from)
+    → zeros
+    (fillerAt (c .before .before .before .before .before .before .before .args .list .now) (c .before .before .before .before .before .before .before .args .k))
+    ≡ c .zero-from .result
+unfolding fillerAt
+looked-at c =
+    rw (← c .before .before .before .before .before .variant-at .ensures, ← c .before .digest-bytes .ensures, ← c .before .before .filled-at .ensures) (sym (c .zero-from .ensures))
 
 returns : tie.Need-returns
 unfolding recordChecks
 returns c = rw (← c .before .before .variant-at .ensures, sym (c .before .is-known .ensures) ∙ not-true _ (c .if1 .taken))
 
 returns-2 : tie.Need-returns-2
-unfolding recordChecks fillerAt
-returns-2 c =
-    let b = c .before .before .before .before in
-    rw (
-      ← b .before .before .variant-at .ensures,
-      sym (b .before .is-known .ensures) ∙ not-false _ (b .if1 .left),
-      ← c .before .before .digest-bytes .ensures,
-      ← c .before .before .before .filled-at .ensures,
-      sym (c .before .zero-from .ensures) ∙ not-true _ (c .if2 .taken),
-    )
+unfolding recordChecks
+returns-2 c = rw (named (c .before .before .before .before), looked-at (c .before) ∙ not-true _ (c .if2 .taken))
 
 returns-3 : tie.Need-returns-3
-unfolding recordChecks fillerAt
-returns-3 c =
-    let b = c .before .before .before .before in
-    rw (
-      ← b .before .before .variant-at .ensures,
-      sym (b .before .is-known .ensures) ∙ not-false _ (b .if1 .left),
-      ← c .before .before .digest-bytes .ensures,
-      ← c .before .before .before .filled-at .ensures,
-      sym (c .before .zero-from .ensures) ∙ not-false _ (c .if2 .left),
-    )
+unfolding recordChecks
+returns-3 c = rw (named (c .before .before .before .before), looked-at (c .before) ∙ not-false _ (c .if2 .left))
 
 pub check-record-spec : {M : Type 1} → statement M
 check-record-spec =
