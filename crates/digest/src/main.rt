@@ -54,6 +54,7 @@ fn feed_all(h: Hasher) -> Fed {
 }
 
 fn show_refusal(r: Refusal) {
+    // Room for the name, a space, ten digits and a line end.
     let mut line = [0u8; 19];
     let n = write_line(b"refused", answers::number_of(r) as u32, &mut line, 0);
     io::write_all(STDOUT_FILENO, &line[0..n]);

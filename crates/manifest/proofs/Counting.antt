@@ -31,6 +31,11 @@ pub and-assoc : (a b c : Bool) → (a && (b && c)) ≡ (a && b && c)
 and-assoc true b c = refl
 and-assoc false b c = refl
 
+pub bit-split : (a b : Bool) → bit (a && b) + bit (a && not b) ≡ bit a
+bit-split true true = refl
+bit-split true false = refl
+bit-split false b = refl
+
 pub bit-one : (b : Bool) → bit b ≤ 1
 bit-one true = omega arith
 bit-one false = omega arith
@@ -60,6 +65,12 @@ module _ {A : Type 0} where
       → howMany p xs + howMany q xs + howMany r xs ≡ length xs
   count-three p q r one [] = refl
   count-three p q r one (x ∷ xs) = omega (arith, count-cons p x xs, count-cons q x xs, count-cons r x xs, one x, count-three p q r one xs)
+
+  -- those with a second property, and those without it
+  pub count-split : (p q : A → Bool) (xs : List A) → howMany (λ x. p x && q x) xs + howMany (λ x. p x && not (q x)) xs ≡ howMany p xs
+  count-split p q [] = refl
+  count-split p q (x ∷ xs) =
+      omega (arith, count-cons (λ y. p y && q y) x xs, count-cons (λ y. p y && not (q y)) x xs, count-cons p x xs, bit-split (p x) (q x), count-split p q xs)
 
   -- no more than all
   pub count-most : (p : A → Bool) (xs : List A) → howMany p xs ≤ length xs
@@ -111,3 +122,7 @@ pub count-without : (p : ℕ → Bool) (j n : ℕ) → countBelow (λ k. p k && 
 count-without p j zero = rw (le-ltb j 0 (omega arith))
 count-without p j (suc n) =
     omega (arith, count-suc (λ k. p k && not (eqb k j)) n, count-suc p n, count-without p j n, without-turn p j n)
+
+-- K alone: one, if it is below n and has the property
+pub count-only : (p : ℕ → Bool) (K n : ℕ) → countBelow (λ k. p k && eqb k K) n ≡ bit (ltb K n && p K)
+count-only p K n = omega (arith, count-split p (λ k. eqb k K) (tab n (λ k. k)), count-without p K n)

@@ -4,18 +4,19 @@ use mathlib.Core.Path.{_≡_, refl, sym, ap, ap₂, _∙_}
 use mathlib.Core.Bool.{Bool, true, false, cond, not, _&&_}
 use mathlib.Core.List.{List, [], _∷_}
 use mathlib.Core.Logic.{⊎-elim}
-use Prim.Native.Nat.{ℕ, zero, suc, _+_}
+use Prim.Native.Nat.{ℕ, zero, suc, _+_, _<_}
 use native.Mathlib.Omega.{arith}
-use lib.Dec.{eqb}
+use lib.Dec.{eqb, ltb}
 use lib.ListN.{length}
 use borrow.Author.Tests.{eqb-true, eqb-false, eq-eqb, ne-eqb}
 use Rattle.standard.specs.Grid.{tab}
 use Rattle.standard.proofs.Tests.{either}
-use Rattle.manifest.specs.Records.{recordCount, axisAt, without, distinct, axesOf, firstBelow, recordFor}
+use Rattle.manifest.specs.Records.{recordCount, axisAt, without, distinct, axesOf, firstBelow, recordFor, isListed}
 use Rattle.manifest.specs.Tables.{tablesIn}
 use Rattle.manifest.specs.Counts.{howMany, isTold, listed, untold}
 use Rattle.manifest.specs.Progress.{bit, countsAt}
-use Rattle.manifest.proofs.Counting.{and-yes, countBelow, count-cons, count-first, count-same, count-all}
+use Rattle.manifest.proofs.Counting.{and-yes, countBelow, count-cons, count-first, count-same, count-all, count-only}
+use Rattle.manifest.proofs.FirstRecord.{counting-record, listed-counts}
 
 -- without x, those are counted that are not x
 count-others : (q : ℕ → Bool) (x : ℕ) (xs : List ℕ) → howMany q (without x xs) ≡ howMany (λ a. not (eqb x a) && q a) xs
@@ -73,6 +74,15 @@ count-distinct (suc n) f q =
     ∙ count-same _ (λ k. firstAt (suc n) f (suc k) && q (f (suc k))) n (λ k h. first-behind n f q k))
     ∙ sym (count-first (λ k. firstAt (suc n) f k && q (f k)) n)
 
+-- the record that counts is there, and counts, exactly where an axis is listed
+found : (list : List ℕ) (axis : ℕ) → bit (ltb (recordFor list axis) (recordCount list) && countsAt list (recordFor list axis)) ≡ bit (isListed list axis)
+unfolding isListed
+found list axis =
+    ⊎-elim
+    (λ e. rw (listed-counts list axis e) (ap bit (and-yes (isListed list axis))))
+    (λ e. rw e)
+    (either (isListed list axis))
+
 module _ (list : List ℕ) where
   -- a property of axes, counted over the axes and over the records
   pub count-axes : (q : ℕ → Bool) → howMany q (axesOf list) ≡ countBelow (λ k. countsAt list k && q (axisAt list k)) (recordCount list)
@@ -87,3 +97,18 @@ module _ (list : List ℕ) where
   pub untold-records : (stream : List ℕ) → untold list stream ≡ countBelow (λ k. countsAt list k && not (isTold (tablesIn stream) (axisAt list k))) (recordCount list)
   unfolding untold
   untold-records stream = count-axes (λ axis. not (isTold (tablesIn stream) axis))
+
+  -- an axis that is listed stands in the row of axes once, and any other not at all
+  pub axes-once : (axis : ℕ) → howMany (eqb axis) (axesOf list) ≡ bit (isListed list axis)
+  axes-once axis =
+      count-axes (eqb axis)
+      ∙ count-same _ (λ k. countsAt list k && eqb k (recordFor list axis)) (recordCount list) (λ k h. same-there k h)
+      ∙ count-only (countsAt list) (recordFor list axis) (recordCount list)
+      ∙ found list axis
+    where
+      both : (a b c : Bool) → (a ≡ true → b ≡ c) → (a && b) ≡ (a && c)
+      both true b c e = e refl
+      both false b c e = refl
+
+      same-there : (k : ℕ) → k < recordCount list → (countsAt list k && eqb axis (axisAt list k)) ≡ (countsAt list k && eqb k (recordFor list axis))
+      same-there k h = both (countsAt list k) (eqb axis (axisAt list k)) (eqb k (recordFor list axis)) (counting-record list axis k h)

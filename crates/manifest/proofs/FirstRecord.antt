@@ -37,6 +37,11 @@ record-listed list k h =
     lt-ltb (recordFor list axis) (recordCount list)
     (omega (arith, first-least (recordCount list) (λ j. eqb (axisAt list j) axis) k h (eq-eqb axis axis refl)))
 
+-- the record that counts for an axis is the first: none with its number stands before it
+pub record-first : (list : List ℕ) (axis k : ℕ) → k < recordCount list → axisAt list k ≡ axis → recordFor list axis ≤ k
+unfolding recordFor
+record-first list axis k h e = first-least (recordCount list) (λ j. eqb (axisAt list j) axis) k h (eq-eqb (axisAt list k) axis e)
+
 -- where an axis is listed, the record that counts for it has its number
 pub record-axis : (list : List ℕ) (axis : ℕ) → recordFor list axis < recordCount list → axisAt list (recordFor list axis) ≡ axis
 unfolding recordFor

@@ -1,28 +1,31 @@
 -- For every manifest that passes and every cutting of a stream into pieces, the counts of the report are those defined from the manifest's bytes and the stream's.
 -- Assumes nothing.
 use mathlib.Core.Path.{_≡_, refl, sym, ap, _∙_}
-use mathlib.Core.Bool.{Bool, true, false, cond}
+use mathlib.Core.Bool.{Bool, true, false, cond, _&&_}
 use mathlib.Core.List.{List, [], _∷_, _++_, foldl, foldl-append, append-assoc, append-nil}
 use mathlib.Core.Logic.{⊎-elim}
 use Prim.Native.Nat.{ℕ, zero, suc, _+_, _≤_, _<_}
 use native.Mathlib.Omega.{arith}
+use lib.Dec.{ltb}
 use lib.ListN.{length, take, drop, length-append}
 use lib.Seq.{take-take}
 use borrow.Author.Tests.{lt-ltb}
 use Rattle.answers.specs.declared.Status.the-variants.{Done}
 use Rattle.answers.specs.Numbers.{bigEndian}
+use Rattle.answers.proofs.Statuses.{kept}
 use Rattle.standard.proofs.Tests.{either}
 use Rattle.hasher.specs.Pieces.{joined, withByte}
 use Rattle.hasher.specs.Running.{started}
 use Rattle.manifest.specs.declared.tally.Tally.{Tally}
 use Rattle.manifest.specs.declared.report.Report.{Report}
-use Rattle.manifest.specs.Records.{manifestStatus, recordFor, isListed}
+use Rattle.manifest.specs.Records.{isManifest, manifestStatus, recordFor, isListed}
 use Rattle.manifest.specs.Tables.{Table, axisIn, spanOf, isWhole, firstTable, tablesUpTo, mostTables, tablesIn}
 use Rattle.manifest.specs.Counts.{agrees, tables, equal, unequal, unlisted, countsOf}
-use Rattle.manifest.specs.Progress.{unread, hashedUnder, onward, matches, withTable, settled, byteTaken, taken, fresh, begun, countsSoFar, reported}
+use Rattle.manifest.specs.Progress.{unread, hashedUnder, onward, isComplete, tallied, matches, withTable, settled, byteTaken, taken, fresh, empty, begun, countsSoFar, reported}
+use Rattle.manifest.proofs.Counting.{and-no}
 use Rattle.manifest.proofs.DistinctAxes.{untold-records}
 use Rattle.manifest.proofs.Sums.{told-add-up, tables-at-most, untold-at-most}
-use Rattle.manifest.proofs.StrideLaws.{full-stays}
+use Rattle.manifest.proofs.StrideLaws.{reportWith, full-stays}
 use Rattle.manifest.proofs.TableLaws.{nothing-whole, none-whole, contents-left, tables-behind, ends-exactly}
 use Rattle.manifest.proofs.ReadSoFar.{reading, pastHeader, complete-is-whole, whole-read}
 use Rattle.manifest.proofs.RecordLaws.{manifest-few, passing-manifest}
@@ -31,12 +34,29 @@ use Rattle.manifest.proofs.TallyOf.{tallyOf, tallied-all, unlisted-told
 
 -- the report of a row of tables, and of a next one of which these bytes were read
 abbrev reportOf : List ℕ → List Table → List ℕ → Report
-reportOf list ts s = record { tally = tallyOf list ts; current = reading list s }
+reportOf list ts s = reportWith true (tallyOf list ts) (reading list s)
 
 -- the axis that a header names
 header-axis : (s : List ℕ) → axisIn (take 6 s) ≡ axisIn s
 unfolding axisIn
 header-axis s = ap bigEndian (take-take 2 6 s (omega arith))
+
+-- a report of nothing takes nothing
+nothing-taken : (list p : List ℕ) → taken list empty p ≡ empty
+unfolding taken
+nothing-taken list p = rw (and-no (isManifest list))
+
+-- a byte leaves it so that the next is read
+passed-byte : (list : List ℕ) (r : Report) (b : ℕ) → r .passed ≡ true → byteTaken list r b .passed ≡ true
+unfolding byteTaken settled
+passed-byte list r b e = by (ltb (tallied (r .tally)) mostTables) (isComplete (onward list (r .current) b))
+  where
+    by : (t c : Bool) → cond t
+        (cond c (reportWith true (withTable list (r .tally) (onward list (r .current) b)) unread) (reportWith true (r .tally) (onward list (r .current) b))) r .passed
+        ≡ true
+    by true true = refl
+    by true false = refl
+    by false c = e
 
 module _ (list : List ℕ) (passes : manifestStatus list ≡ Done) where
   -- ---- a table's last byte
@@ -107,26 +127,31 @@ module _ (list : List ℕ) (passes : manifestStatus list ≡ Done) where
 
   -- ---- pieces
 
+  -- a report goes on after each byte
+  passed-on : (x : List ℕ) (r : Report) → r .passed ≡ true → foldl (byteTaken list) r x .passed ≡ true
+  passed-on [] r e = e
+  passed-on (b ∷ x) r e = passed-on x (byteTaken list r b) (passed-byte list r b e)
+
   -- each byte of each piece in turn is each byte of the stream
-  joined-bytes : (pieces : List (List ℕ)) (r : Report) → foldl (taken list) r pieces ≡ foldl (byteTaken list) r (joined pieces)
+  joined-bytes : (pieces : List (List ℕ)) (r : Report) → r .passed ≡ true → foldl (taken list) r pieces ≡ foldl (byteTaken list) r (joined pieces)
   unfolding taken joined
-  joined-bytes [] r = refl
-  joined-bytes (p ∷ ps) r =
-      ap (λ (t : Bool). foldl (taken list) (cond t (foldl (byteTaken list) r p) r) ps) (passing-manifest list passes)
-      ∙ joined-bytes ps (foldl (byteTaken list) r p)
+  joined-bytes [] r e = refl
+  joined-bytes (p ∷ ps) r e =
+      ap (λ (t : Bool). foldl (taken list) (cond t (foldl (byteTaken list) r p) r) ps) {x = isManifest list && r .passed} {y = true} (rw (passing-manifest list passes) e)
+      ∙ joined-bytes ps (foldl (byteTaken list) r p) (passed-on p r e)
       ∙ sym (foldl-append (byteTaken list) r p (joined ps))
 
   -- the beginning is the report of no tables
   from-the-start : begun list .report ≡ reportOf list [] []
   unfolding begun fresh
-  from-the-start = rw passes (ap (λ (y : Tally). record { tally = y; current = unread }) (none-told list))
+  from-the-start = rw passes (ap (λ (y : Tally). reportWith true y unread) (none-told list))
 
   -- the tally that the pieces lead to
   reported-tally : (pieces : List (List ℕ)) → reported list pieces .tally ≡ tallyOf list (tablesIn (joined pieces))
   unfolding reported tablesIn
   reported-tally pieces =
       ap (λ (r : Report). foldl (taken list) r pieces .tally) from-the-start
-      ∙ ap (λ (r : Report). r .tally) (joined-bytes pieces (reportOf list [] []))
+      ∙ ap (λ (r : Report). r .tally) (joined-bytes pieces (reportOf list [] []) refl)
       ∙ read-on (joined pieces) mostTables [] [] (omega arith) nothing-whole
 
   -- For every manifest that passes and every list of pieces: a report that is begun with the manifest and given each piece in turn comes to the
@@ -149,6 +174,15 @@ module _ (list : List ℕ) (passes : manifestStatus list ≡ Done) where
   -- Where the stream is cut makes no difference.
   pub cut-anywhere : (xs ys : List (List ℕ)) → joined xs ≡ joined ys → countsSoFar (reported list xs) ≡ countsSoFar (reported list ys)
   cut-anywhere xs ys e = in-pieces xs ∙ ap (countsOf list) e ∙ sym (in-pieces ys)
+
+-- After a beginning that was refused nothing is counted: the report stays that of nothing.
+pub nothing-counted : (list : List ℕ) → (manifestStatus list ≡ Done → ⊥) → (pieces : List (List ℕ)) → reported list pieces ≡ empty
+unfolding reported begun
+nothing-counted list n pieces = ap (λ (r : Report). foldl (taken list) r pieces) (kept (manifestStatus list) (fresh list) empty n) ∙ stays pieces
+  where
+    stays : (ps : List (List ℕ)) → foldl (taken list) empty ps ≡ empty
+    stays [] = refl
+    stays (p ∷ ps) = ap (λ (r : Report). foldl (taken list) r ps) (nothing-taken list p) ∙ stays ps
 
 -- A report can be begun with exactly the manifests that pass.
 pub begun-status : (list : List ℕ) → begun list .status ≡ manifestStatus list

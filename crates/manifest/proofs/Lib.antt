@@ -4,9 +4,9 @@ pub mod CompareLaws
 pub mod Counting
 pub mod AwaitedLaws
 pub mod StrideLaws
-pub mod DistinctAxes
 pub mod Sums
 pub mod FirstRecord
+pub mod DistinctAxes
 pub mod TableLaws
 pub mod ReadSoFar
 pub mod Verdicts

@@ -1,6 +1,7 @@
 -- A stride of the stream taken at once is its bytes taken one by one.
 -- Assumes nothing.
 use mathlib.Core.Path.{_≡_, refl, sym, ap, _∙_}
+use mathlib.Core.Bool.{Bool, true}
 use mathlib.Core.List.{List, [], _∷_, foldl, foldl-append}
 use mathlib.Core.Logic.{_⊎_, inl, inr}
 use Prim.Native.Nat.{ℕ, zero, suc, _+_, _-_, _≤_, _<_}
@@ -29,6 +30,10 @@ partOf piece i n = take (i + n - i) (drop i piece)
 pub part-length : (piece : List ℕ) (i n : ℕ) → i + n ≤ length piece → length (partOf piece i n) ≡ n
 part-length piece i n h = length-take-le (i + n - i) (drop i piece) (omega (arith, length-drop i piece)) ∙ omega arith
 
+-- a report of these parts
+abbrev pub reportWith : Bool → Tally → Current → Report
+reportWith p y c = record { passed = p; tally = y; current = c }
+
 module _ (list : List ℕ) where
   -- a byte of the header
   pub onward-header : (c : Current) (part : List ℕ) → Stride c (length part) → c .got < 6 → foldl (onward list) c part ≡ headed list c (getD part 0 0)
@@ -48,33 +53,33 @@ module _ (list : List ℕ) where
 
   module _ (y : Tally) (few : tallied y < mostTables) where
     -- one byte
-    one-byte : (c : Current) (b : ℕ) → byteTaken list (record { tally = y; current = c }) b ≡ settled list y (onward list c b)
+    one-byte : (p : Bool) (c : Current) (b : ℕ) → byteTaken list (reportWith p y c) b ≡ settled list y (onward list c b)
     unfolding byteTaken
-    one-byte c b = rw (lt-ltb (tallied y) mostTables few)
+    one-byte p c b = rw (lt-ltb (tallied y) mostTables few)
 
     -- a byte inside the contents ends no table
-    inside-byte : (c : Current) (b : ℕ) → 6 ≤ c .got → 1 < c .left
-        → byteTaken list (record { tally = y; current = c }) b ≡ record { tally = y; current = grown c b }
+    inside-byte : (p : Bool) (c : Current) (b : ℕ) → 6 ≤ c .got → 1 < c .left
+        → byteTaken list (reportWith p y c) b ≡ reportWith true y (grown c b)
     unfolding settled onward isComplete grown
-    inside-byte c b h l = one-byte c b ∙ rw (le-ltb (c .got) 6 h, le-leb 6 (c .got) h, ne-eqb (c .left - 1) 0 (λ e. omega arith))
+    inside-byte p c b h l = one-byte p c b ∙ rw (le-ltb (c .got) 6 h, le-leb 6 (c .got) h, ne-eqb (c .left - 1) 0 (λ e. omega arith))
 
     -- so bytes of the contents end one by their last alone
-    inside : (part : List ℕ) (c : Current) (b : ℕ) → 6 ≤ c .got → suc (length part) ≤ c .left
-        → foldl (byteTaken list) (record { tally = y; current = c }) (b ∷ part) ≡ settled list y (foldl (onward list) c (b ∷ part))
+    inside : (part : List ℕ) (p : Bool) (c : Current) (b : ℕ) → 6 ≤ c .got → suc (length part) ≤ c .left
+        → foldl (byteTaken list) (reportWith p y c) (b ∷ part) ≡ settled list y (foldl (onward list) c (b ∷ part))
     unfolding onward grown
-    inside [] c b h l = one-byte c b
-    inside (d ∷ part) c b h l =
-        ap (λ (r : Report). foldl (byteTaken list) r (d ∷ part)) (inside-byte c b h (omega arith))
-        ∙ inside part (grown c b) d h (omega arith)
+    inside [] p c b h l = one-byte p c b
+    inside (d ∷ part) p c b h l =
+        ap (λ (r : Report). foldl (byteTaken list) r (d ∷ part)) (inside-byte p c b h (omega arith))
+        ∙ inside part true (grown c b) d h (omega arith)
         ∙ ap (λ (e : Current). settled list y (foldl (onward list) e (d ∷ part))) {x = grown c b} {y = onward list c b} (rw (le-ltb (c .got) 6 h))
 
     -- a stride
-    pub stride-settled : (c : Current) (part : List ℕ) → Stride c (length part)
-        → foldl (byteTaken list) (record { tally = y; current = c }) part ≡ settled list y (foldl (onward list) c part)
-    stride-settled c [] s = absurd (omega (arith, s .some))
-    stride-settled c (b ∷ []) s = one-byte c b
-    stride-settled c (b ∷ d ∷ part) s =
-        inside (d ∷ part) c b (contents (lt-or-le (c .got) 6)) (s .inside (omega arith))
+    pub stride-settled : (p : Bool) (c : Current) (part : List ℕ) → Stride c (length part)
+        → foldl (byteTaken list) (reportWith p y c) part ≡ settled list y (foldl (onward list) c part)
+    stride-settled p c [] s = absurd (omega (arith, s .some))
+    stride-settled p c (b ∷ []) s = one-byte p c b
+    stride-settled p c (b ∷ d ∷ part) s =
+        inside (d ∷ part) p c b (contents (lt-or-le (c .got) 6)) (s .inside (omega arith))
       where
         contents : (c .got < 6) ⊎ (6 ≤ c .got) → 6 ≤ c .got
         contents (inl l) = absurd (omega (arith, s .header l))

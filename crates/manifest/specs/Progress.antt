@@ -1,7 +1,7 @@
 -- A report in progress: what each byte of the stream makes of it, for the contracts. What a report comes to is defined in Counts, from the bytes alone, and
 -- the theorem in-pieces shows that the two agree. Total: a report that no stream leads to has its next one too.
 -- Assumes nothing.
-use mathlib.Core.Bool.{Bool, false, cond, not, _&&_}
+use mathlib.Core.Bool.{Bool, true, false, cond, not, _&&_}
 use mathlib.Core.List.{List, [], _∷_, foldl}
 use Prim.Native.Nat.{ℕ, _+_, _-_}
 use lib.Dec.{eqb, ltb, leb}
@@ -9,6 +9,7 @@ use lib.ListN.{length, replicate, getD, set}
 use Rattle.answers.specs.declared.Status.{Status}
 use Rattle.answers.specs.Outputs.{whenDone, most}
 use Rattle.standard.specs.Grid.{tab}
+use Rattle.sponge.specs.Layout.{digestRoom}
 use Rattle.hasher.specs.declared.Hasher.{Hasher}
 use Rattle.hasher.specs.declared.Wanted.the-variants.{Digest}
 use Rattle.hasher.specs.Running.{blank, started, finished}
@@ -19,15 +20,15 @@ use Rattle.manifest.specs.declared.current.Current.{Current}
 use Rattle.manifest.specs.declared.report.Report.{Report}
 use Rattle.manifest.specs.declared.report.Beginning.{Beginning}
 use Rattle.manifest.specs.declared.report.Summary.{Summary}
-use Rattle.manifest.specs.Records.{isManifest, recordCount, axisAt, variantAt, filledAt, manifestStatus, recordFor, isListed}
-use Rattle.manifest.specs.Tables.{axisIn, lengthIn, mostTables}
+use Rattle.manifest.specs.Records.{mostRecords, isManifest, recordCount, axisAt, variantAt, filledAt, manifestStatus, recordFor, isListed}
+use Rattle.manifest.specs.Tables.{headerBytes, axisIn, lengthIn, mostTables}
 use Rattle.manifest.specs.Counts.{same, listed}
 
 -- ---- the table that is being read
 
 -- none yet
 abbrev pub unread : Current
-unread = record { header = replicate 6 0; got = 0; left = 0; hasher = blank 0 }
+unread = record { header = replicate headerBytes 0; got = 0; left = 0; hasher = blank 0 }
 
 -- the variant under which a table is hashed: that of the record that counts; 0, under which nothing is, where the axis is not listed or the table past the limit
 unfoldable pub hashedUnder : List ℕ → ℕ → ℕ → ℕ
@@ -36,12 +37,12 @@ hashedUnder list axis n = cond (isListed list axis && leb n most) (variantAt lis
 -- its header is there, and the contents are to come
 unfoldable pub opened : List ℕ → List ℕ → Current
 opened list header =
-    record { header = header; got = 6; left = lengthIn header; hasher = started (hashedUnder list (axisIn header) (lengthIn header)) .hasher }
+    record { header = header; got = headerBytes; left = lengthIn header; hasher = started (hashedUnder list (axisIn header) (lengthIn header)) .hasher }
 
 -- a byte of the header
 unfoldable pub headed : List ℕ → Current → ℕ → Current
 headed list c b =
-    cond (ltb (c .got) 5)
+    cond (ltb (c .got + 1) headerBytes)
     (record { header = set (c .header) (c .got) b; got = c .got + 1; left = c .left; hasher = c .hasher })
     (opened list (set (c .header) (c .got) b))
 
@@ -50,11 +51,11 @@ unfoldable pub grown : Current → ℕ → Current
 grown c b = record { header = c .header; got = c .got; left = c .left - 1; hasher = withByte (c .hasher) b }
 
 unfoldable pub onward : List ℕ → Current → ℕ → Current
-onward list c b = cond (ltb (c .got) 6) (headed list c b) (grown c b)
+onward list c b = cond (ltb (c .got) headerBytes) (headed list c b) (grown c b)
 
 -- its last byte was read
 unfoldable pub isComplete : Current → Bool
-isComplete c = leb 6 (c .got) && eqb (c .left) 0
+isComplete c = leb headerBytes (c .got) && eqb (c .left) 0
 
 -- ---- the tally of the tables read
 
@@ -66,10 +67,10 @@ bit b = cond b 1 0
 abbrev pub tallied : Tally → ℕ
 tallied y = y .equal + y .unequal + y .unlisted
 
--- a running hash ends in the digest of record k
+-- a running hash can be closed and read, and its digest with zeros behind it is what record k holds
 unfoldable pub matches : List ℕ → ℕ → Hasher → Bool
 matches list k h =
-    whenDone (readStatus (finished h .hasher) Digest 32) (same (readInto (finished h .hasher) Digest (replicate 32 0)) (filledAt list k)) false
+    whenDone (readStatus (finished h .hasher) Digest digestRoom) (same (readInto (finished h .hasher) Digest (replicate digestRoom 0)) (filledAt list k)) false
 
 -- a table of record k: its axis is no longer awaited
 unfoldable pub withListed : Tally → ℕ → Bool → Tally
@@ -99,15 +100,16 @@ withTable list y c =
 
 -- the table goes into the tally once it is over
 unfoldable pub settled : List ℕ → Tally → Current → Report
-settled list y c = cond (isComplete c) (record { tally = withTable list y c; current = unread }) (record { tally = y; current = c })
+settled list y c =
+    cond (isComplete c) (record { passed = true; tally = withTable list y c; current = unread }) (record { passed = true; tally = y; current = c })
 
 -- a byte of the stream; none is looked at behind the last table
 unfoldable pub byteTaken : List ℕ → Report → ℕ → Report
 byteTaken list r b = cond (ltb (tallied (r .tally)) mostTables) (settled list (r .tally) (onward list (r .current) b)) r
 
--- each byte of a piece in turn; with what is no manifest nothing is read
+-- each byte of a piece in turn; with what is no manifest, and after a beginning that was refused, nothing is read
 unfoldable pub taken : List ℕ → Report → List ℕ → Report
-taken list r piece = cond (isManifest list) (foldl (byteTaken list) r piece) r
+taken list r piece = cond (isManifest list && r .passed) (foldl (byteTaken list) r piece) r
 
 -- record k counts for its own axis
 unfoldable pub countsAt : List ℕ → ℕ → Bool
@@ -115,19 +117,21 @@ countsAt list k = eqb (recordFor list (axisAt list k)) k
 
 -- every axis awaited, by the record that counts for it
 unfoldable pub awaitedAll : List ℕ → List ℕ
-awaitedAll list = tab 512 (λ k. bit (ltb k (recordCount list) && countsAt list k))
+awaitedAll list = tab mostRecords (λ k. bit (ltb k (recordCount list) && countsAt list k))
 
 -- no table read yet
 unfoldable pub fresh : List ℕ → Report
 fresh list =
     record {
+      passed = true;
       tally = record { listed = listed list; untold = listed list; equal = 0; unequal = 0; unlisted = 0; awaited = awaitedAll list };
       current = unread;
     }
 
 -- a report of nothing: what a refused manifest yields
 abbrev pub empty : Report
-empty = record { tally = record { listed = 0; untold = 0; equal = 0; unequal = 0; unlisted = 0; awaited = replicate 512 0 }; current = unread }
+empty =
+    record { passed = false; tally = record { listed = 0; untold = 0; equal = 0; unequal = 0; unlisted = 0; awaited = replicate mostRecords 0 }; current = unread }
 
 unfoldable pub begun : List ℕ → Beginning
 begun list = record { status = manifestStatus list; report = whenDone (manifestStatus list) (fresh list) empty }

@@ -11,24 +11,32 @@ use Rattle.answers.specs.Checks.{Check, unless, firstRefusal, each}
 use Rattle.answers.specs.Numbers.{bigEndian}
 use Rattle.standard.specs.Grid.{tab}
 use Rattle.standard.specs.Variants.{variant, known}
+use Rattle.sponge.specs.Layout.{digestRoom}
+
+-- the bytes of a record, and the most records
+abbrev pub recordBytes : ℕ
+recordBytes = 35
+
+abbrev pub mostRecords : ℕ
+mostRecords = 512
 
 -- 12 refuses what is not: whole records, and no more than 512 of them
 unfoldable pub isManifest : List ℕ → Bool
-isManifest list = eqb (length list % 35) 0 && leb (length list) (512 * 35)
+isManifest list = eqb (length list % recordBytes) 0 && leb (length list) (mostRecords * recordBytes)
 
 -- how many records a manifest has
 abbrev pub recordCount : List ℕ → ℕ
-recordCount list = length list / 35
+recordCount list = length list / recordBytes
 
--- record k: two bytes of axis number, one of variant, and 32 of the digest and the filler behind it
+-- record k: two bytes of axis number, one of variant, and room for a digest, with the filler behind it
 abbrev pub axisAt : List ℕ → ℕ → ℕ
-axisAt list k = bigEndian (take 2 (drop (35 * k) list))
+axisAt list k = bigEndian (take 2 (drop (recordBytes * k) list))
 
 abbrev pub variantAt : List ℕ → ℕ → ℕ
-variantAt list k = getD list (35 * k + 2) 0
+variantAt list k = getD list (recordBytes * k + 2) 0
 
 abbrev pub filledAt : List ℕ → ℕ → List ℕ
-filledAt list k = take 32 (drop (35 * k + 3) list)
+filledAt list k = take digestRoom (drop (recordBytes * k + 3) list)
 
 -- the digest's bytes under a variant, of which a digest has n bits
 abbrev pub digestBytes : ℕ → ℕ

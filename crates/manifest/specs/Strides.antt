@@ -4,9 +4,10 @@ use mathlib.Core.Path.{_≡_}
 use Prim.Native.Nat.{ℕ, _+_, _≤_, _<_}
 use Rattle.answers.specs.Outputs.{most}
 use Rattle.manifest.specs.declared.current.Current.{Current}
+use Rattle.manifest.specs.Tables.{headerBytes}
 
 pub record Stride (c : Current) (n : ℕ) : Type 0 where
   pub some : 1 ≤ n
-  pub header : c .got < 6 → n ≡ 1
+  pub header : c .got < headerBytes → n ≡ 1
   pub inside : 1 < n → n ≤ c .left
   pub room : c .hasher .total < most → c .hasher .total + n ≤ most

@@ -12,6 +12,10 @@ pub record Table : Type 0 where
   pub axis : ℕ
   pub contents : List ℕ
 
+-- the bytes of axis and length
+abbrev pub headerBytes : ℕ
+headerBytes = 6
+
 -- the axis and the length that stand at the front of a stream
 unfoldable pub axisIn : List ℕ → ℕ
 axisIn stream = bigEndian (take 2 stream)
@@ -21,14 +25,14 @@ lengthIn stream = bigEndian (take 4 (drop 2 stream))
 
 -- the bytes from the front of a stream to the end of its first table
 abbrev pub spanOf : List ℕ → ℕ
-spanOf stream = 6 + lengthIn stream
+spanOf stream = headerBytes + lengthIn stream
 
 -- that table is there to its end: one cut short, in its contents or before them, is none
 unfoldable pub isWhole : List ℕ → Bool
 isWhole stream = leb (spanOf stream) (length stream)
 
 unfoldable pub firstTable : List ℕ → Table
-firstTable stream = record { axis = axisIn stream; contents = take (lengthIn stream) (drop 6 stream) }
+firstTable stream = record { axis = axisIn stream; contents = take (lengthIn stream) (drop headerBytes stream) }
 
 -- the tables of a stream, n at most
 abbrev pub tablesUpTo : ℕ → List ℕ → List Table

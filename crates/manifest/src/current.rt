@@ -5,7 +5,7 @@ ghost use Prim.Native.Nat.{_+_, _-_, _≤_, _<_};
 ghost use lib.ListN.{length};
 ghost use Rattle.answers.specs.Outputs.{most};
 ghost use Rattle.hasher.specs.Pieces.{withByte};
-ghost use Rattle.manifest.specs.Tables.{axisIn, lengthIn};
+ghost use Rattle.manifest.specs.Tables.{headerBytes, axisIn, lengthIn};
 ghost use Rattle.manifest.specs.Progress.{unread, hashedUnder, opened, headed, onward, isComplete};
 ghost use Rattle.manifest.specs.Strides.{Stride};
 use crate::records;
@@ -82,12 +82,12 @@ fn opened(list: &[u8], header: [u8; HEADER_BYTES]) -> Current
 
 // One byte more of the header.
 fn headed(list: &[u8], c: Current, b: u8) -> Current
-    requires { ⌜ c .got < 6 ⌝ }
+    requires { ⌜ c .got < headerBytes ⌝ }
     ensures { λ r. ⌜ r ≡ headed (now (list .entry)) c b ⌝ }
 {
     let mut header = c.header;
     header[c.got as usize] = b;
-    if (c.got as usize) < HEADER_BYTES - 1 {
+    if (c.got as usize) + 1 < HEADER_BYTES {
         let h = c.hasher;
         return Current {
             header: header,
@@ -131,8 +131,8 @@ pub fn stride(c: Current, available: usize) -> usize
     least(least(available, c.left as usize), room(c.hasher.total))
 }
 
-// What is left of a when b is taken away.
-pub fn less(a: u32, b: u32) -> u32
+// What is left of a when b is taken away, and 0 where b is more.
+pub fn minus(a: u32, b: u32) -> u32
     ensures { λ r. ⌜ r ≡ a - b ⌝ }
 {
     if a < b { 0 } else { a - b }
@@ -161,7 +161,7 @@ pub fn onward(list: &[u8], c: Current, part: &[u8]) -> Current
     Current {
         header: header,
         got: c.got,
-        left: less(c.left, part.len() as u32),
+        left: minus(c.left, part.len() as u32),
         hasher: h,
     }
 }

@@ -7,6 +7,7 @@ ghost use Rattle.answers.specs.Checks.{firstRefusal};
 ghost use Rattle.manifest.specs.Records.{isManifest, recordCount, axisAt, variantAt, filledAt, zeros, recordChecks, manifestStatus, recordFor};
 use answers::Refusal;
 use answers::Status;
+use sponge::DIGEST_BYTES;
 
 // A record: two bytes of axis number, one of variant, and 32 of the digest and the filler behind it.
 pub const RECORD_BYTES: usize = 35;
@@ -40,7 +41,7 @@ pub fn filled_at<'a>(list: &'a [u8], k: usize) -> &'a [u8]
     ensures { λ r. ⌜ now r ≡ filledAt (now (list .entry)) k ⌝ }
 {
     let a = RECORD_BYTES * k + 3;
-    &list[a..a + 32]
+    &list[a..a + DIGEST_BYTES]
 }
 
 // Whether every byte from `from` on is zero.
@@ -97,12 +98,14 @@ pub fn record_for(list: &[u8], axis: u16) -> usize
     ensures { λ r. ⌜ (r ≡ recordFor (now (list .entry)) axis) × (r ≤ recordCount (now (list .entry))) ⌝ }
 {
     let n = list.len() / RECORD_BYTES;
-    let mut k = 0;
-    while k < n {
+    let mut left = n;
+    while 0 < left {
+        // From the first on.
+        let k = n - left;
         if axis_at(list, k) == axis {
             return k;
         }
-        k += 1;
+        left -= 1;
     }
     n
 }

@@ -20,8 +20,9 @@ use answers::Status;
 // The most tables that a report looks at.
 pub const MOST_TABLES: u32 = 65535;
 
-// A report in progress.
+// A report in progress. Where the manifest was refused at its beginning, it takes nothing.
 pub struct Report {
+    pub passed: bool,
     pub tally: Tally,
     pub current: Current,
 }
@@ -49,6 +50,7 @@ fn fresh(list: &[u8]) -> Report
 {
     let n = tally::listed(list);
     Report {
+        passed: true,
         tally: Tally {
             listed: n,
             untold: n,
@@ -75,6 +77,7 @@ pub fn begun(list: &[u8]) -> Beginning
     Beginning {
         status: status,
         report: Report {
+            passed: false,
             tally: Tally {
                 listed: 0,
                 untold: 0,
@@ -96,11 +99,13 @@ fn settled(list: &[u8], y: Tally, c: Current) -> Report
 {
     if current::is_complete(c) {
         return Report {
+            passed: true,
             tally: tally::with_table(list, y, c),
             current: current::unread(),
         };
     }
     Report {
+        passed: true,
         tally: y,
         current: c,
     }
@@ -120,18 +125,21 @@ fn stepped(list: &[u8], r: Report, part: &[u8]) -> Report
 pub fn taken(list: &[u8], report: Report, piece: &[u8]) -> Report
     ensures { λ r. ⌜ r ≡ Progress·taken (now (list .entry)) report (now (piece .entry)) ⌝ }
 {
-    let mut now = report;
+    let mut latest = report;
     if !records::is_manifest(list) {
-        return now;
+        return latest;
+    }
+    if !report.passed {
+        return latest;
     }
     let mut i = 0;
-    while i < piece.len() && tally::tallied(now.tally) < MOST_TABLES {
-        let n = current::stride(now.current, piece.len() - i);
-        let next = stepped(list, now, &piece[i..i + n]);
-        now = next;
+    while i < piece.len() && tally::tallied(latest.tally) < MOST_TABLES {
+        let n = current::stride(latest.current, piece.len() - i);
+        let next = stepped(list, latest, &piece[i..i + n]);
+        latest = next;
         i += n;
     }
-    now
+    latest
 }
 
 // The counts that a report has come to.

@@ -3,18 +3,19 @@ ghost use mathlib.Core.Path.{_≡_};
 ghost use mathlib.Core.Bool.{true};
 ghost use Prim.Native.Nat.{_≤_, _<_};
 ghost use lib.ListN.{length};
-ghost use Rattle.manifest.specs.Records.{isManifest, recordCount};
+ghost use Rattle.manifest.specs.Records.{mostRecords, isManifest, recordCount};
 ghost use Rattle.manifest.specs.Tables.{mostTables};
 ghost use Rattle.manifest.specs.Counts.{same, listed};
 ghost use Rattle.manifest.specs.Progress.{bit, tallied, matches, withListed, withUnlisted, withTable, countsAt, awaitedAll};
 use crate::current::Current;
 use crate::current::axis_in;
-use crate::current::less;
+use crate::current::minus;
 use crate::records;
 use crate::records::MOST_RECORDS;
 use crate::records::RECORD_BYTES;
 use answers::Status;
 use hasher::Hasher;
+use sponge::DIGEST_BYTES;
 
 // The tables read so far. Where record k counts for its axis and no table of that axis has come, awaited[k] is 1.
 pub struct Tally {
@@ -98,7 +99,7 @@ fn matches(list: &[u8], k: usize, h: Hasher) -> bool
     requires { ⌜ k < recordCount (now list) ⌝ }
     ensures { λ r. ⌜ r ≡ matches (now (list .entry)) k h ⌝ }
 {
-    let mut digest = [0u8; 32];
+    let mut digest = [0u8; DIGEST_BYTES];
     let ended = hasher::finish(h);
     let status = hasher::digest(ended.hasher, &mut digest);
     if let Status::Done = status {
@@ -109,18 +110,22 @@ fn matches(list: &[u8], k: usize, h: Hasher) -> bool
 
 // The tally with a table of record k. Its axis is awaited no longer, so that a second table of it leaves the untold ones as they are.
 fn with_listed(y: Tally, k: usize, agrees: bool) -> Tally
-    requires { ⌜ k < 512 ⌝ }
+    requires { ⌜ k < mostRecords ⌝ }
     requires { ⌜ tallied y < mostTables ⌝ }
     ensures { λ r. ⌜ r ≡ withListed y k agrees ⌝ }
 {
     let mut awaited = y.awaited;
     let due = awaited[k];
     awaited[k] = 0;
+    let untold = minus(y.untold as u32, due as u32) as u16;
+    let differs = !agrees;
+    let equal = y.equal + bit(agrees) as u16;
+    let unequal = y.unequal + bit(differs) as u16;
     Tally {
         listed: y.listed,
-        untold: less(y.untold as u32, due as u32) as u16,
-        equal: y.equal + bit(agrees) as u16,
-        unequal: y.unequal + bit(!agrees) as u16,
+        untold: untold,
+        equal: equal,
+        unequal: unequal,
         unlisted: y.unlisted,
         awaited: awaited,
     }

@@ -1,27 +1,21 @@
 -- Six lines, written one behind the other from the front on, are the report's.
 -- Assumes nothing.
-use mathlib.Core.Path.{_≡_, _∙_}
-use mathlib.Core.List.{List, _++_}
+use mathlib.Core.Path.{_≡_}
+use mathlib.Core.List.{List}
 use Prim.Native.Nat.{ℕ, _≤_}
-use native.Mathlib.Nat.{zero-add}
 use native.Mathlib.Omega.{arith}
-use lib.ListN.{length, drop}
+use lib.ListN.{length}
 use Rattle.answers.specs.Outputs.{writtenAt}
 use Rattle.answers.specs.Lines.{lineOf}
 use Rattle.answers.proofs.LineLaws.{Wrote, wrote-on}
 use Rattle.manifest.specs.declared.report.Summary.{Summary}
 use Rattle.report.specs.Lines.{linesOf, listedName, tablesName, equalName, unequalName, untoldName, unlistedName}
 
--- what is written from place 0 on stands over the front
-at-front : (bytes out : List ℕ) → writtenAt 0 bytes out ≡ bytes ++ drop (length bytes) out
-unfolding writtenAt
-at-front bytes out = rw zero-add
-
 pub lines-written : (s : Summary) (out : List ℕ) {o₁ o₂ o₃ o₄ o₅ o₆ : List ℕ} {p₁ p₂ p₃ p₄ p₅ p₆ : ℕ} → p₅ ≤ length out
     → Wrote 0 (lineOf listedName (s .listed)) out o₁ p₁ → Wrote p₁ (lineOf tablesName (s .tables)) o₁ o₂ p₂
     → Wrote p₂ (lineOf equalName (s .equal)) o₂ o₃ p₃ → Wrote p₃ (lineOf unequalName (s .unequal)) o₃ o₄ p₄
     → Wrote p₄ (lineOf untoldName (s .untold)) o₄ o₅ p₅ → Wrote p₅ (lineOf unlistedName (s .unlisted)) o₅ o₆ p₆
-    → (o₆ ≡ linesOf s ++ drop (length (linesOf s)) out) × (p₆ ≡ length (linesOf s))
+    → (o₆ ≡ writtenAt 0 (linesOf s) out) × (p₆ ≡ length (linesOf s))
 unfolding linesOf
 lines-written s out h w₁ w₂ w₃ w₄ w₅ w₆ =
     let two = wrote-on 0 _ _ out (omega (arith, w₂ .1, w₃ .1, w₄ .1, w₅ .1)) w₁ w₂ in
@@ -29,4 +23,4 @@ lines-written s out h w₁ w₂ w₃ w₄ w₅ w₆ =
     let four = wrote-on 0 _ _ out (omega (arith, w₄ .1, w₅ .1)) three w₄ in
     let five = wrote-on 0 _ _ out (omega (arith, w₅ .1)) four w₅ in
     let six = wrote-on 0 _ _ out h five w₆ in
-    (six .0 ∙ at-front _ out, omega (arith, six .1))
+    (six .0, omega (arith, six .1))

@@ -51,6 +51,7 @@ fn feed_all(list: &[u8], report: Report) -> Fed {
 }
 
 fn show_refusal(r: Refusal) {
+    // Room for the name, a space, ten digits and a line end.
     let mut line = [0u8; 19];
     let n = write_line(b"refused", answers::number_of(r) as u32, &mut line, 0);
     io::write_all(STDOUT_FILENO, &line[0..n]);
@@ -85,7 +86,8 @@ fn report_on(list: &[u8]) {
     }
 }
 
-// Whether the file has nothing more. A read that fails does not say so.
+// Whether the file has nothing more. A read that fails takes no byte and does not say so: the next one goes on where it stood, and so this tells
+// whether all was read, also where one failed before.
 fn is_at_end(fd: i32) -> bool {
     let mut past = [0u8; 1];
     libc::read(fd, &mut past) == 0

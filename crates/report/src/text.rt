@@ -1,8 +1,8 @@
 // The six lines of a report as text.
 ghost use mathlib.Core.Path.{_≡_};
-ghost use mathlib.Core.List.{_++_};
 ghost use Prim.Native.Nat.{_≤_};
-ghost use lib.ListN.{length, drop};
+ghost use lib.ListN.{length};
+ghost use Rattle.answers.specs.Outputs.{writtenAt};
 ghost use Rattle.report.specs.Lines.{linesOf};
 use answers::text::write_line;
 use manifest::Summary;
@@ -13,7 +13,7 @@ pub const MOST_BYTES: usize = 110;
 // The lines over the front of the output; how many bytes they have.
 pub fn write_summary(s: Summary, out: &mut [u8]) -> usize
     requires { ⌜ 110 ≤ length (now out) ⌝ }
-    ensures { λ r. ⌜ (now (out .exit) ≡ linesOf s ++ drop (length (linesOf s)) (now (out .entry))) × (r ≡ length (linesOf s)) × (r ≤ 110) ⌝ }
+    ensures { λ r. ⌜ (now (out .exit) ≡ writtenAt 0 (linesOf s) (now (out .entry))) × (r ≡ length (linesOf s)) × (r ≤ 110) ⌝ }
 {
     let listed = write_line(b"listed", s.listed, out, 0);
     let tables = write_line(b"tables", s.tables, out, listed);

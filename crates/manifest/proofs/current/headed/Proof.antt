@@ -8,11 +8,11 @@ use Rattle.manifest.proofs.current.headed.Tie as tie
 
 returns : tie.Need-returns
 unfolding headed
-returns c = rw (lt-ltb _ 5 (c .before .before .if1 .taken))
+returns c = rw (lt-ltb _ 6 (c .before .before .if1 .taken))
 
 returns-2 : tie.Need-returns-2
 unfolding headed
-returns-2 c = rw (le-ltb _ 5 (c .before .if1 .left), c .opened .ensures)
+returns-2 c = rw (le-ltb _ 6 (c .before .if1 .left), c .opened .ensures)
 
 pub headed-spec : {M : Type 1} → statement M
 headed-spec =

@@ -14,17 +14,17 @@ returns c =
     let s = c .before .before .before .before .before .before in
     c .headed .ensures ∙ sym (onward-header (s .args .list .now) (s .args .c) (s .args .part .now) (s .pre) (c .before .before .if1 .taken))
 
-cast-less : tie.Need-cast-less
-cast-less c =
+cast-minus : tie.Need-cast-minus
+cast-minus c =
     let s = c .before .before .before .before .before .before in
     ⊎-elim (λ l. omega (arith, s .pre .inside l)) (λ l. omega arith) (lt-or-le 1 (length (s .args .part .now)))
 
 returns-2 : tie.Need-returns-2
 returns-2 c =
     let s = c .before .before .before .before .before .before .before in
-    rw (c .less .ensures, c .before .with-bytes .ensures)
+    rw (c .minus .ensures, c .before .with-bytes .ensures)
     (sym (onward-bytes (s .args .list .now) (s .args .part .now) (s .args .c) (c .before .before .before .if1 .left)))
 
 pub onward-spec : {M : Type 1} → statement M
 onward-spec =
-    tie.close (tie.spec (λ c. search needs) (λ c. search needs) (λ c κs. search needs) returns (λ c κs. search needs) cast-less (λ c κs. search needs) returns-2)
+    tie.close (tie.spec (λ c. search needs) (λ c. search needs) (λ c κs. search needs) returns (λ c κs. search needs) cast-minus (λ c κs. search needs) returns-2)

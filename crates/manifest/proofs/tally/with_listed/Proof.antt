@@ -6,19 +6,19 @@ use Rattle.manifest.specs.Progress.{withListed}
 use Rattle.manifest.proofs.tally.with_listed.Statement.{statement}
 use Rattle.manifest.proofs.tally.with_listed.Tie as tie
 
-add-t16 : tie.Need-add-t16
-add-t16 c = omega (arith, c .before .bit .ensures)
+add-equal : tie.Need-add-equal
+add-equal c = search needs
 
-add-t20 : tie.Need-add-t20
-add-t20 c = omega (arith, c .before .bit2 .ensures)
+add-unequal : tie.Need-add-unequal
+add-unequal c = search needs
 
 returns : tie.Need-returns
 unfolding withListed
 returns c =
     let b = c .before .before in
-    rw (b .before .before .less .ensures, b .before .bit .ensures .0, c .before .bit2 .ensures .0)
+    rw (b .before .before .minus .ensures, b .before .bit .ensures .0, c .before .bit2 .ensures .0)
 
 pub with-listed-spec : {M : Type 1} → statement M
 with-listed-spec =
     tie.close (tie.spec (λ c. search needs) (λ c. search needs) (λ c. search needs) (λ c. search needs) (λ c κs. search needs) (λ c. search needs)
-    (λ c κs. search needs) (λ c. search needs) add-t16 (λ c κs. search needs) (λ c. search needs) add-t20 returns)
+    (λ c κs. search needs) (λ c. search needs) add-equal (λ c κs. search needs) (λ c. search needs) add-unequal returns)
