@@ -429,7 +429,7 @@ WICKSLATE_CALL uint32_t wickslate_digest_list(uint32_t variant, const uint8_t *l
  * A manifest says which table each axis of an installation should hold. Each
  * record has 35 bytes: an axis number of two bytes, the high byte first; a
  * variant of one; and the digest of the axis's table, filled to 32 bytes with
- * zeros. Records come in any order, and the first with a number counts.
+ * zeros. They may stand in any order; of several with one number the first is used.
  *
  * Tells whether a manifest is sound. The program `report` compares tables with
  * one that is.

@@ -15,7 +15,8 @@ has_input() {
     { : 3<&0; } 2>/dev/null
 }
 
-# Proves and builds the program unless that was done after the last change of a source.
+# Proves and builds the program unless that was done after the last change of a source. The stamp is as old as the beginning of the proof, so that
+# a source which changes meanwhile is proved next time.
 prepare() {
     local checked=$root/target/$name.checked log
     if [[ -x $program && -f $checked && -z $(find "$root/crates" "$root/crates.txt" -newer "$checked" -print -quit) ]]; then
@@ -23,9 +24,10 @@ prepare() {
     fi
     command -v rt >/dev/null || fail 2 "the program is not built yet, and the Rattle kit's command rt is not found"
     echo "$name: proving and building the program, which may take some minutes .." >&2
+    mkdir -p "$root/target" && touch "$checked.new" || fail 2 "$root/target cannot be written"
     if ! log=$(cd "$root" && rt check "$name" 2>&1 </dev/null); then
         printf '%s\n' "$log" >&2
         fail 2 "the program could not be proved and built"
     fi
-    touch "$checked"
+    mv "$checked.new" "$checked" || fail 2 "$root/target cannot be written"
 }

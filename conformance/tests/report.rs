@@ -731,3 +731,50 @@ fn the_script_explains_itself() {
         }
     }
 }
+
+/// The commands of README.md, and what it says that they print.
+#[test]
+fn the_example_of_the_readme() {
+    let place = folder("the example of the readme");
+    let root = root().canonicalize().expect("a folder");
+    for name in ["digest", "report"] {
+        symlink(root.join(name), place.join(name)).expect("a link");
+    }
+    let readme = fs::read_to_string(root.join("README.md")).expect("README.md");
+    let (_, section) = readme
+        .split_once("## The report of an installation")
+        .expect("its section");
+    let mut blocks = section
+        .split("\n\n")
+        .filter(|block| block.starts_with("    "))
+        .map(|block| {
+            let lines = block.lines().map(|line| format!("{}\n", line.trim_start()));
+            lines.collect::<String>()
+        });
+    let [commands, printed] = [(); 2].map(|()| blocks.next().expect("a block"));
+    let output = Command::new("bash")
+        .args(["-e", "-c", &commands])
+        .current_dir(&place)
+        .output()
+        .expect("an end");
+    assert_eq!(String::from_utf8_lossy(&output.stdout), printed);
+    assert!(output.status.success());
+}
+
+/// A list that comes from another program, through a pipe with a name.
+#[test]
+fn a_list_from_a_named_pipe() {
+    let place = Place::of_test("a list from a named pipe");
+    let path = place.0.join("rig");
+    let made = Command::new("mkfifo").arg(&path).status();
+    assert!(made.expect("mkfifo").success());
+    let stream = [table(7, HOLD), table(9, b"")].concat();
+    for list in [three(), vec![0; 34]] {
+        let expected = lines(&list, &stream);
+        let path = path.clone();
+        let writer = thread::spawn(move || fs::write(path, list).expect("a reader"));
+        let output = fed(place.bare(), vec![stream.clone()]);
+        writer.join().expect("no panic");
+        expect(&output, 0, &expected, "");
+    }
+}

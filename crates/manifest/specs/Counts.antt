@@ -44,7 +44,7 @@ isTold ts axis = ltb 0 (howMany (λ (t : Table). eqb (t .axis) axis) ts)
 
 -- ---- the counts
 
--- distinct axes
+-- the axes, each once
 unfoldable pub listed : List ℕ → ℕ
 listed list = length (axesOf list)
 
@@ -52,18 +52,18 @@ listed list = length (axesOf list)
 unfoldable pub tables : List ℕ → ℕ
 tables stream = length (tablesIn stream)
 
--- tables whose digest under the listed variant is the listed one, and other tables of a listed axis
+-- tables of a listed axis that agree with its record, and those that do not
 unfoldable pub equal : List ℕ → List ℕ → ℕ
 equal list stream = howMany (isEqual list) (tablesIn stream)
 
 unfoldable pub unequal : List ℕ → List ℕ → ℕ
 unequal list stream = howMany (isUnequal list) (tablesIn stream)
 
--- distinct listed axes with no table
+-- the axes, each once, of which no table came
 unfoldable pub untold : List ℕ → List ℕ → ℕ
 untold list stream = howMany (λ axis. not (isTold (tablesIn stream) axis)) (axesOf list)
 
--- tables of no listed axis
+-- tables whose axis has no record
 unfoldable pub unlisted : List ℕ → List ℕ → ℕ
 unlisted list stream = howMany (isUnlisted list) (tablesIn stream)
 
