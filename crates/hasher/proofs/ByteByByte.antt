@@ -1,7 +1,7 @@
 -- A piece taken at once is the piece taken a byte at a time, where the running hash takes all of it or nothing.
 -- Assumes nothing.
 use mathlib.Core.Path.{_≡_, refl, sym, ap, _∙_}
-use mathlib.Core.List.{List, [], _∷_, _++_, foldl}
+use mathlib.Core.List.{List, [], _∷_, foldl}
 use mathlib.Core.Logic.{⊎-elim}
 use Prim.Native.Nat.{ℕ, suc, _+_, _≤_, _<_}
 use native.Mathlib.Omega.{arith}
@@ -15,7 +15,7 @@ use Rattle.hasher.specs.declared.Advanced.{Advanced}
 use Rattle.hasher.specs.Running.{Open, updateChecks, updated}
 use Rattle.hasher.specs.Sized.{Sized}
 use Rattle.hasher.specs.Pieces.{withByte}
-use Rattle.hasher.proofs.Calls.{done, update-says, update-done, not-long}
+use Rattle.hasher.proofs.Calls.{update-says, update-done, not-long}
 use Rattle.hasher.proofs.Keeps.{update-unchanged}
 use Rattle.hasher.proofs.Next.{onward, onward-total, onward-open, onward-sized, onward-append}
 

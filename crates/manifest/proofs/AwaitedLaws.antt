@@ -4,13 +4,12 @@ use mathlib.Core.Path.{_≡_, sym, ap, _∙_}
 use mathlib.Core.Bool.{Bool, _&&_}
 use mathlib.Core.List.{List}
 use mathlib.Core.Logic.{⊎-elim}
-use Prim.Native.Nat.{ℕ, _≤_, _<_}
+use Prim.Native.Nat.{ℕ}
 use native.Mathlib.Omega.{arith}
 use lib.Dec.{ltb}
-use lib.ListN.{length, getD, replicate, getD-replicate}
+use lib.ListN.{getD, replicate, getD-replicate}
 use borrow.Author.Tests.{lt-ltb, le-ltb}
 use Rattle.arrays.proofs.Upto.{Upto}
-use Rattle.standard.specs.Grid.{tab}
 use Rattle.standard.proofs.Tab.{tab-self, tab-cong}
 use Rattle.standard.proofs.Tests.{lt-or-le}
 use Rattle.manifest.specs.Records.{recordCount}

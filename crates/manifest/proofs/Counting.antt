@@ -27,6 +27,11 @@ pub and-no : (b : Bool) → (b && false) ≡ false
 and-no true = refl
 and-no false = refl
 
+-- what has to be so only where the first condition holds
+pub and-where : (a b c : Bool) → (a ≡ true → b ≡ c) → (a && b) ≡ (a && c)
+and-where true b c e = e refl
+and-where false b c e = refl
+
 pub and-assoc : (a b c : Bool) → (a && (b && c)) ≡ (a && b && c)
 and-assoc true b c = refl
 and-assoc false b c = refl
@@ -40,16 +45,17 @@ pub bit-one : (b : Bool) → bit b ≤ 1
 bit-one true = omega arith
 bit-one false = omega arith
 
+-- one more where a condition holds
+pub add-bit : (b : Bool) (n : ℕ) → cond b (suc n) n ≡ bit b + n
+add-bit true n = omega arith
+add-bit false n = omega arith
+
 -- ---- any list
 
 module _ {A : Type 0} where
   -- one thing before the others
   pub count-cons : (p : A → Bool) (x : A) (xs : List A) → howMany p (x ∷ xs) ≡ bit (p x) + howMany p xs
-  count-cons p x xs = by (p x)
-    where
-      by : (b : Bool) → cond b (suc (howMany p xs)) (howMany p xs) ≡ bit b + howMany p xs
-      by true = omega arith
-      by false = omega arith
+  count-cons p x xs = add-bit (p x) (howMany p xs)
 
   -- two lists
   pub count-append : (p : A → Bool) (xs ys : List A) → howMany p (xs ++ ys) ≡ howMany p xs + howMany p ys

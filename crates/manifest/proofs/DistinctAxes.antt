@@ -1,13 +1,12 @@
 -- The axes of a manifest, each once, are those of the records that count: counting the ones is counting the others.
 -- Assumes nothing.
 use mathlib.Core.Path.{_≡_, refl, sym, ap, ap₂, _∙_}
-use mathlib.Core.Bool.{Bool, true, false, cond, not, _&&_}
+use mathlib.Core.Bool.{Bool, true, false, not, _&&_}
 use mathlib.Core.List.{List, [], _∷_}
 use mathlib.Core.Logic.{⊎-elim}
-use Prim.Native.Nat.{ℕ, zero, suc, _+_, _<_}
+use Prim.Native.Nat.{ℕ, zero, suc, _+_}
 use native.Mathlib.Omega.{arith}
 use lib.Dec.{eqb, ltb}
-use lib.ListN.{length}
 use borrow.Author.Tests.{eqb-true, eqb-false, eq-eqb, ne-eqb}
 use Rattle.standard.specs.Grid.{tab}
 use Rattle.standard.proofs.Tests.{either}
@@ -15,7 +14,7 @@ use Rattle.manifest.specs.Records.{recordCount, axisAt, without, distinc
 use Rattle.manifest.specs.Tables.{tablesIn}
 use Rattle.manifest.specs.Counts.{howMany, isTold, listed, untold}
 use Rattle.manifest.specs.Progress.{bit, countsAt}
-use Rattle.manifest.proofs.Counting.{and-yes, countBelow, count-cons, count-first, count-same, count-all, count-only}
+use Rattle.manifest.proofs.Counting.{and-yes, and-no, and-where, add-bit, countBelow, count-cons, count-first, count-same, count-all, count-only}
 use Rattle.manifest.proofs.FirstRecord.{counting-record, listed-counts}
 
 -- without x, those are counted that are not x
@@ -24,15 +23,8 @@ count-others q x [] = refl
 count-others q x (y ∷ ys) =
     ⊎-elim
     (λ (e : eqb x y ≡ true). rw e (count-others q x ys))
-    (λ (e : eqb x y ≡ false). rw e (count-cons q y (without x ys) ∙ ap (λ (n : ℕ). bit (q y) + n) (count-others q x ys) ∙ sym (by (q y))))
+    (λ (e : eqb x y ≡ false). rw e (count-cons q y (without x ys) ∙ ap (λ (n : ℕ). bit (q y) + n) (count-others q x ys) ∙ sym (add-bit (q y) (howMany (λ a. not (eqb x a) && q a) ys))))
     (either (eqb x y))
-  where
-    rest : ℕ
-    rest = howMany (λ a. not (eqb x a) && q a) ys
-
-    by : (b : Bool) → cond b (suc rest) rest ≡ bit b + rest
-    by true = omega arith
-    by false = omega arith
 
 -- the numbers of a row of n that f gives, each where it stands first
 abbrev firstAt : ℕ → (ℕ → ℕ) → ℕ → Bool
@@ -50,13 +42,9 @@ first-behind : (n : ℕ) (f : ℕ → ℕ) (q : ℕ → Bool) (k : ℕ)
     → (firstAt n (λ j. f (suc j)) k && (not (eqb (f 0) (f (suc k))) && q (f (suc k)))) ≡ (firstAt (suc n) f (suc k) && q (f (suc k)))
 first-behind n f q k =
     ⊎-elim
-    (λ (e : eqb (f 0) (f (suc k)) ≡ true). rw (e, ne-eqb 0 (suc k) (λ z. omega arith)) (none (firstAt n (λ j. f (suc j)) k)))
+    (λ (e : eqb (f 0) (f (suc k)) ≡ true). rw (e, ne-eqb 0 (suc k) (λ z. omega arith)) (and-no (firstAt n (λ j. f (suc j)) k)))
     (λ (e : eqb (f 0) (f (suc k)) ≡ false). rw (e, eqb-suc))
     (either (eqb (f 0) (f (suc k))))
-  where
-    none : (b : Bool) → (b && false) ≡ false
-    none true = refl
-    none false = refl
 
 -- and at the first place it does
 first-there : (n : ℕ) (f : ℕ → ℕ) (q : ℕ → Bool) → bit (q (f 0)) ≡ bit (firstAt (suc n) f 0 && q (f 0))
@@ -102,13 +90,7 @@ module _ (list : List ℕ) where
   pub axes-once : (axis : ℕ) → howMany (eqb axis) (axesOf list) ≡ bit (isListed list axis)
   axes-once axis =
       count-axes (eqb axis)
-      ∙ count-same _ (λ k. countsAt list k && eqb k (recordFor list axis)) (recordCount list) (λ k h. same-there k h)
+      ∙ count-same _ (λ k. countsAt list k && eqb k (recordFor list axis)) (recordCount list)
+      (λ k h. and-where (countsAt list k) (eqb axis (axisAt list k)) (eqb k (recordFor list axis)) (counting-record list axis k h))
       ∙ count-only (countsAt list) (recordFor list axis) (recordCount list)
       ∙ found list axis
-    where
-      both : (a b c : Bool) → (a ≡ true → b ≡ c) → (a && b) ≡ (a && c)
-      both true b c e = e refl
-      both false b c e = refl
-
-      same-there : (k : ℕ) → k < recordCount list → (countsAt list k && eqb axis (axisAt list k)) ≡ (countsAt list k && eqb k (recordFor list axis))
-      same-there k h = both (countsAt list k) (eqb axis (axisAt list k)) (eqb k (recordFor list axis)) (counting-record list axis k h)

@@ -17,7 +17,7 @@ use Rattle.manifest.specs.Records.{recordCount, axisAt, recordFor, isLis
 use Rattle.manifest.specs.Tables.{Table}
 use Rattle.manifest.specs.Counts.{howMany, agrees, isEqual, isUnequal, isUnlisted, isTold, listed}
 use Rattle.manifest.specs.Progress.{countsAt, bit, tallied, withListed, withUnlisted, awaitedAll, fresh}
-use Rattle.manifest.proofs.Counting.{and-yes, and-no, countBelow, count-snoc, count-same, count-without}
+use Rattle.manifest.proofs.Counting.{and-yes, and-no, and-where, and-assoc, countBelow, count-snoc, count-same, count-without}
 use Rattle.manifest.proofs.Sums.{each-counts-once}
 use Rattle.manifest.proofs.DistinctAxes.{listed-records}
 use Rattle.manifest.proofs.FirstRecord.{counting-record}
@@ -79,10 +79,8 @@ told-snoc ts t a =
     ap (λ (n : ℕ). not (ltb 0 n)) (count-snoc (λ (u : Table). eqb (u .axis) a) ts t)
     ∙ told-more (howMany (λ (u : Table). eqb (u .axis) a) ts) (eqb (t .axis) a)
 
--- what has to be so only where the first condition holds
 and-but : (c x y z : Bool) → (c ≡ true → y ≡ z) → (c && (x && not y)) ≡ (c && x && not z)
-and-but true x y z h = rw (h refl)
-and-but false x y z h = refl
+and-but c x y z h = and-where c (x && not y) (x && not z) (λ e. ap (λ (b : Bool). x && not b) (h e)) ∙ and-assoc c x (not z)
 
 -- one place of a row set
 set-tab : {A : Type 0} (n : ℕ) (f g : ℕ → A) (i : ℕ) (a : A) → g i ≡ a → ((k : ℕ) → (k ≡ i → ⊥) → g k ≡ f k) → set (tab n f) i a ≡ tab n g

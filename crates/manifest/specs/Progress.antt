@@ -2,11 +2,10 @@
 -- the theorem in-pieces shows that the two agree. Total: a report that no stream leads to has its next one too.
 -- Assumes nothing.
 use mathlib.Core.Bool.{Bool, true, false, cond, not, _&&_}
-use mathlib.Core.List.{List, [], _∷_, foldl}
+use mathlib.Core.List.{List, foldl}
 use Prim.Native.Nat.{ℕ, _+_, _-_}
 use lib.Dec.{eqb, ltb, leb}
-use lib.ListN.{length, replicate, getD, set}
-use Rattle.answers.specs.declared.Status.{Status}
+use lib.ListN.{replicate, getD, set}
 use Rattle.answers.specs.Outputs.{whenDone, most}
 use Rattle.standard.specs.Grid.{tab}
 use Rattle.sponge.specs.Layout.{digestRoom}

@@ -1,5 +1,4 @@
 -- `manifest::current::hashed_under` meets its contract. Assumes nothing.
-use mathlib.Core.Path.{_≡_, sym, _∙_}
 use borrow.Author.Needs.{needs}
 use borrow.Author.Tests.{le-leb, lt-leb}
 use Rattle.manifest.specs.Progress.{hashedUnder}

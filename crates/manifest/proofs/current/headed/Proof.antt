@@ -1,5 +1,4 @@
 -- `manifest::current::headed` meets its contract. Assumes nothing.
-use mathlib.Core.Path.{_≡_, sym, _∙_}
 use borrow.Author.Needs.{needs}
 use borrow.Author.Tests.{lt-ltb, le-ltb}
 use Rattle.manifest.specs.Progress.{headed}

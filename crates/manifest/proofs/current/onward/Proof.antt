@@ -1,5 +1,5 @@
 -- `manifest::current::onward` meets its contract: a byte of the header, or bytes of the contents at once. Assumes nothing.
-use mathlib.Core.Path.{_≡_, sym, _∙_}
+use mathlib.Core.Path.{sym, _∙_}
 use mathlib.Core.Logic.{⊎-elim}
 use native.Mathlib.Omega.{arith}
 use lib.ListN.{length}

@@ -1,5 +1,4 @@
 -- `manifest::current::opened` meets its contract. Assumes nothing.
-use mathlib.Core.Path.{_≡_}
 use borrow.Author.Needs.{needs}
 use Rattle.manifest.specs.Progress.{opened}
 use Rattle.manifest.proofs.current.opened.Statement.{statement}

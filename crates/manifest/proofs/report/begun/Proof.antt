@@ -1,7 +1,6 @@
 -- `manifest::report::begun` meets its contract. Assumes nothing.
-use mathlib.Core.Path.{_≡_, sym, _∙_}
+use mathlib.Core.Path.{sym, _∙_}
 use borrow.Author.Needs.{needs}
-use Rattle.manifest.specs.Records.{manifestStatus}
 use Rattle.manifest.specs.Progress.{begun}
 use Rattle.manifest.proofs.RecordLaws.{passing-manifest}
 use Rattle.manifest.proofs.report.begun.Statement.{statement}

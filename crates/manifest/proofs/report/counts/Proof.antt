@@ -1,5 +1,4 @@
 -- `manifest::report::counts` meets its contract. Assumes nothing.
-use mathlib.Core.Path.{_≡_}
 use borrow.Author.Needs.{needs}
 use Rattle.manifest.specs.Progress.{countsSoFar}
 use Rattle.manifest.proofs.report.counts.Statement.{statement}

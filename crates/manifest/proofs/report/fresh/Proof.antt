@@ -1,5 +1,4 @@
 -- `manifest::report::fresh` meets its contract. Assumes nothing.
-use mathlib.Core.Path.{_≡_}
 use borrow.Author.Needs.{needs}
 use Rattle.manifest.specs.Progress.{fresh}
 use Rattle.manifest.proofs.report.fresh.Statement.{statement}

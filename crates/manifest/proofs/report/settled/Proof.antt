@@ -1,5 +1,5 @@
 -- `manifest::report::settled` meets its contract. Assumes nothing.
-use mathlib.Core.Path.{_≡_, sym, _∙_}
+use mathlib.Core.Path.{sym, _∙_}
 use borrow.Author.Needs.{needs}
 use Rattle.manifest.specs.Progress.{settled}
 use Rattle.manifest.proofs.report.settled.Statement.{statement}

@@ -1,5 +1,5 @@
 -- `manifest::report::stepped` meets its contract. Assumes nothing.
-use mathlib.Core.Path.{_≡_, sym, ap, _∙_}
+use mathlib.Core.Path.{sym, ap, _∙_}
 use borrow.Author.Needs.{needs}
 use Rattle.manifest.specs.Progress.{settled}
 use Rattle.manifest.proofs.StrideLaws.{stride-settled}

@@ -1,5 +1,5 @@
 -- `manifest::tally::awaited_all` meets its contract: the flags of the records that were passed are stored, the others are 0. Assumes nothing.
-use mathlib.Core.Path.{_≡_, refl, _∙_, ap}
+use mathlib.Core.Path.{refl, _∙_, ap}
 use Prim.Native.Nat.{_-_, _≤_}
 use native.Mathlib.Omega.{arith}
 use Rattle.arrays.proofs.Upto.{upto-none, upto-more}

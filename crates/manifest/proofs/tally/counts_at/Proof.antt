@@ -1,5 +1,4 @@
 -- `manifest::tally::counts_at` meets its contract. Assumes nothing.
-use mathlib.Core.Path.{_≡_}
 use borrow.Author.Needs.{needs}
 use Rattle.manifest.specs.Progress.{countsAt}
 use Rattle.manifest.proofs.tally.counts_at.Statement.{statement}

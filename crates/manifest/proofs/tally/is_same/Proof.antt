@@ -3,7 +3,6 @@ use mathlib.Core.Path.{_≡_, refl, sym, _∙_}
 use Prim.Native.Nat.{_-_}
 use native.Mathlib.Omega.{arith}
 use lib.ListN.{length, drop}
-use borrow.Author.Needs.{needs}
 use Rattle.manifest.specs.Counts.{same}
 use Rattle.manifest.proofs.CompareLaws.{same-stopped, same-passed, same-past}
 use Rattle.manifest.proofs.tally.is_same.Statement.{statement}

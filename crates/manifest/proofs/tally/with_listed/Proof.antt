@@ -1,6 +1,4 @@
 -- `manifest::tally::with_listed` meets its contract. Assumes nothing.
-use mathlib.Core.Path.{_≡_}
-use native.Mathlib.Omega.{arith}
 use borrow.Author.Needs.{needs}
 use Rattle.manifest.specs.Progress.{withListed}
 use Rattle.manifest.proofs.tally.with_listed.Statement.{statement}

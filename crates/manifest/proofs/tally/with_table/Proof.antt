@@ -1,5 +1,4 @@
 -- `manifest::tally::with_table` meets its contract: the record that counts for the axis decides. Assumes nothing.
-use mathlib.Core.Path.{_≡_, sym, ap, _∙_}
 use native.Mathlib.Omega.{arith}
 use borrow.Author.Needs.{needs}
 use Rattle.manifest.specs.Progress.{withTable}
