@@ -43,7 +43,7 @@ upward f c = reverse (f (reverse c))
 -- ---- one column
 
 module _ (d s poly : ℕ) (low : 2 ^ s ≤ poly) (high : poly < 2 ^ s * 2) where
-  serial-column : (z : List ℕ) → 0 < d → (c : List ℕ) → Column d (2 ^ s) c → Column d (2 ^ s) (serial (2 ^ s) poly z c)
+  pub serial-column : (z : List ℕ) → 0 < d → (c : List ℕ) → Column d (2 ^ s) c → Column d (2 ^ s) (serial (2 ^ s) poly z c)
   unfolding serial
   serial-column z h [] k = absurd (omega (arith, k .size))
   serial-column z h (x ∷ xs) k =
