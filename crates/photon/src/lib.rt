@@ -14,6 +14,7 @@ ghost use Rattle.standard.specs.Photon.{inFirst, addConstants, subCells, shiftR
 ghost use Rattle.photon.specs.Parameters.{photonOf};
 ghost use Rattle.photon.specs.Rows.{lane, lanes, columnFrom, oddSum, Mixing, NoneFrom, SmallRows};
 
+pub mod words;
 mod boxes; // boxes.rt: the S-boxes and their inverses
 
 use boxes::AES;
