@@ -10,6 +10,9 @@ ghost use Rattle.standard.specs.Spongent.{sBoxLayer, pLayer, cAddition, nextCou
 ghost use Rattle.spongent.specs.Parameters.{spongentOf, tapsOf};
 ghost use Rattle.spongent.specs.Pairs.{Joined, pairAt, pairOf};
 
+mod spread;
+pub mod words;
+
 // The byte with its bits in the reverse order.
 fn reversed(b: u8) -> u8
     ensures { λ r. ⌜ r ≡ lowValue (bitsOf high-first 8 b) ⌝ }
