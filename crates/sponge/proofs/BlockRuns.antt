@@ -8,16 +8,15 @@ use native.Mathlib.Nat.{mul-left-comm, mul-le-mul}
 use native.Mathlib.Omega.{arith}
 use lib.ListN.{length, drop}
 use Rattle.standard.specs.Bits.{high-first, unpack, filled}
-use Rattle.standard.specs.Sponge.{Variant, stateIn}
+use Rattle.standard.specs.Sponge.{Variant}
 use Rattle.standard.specs.Chain.{step, run}
 use Rattle.standard.specs.Variants.{variant, known}
 use Rattle.standard.proofs.BitLaws.{length-filled, unpack-pack}
-use Rattle.standard.proofs.Streaming.{run-append, run-one, run-none, run-length}
-use Rattle.standard.proofs.Variants.{Bounds, bounds, streams}
-use Rattle.sponge.specs.Layout.{blockRoom, stateRoom, packedState, packedBlock, blockIn, Holds, HoldsBlock}
+use Rattle.standard.proofs.Streaming.{run-append, run-one, run-none}
+use Rattle.standard.proofs.Variants.{Bounds, bounds}
+use Rattle.sponge.specs.Layout.{blockRoom, packedBlock, blockIn, HoldsBlock}
 use Rattle.sponge.specs.Blocks.{firstBlocks}
 use Rattle.sponge.proofs.BlockRows.{first-none, first-more}
-use Rattle.sponge.proofs.States.{state-length, stored, stored-ready}
 
 module _ (v : ℕ) (k : known v ≡ true) where
   abbrev H : Variant
@@ -41,12 +40,11 @@ module _ (v : ℕ) (k : known v ≡ true) where
     quarters = omega (arith, sizes .rate-quarters)
 
     -- by half bytes, and by bits
-    pub block-is : (x : List ℕ) (bs : List Bool) (j : ℕ) → x ≡ packedBlock (filled (4 * q) (drop (4 * (j * q)) bs)) → x ≡ packedBlock (filled (H .r) (drop (j * H .r) bs))
-    block-is x bs j e =
-        rw (← quarters, ← mul-left-comm) e
+    pub block-is : (bs : List Bool) (j : ℕ) → filled (4 * q) (drop (4 * (j * q)) bs) ≡ filled (H .r) (drop (j * H .r) bs)
+    block-is bs j = rw (← quarters, ← mul-left-comm)
 
     pub block-at-ready : (x : List ℕ) (bs : List Bool) (j : ℕ) → x ≡ packedBlock (filled (4 * q) (drop (4 * (j * q)) bs)) → HoldsBlock v x
-    block-at-ready x bs j e = block-ready x (filled (H .r) (drop (j * H .r) bs)) (length-filled (H .r) (drop (j * H .r) bs)) (block-is x bs j e)
+    block-at-ready x bs j e = block-ready x (filled (H .r) (drop (j * H .r) bs)) (length-filled (H .r) (drop (j * H .r) bs)) (e ∙ ap packedBlock (block-is bs j))
 
     pub few-halves : q ≤ 9
     few-halves = omega (arith, sizes .rate-most)
@@ -55,28 +53,18 @@ module _ (v : ℕ) (k : known v ≡ true) where
     pub place-le : (j : ℕ) → j ≤ 2 ^ 32 → j * q ≤ 2 ^ 40
     place-le j h = omega (arith, mul-le-mul h few-halves)
 
-  -- ---- the blocks of bs run one by one through the state that the bytes s hold
+  -- ---- the blocks of bs run one by one through the state S
 
-  module _ (s : List ℕ) (ls : length s ≡ stateRoom) (bs : List Bool) where
+  module _ (S : List Bool) (bs : List Bool) where
     abbrev after : ℕ → List Bool
-    after j = run H (stateIn H s) (firstBlocks (H .r) j bs)
+    after j = run H S (firstBlocks (H .r) j bs)
 
-    after-size : (j : ℕ) → length (after j) ≡ H .t
-    after-size j = run-length H (streams v k) (firstBlocks (H .r) j bs) (stateIn H s) (state-length v k s ls)
+    pub run-start : S ≡ after 0
+    run-start = sym (ap (run H S) (first-none (H .r) bs) ∙ run-none H S)
 
-    pub run-start : Holds v s → s ≡ packedState H (after 0)
-    run-start e = e ∙ ap (packedState H) (sym (ap (run H (stateIn H s)) (first-none (H .r) bs) ∙ run-none H (stateIn H s)))
-
-    pub run-ready : (j : ℕ) (x : List ℕ) → x ≡ packedState H (after j) → Holds v x
-    run-ready j x e = stored-ready v k x (after j) (after-size j) e
-
-    pub run-more : (q : ℕ) → q ≡ H .r / 4 → (j : ℕ) (at x next : List ℕ) → at ≡ packedState H (after j)
-        → x ≡ packedBlock (filled (4 * q) (drop (4 * (j * q)) bs))
-        → next ≡ packedState H (step H (stateIn H at) (blockIn H x)) → next ≡ packedState H (after (j + 1))
-    run-more q eq j at x next ea ex en =
-        let B : List Bool = filled (H .r) (drop (j * H .r) bs) in
+    pub run-more : (q : ℕ) → q ≡ H .r / 4 → (j : ℕ) (at next : List Bool) → at ≡ after j
+        → next ≡ step H at (filled (4 * q) (drop (4 * (j * q)) bs)) → next ≡ after (j + 1)
+    run-more q eq j at next ea en =
         en
-        ∙ ap₂ (λ (y z : List Bool). packedState H (step H y z))
-        (stored v k at (after j) (after-size j) ea)
-        (block-read x B (length-filled (H .r) (drop (j * H .r) bs)) (block-is q eq x bs j ex))
-        ∙ ap (packedState H) (sym (rw (first-more, run-append, run-one, run-none)))
+        ∙ ap₂ (step H) ea (block-is q eq bs j)
+        ∙ sym (rw (first-more, run-append, run-one, run-none))

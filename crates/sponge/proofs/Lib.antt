@@ -10,3 +10,12 @@ pub mod SqueezeLaws
 pub mod BlockHalves
 pub mod BlockRows
 pub mod BlockRuns
+pub mod WordPlaces
+pub mod RowsIntoBytes
+pub mod CellsOfBytes
+pub mod CellsIntoWords
+pub mod WordSteps
+pub mod ImageRows
+pub mod InsideBlocks
+pub mod Outcomes
+pub mod SameAnswers

@@ -1,69 +1,68 @@
 -- Output blocks appended to the digest: half byte by half byte, block by block.
 -- Assumes nothing.
-use mathlib.Core.Path.{_≡_, sym, ap, _∙_}
-use mathlib.Core.Bool.{Bool, true}
+use mathlib.Core.Path.{_≡_, refl, sym, ap, _∙_}
+use mathlib.Core.Bool.{Bool, true, false}
 use mathlib.Core.List.{List, [], _∷_, _++_, append-assoc, append-nil, flatMap}
 use mathlib.Core.Logic.{_⊎_, inl, inr, ⊎-elim}
 use Prim.Native.Nat.{ℕ, zero, suc, _+_, _-_, _*_, _/_, _%_, _≤_, _<_}
-use native.Mathlib.Nat.{not-suc-le-zero, add-mul-div-right, div-eq-of-lt, le-div-iff-mul-le, min-le-left, sub-zero}
+use native.Mathlib.Nat.{not-suc-le-zero, le-of-suc-le-suc, add-mul-div-right, div-eq-of-lt, le-div-iff-mul-le, min-le-left, sub-zero}
 use native.Mathlib.Numerals.{add-one}
 use native.Mathlib.Omega.{arith}
-use lib.ListN.{length, take, drop, length-append, length-drop, length-take, replicate}
+use lib.ListN.{length, take, drop, length-append, length-drop, length-take, length-replicate, replicate}
 use lib.Seq.{length-take-le, take-add, take-all, take-take, take-append-le}
 use Rattle.standard.specs.Bits.{Order, high-first, bitsOf, bitsIn, pack, unpack, filled, bytesFor, reordered}
 use Rattle.standard.specs.Rounds.{forward}
-use Rattle.standard.specs.Sponge.{Variant, order, permutation, outputs, outputBlocks, squeezed, stateIn}
+use Rattle.standard.specs.Sponge.{Variant, order, permutation, spongeStep, outputs, outputBlocks, squeezed}
+use Rattle.standard.specs.Chain.{step}
 use Rattle.standard.specs.Variants.{variant, known}
-use Rattle.standard.proofs.BitLaws.{length-bitsIn, length-unpack, length-pack, unpack-pack, bitsOf-valueOf, valueOf-lt, bitsIn-take, bitsIn-pack, take-pack, pack-bitsIn, pack-bytes, pack-none}
+use Rattle.standard.proofs.BitLaws.{length-bitsIn, length-unpack, length-pack, bitsOf-valueOf, bitsIn-take, bitsIn-pack, bitsIn-zeros, take-pack, pack-bitsIn, pack-bytes, pack-none, xorInto-zeros}
+use Rattle.standard.proofs.Sponge.{step-sponge}
 use Rattle.standard.proofs.Variants.{Bounds, bounds, WholeBytes, layouts, permutation-length}
 use Rattle.standard.proofs.Reordered.{reordered-same}
-use Rattle.sponge.specs.Layout.{digestRoom, stateRoom, packedState, Holds}
+use Rattle.sponge.specs.Layout.{stateRoom, blockRoom, packedState}
 use Rattle.sponge.specs.Cells.{cellIn}
 use Rattle.sponge.proofs.LayoutLaws.{packed-bits}
 use Rattle.sponge.proofs.MatrixImage.{filled-take}
-use Rattle.sponge.proofs.States.{state-length, stored, stored-ready}
-
-module _ (s : List ℕ) (size : length s ≡ stateRoom) (i : ℕ) (h : i < 64) where
-  four : length (take 4 (drop (i * 4) (bitsIn high-first s))) ≡ 4
-  four = length-take-le 4 (drop (i * 4) (bitsIn high-first s)) (omega (arith, length-drop (i * 4) (bitsIn high-first s), length-bitsIn high-first s))
-
-  pub half-lt : cellIn 4 s i < 16
-  unfolding cellIn
-  half-lt = valueOf-lt high-first 4 (take 4 (drop (i * 4) (bitsIn high-first s))) four
-
-  -- one half byte more
-  front-half : (X : List Bool) → (X ++ take (4 * i) (bitsIn high-first s)) ++ bitsOf high-first 4 (cellIn 4 s i) ≡ X ++ take (4 * (i + 1)) (bitsIn high-first s)
-  unfolding cellIn
-  front-half X =
-      let here : i * 4 ≡ 4 * i = omega arith in
-      let more : 4 * (i + 1) ≡ 4 * i + 4 = omega arith in
-      rw (bitsOf-valueOf high-first 4 (take 4 (drop (i * 4) (bitsIn high-first s))) four, append-assoc, here, more, take-add)
+use Rattle.sponge.proofs.RowsIntoBytes.{read-back, kept-back}
 
 -- r holds p half bytes of the digest, and the first i of the bytes s behind them
-module _ (out s : List ℕ) (lo : length out ≡ digestRoom) (ls : length s ≡ stateRoom) (p i : ℕ) (h : p + i ≤ 64) (r : List ℕ)
-    (er : r ≡ pack high-first digestRoom (unpack high-first (4 * p) out ++ take (4 * i) (bitsIn high-first s))) where
-  pub front-again : unpack high-first (4 * (p + i)) r ≡ unpack high-first (4 * p) out ++ take (4 * i) (bitsIn high-first s)
-  front-again =
-      let Z : List Bool = unpack high-first (4 * p) out ++ take (4 * i) (bitsIn high-first s) in
-      let size : length Z ≡ 4 * (p + i) =
-      rw (length-append, length-unpack high-first (4 * p) out (omega arith), length-take-le (4 * i) (bitsIn high-first s) (omega (arith, length-bitsIn high-first s))) (omega arith) in
-      rw (← size, er, unpack-pack high-first digestRoom Z (omega arith))
+module _ (out s : List ℕ) (lo : length out ≡ stateRoom) (ls : length s ≡ stateRoom) (p i : ℕ) (h : p + i ≤ 64) (r : List ℕ)
+    (er : r ≡ pack high-first stateRoom (unpack high-first (4 * p) out ++ take (4 * i) (bitsIn high-first s))) where
+  size : length (unpack high-first (4 * p) out ++ take (4 * i) (bitsIn high-first s)) ≡ 4 * (p + i)
+  size =
+      rw (length-append, length-unpack high-first (4 * p) out (omega arith), length-take-le (4 * i) (bitsIn high-first s) (omega (arith, length-bitsIn high-first s))) (omega arith)
 
-  pub front-kept : r ≡ pack high-first digestRoom (unpack high-first (4 * (p + i)) r)
-  front-kept = rw front-again er
+  pub front-size : length r ≡ stateRoom
+  front-size = ap length er ∙ length-pack high-first stateRoom _
 
-  pub front-next : p + i < 64 → (x : ℕ) (next : List ℕ) → x ≡ cellIn 4 s i
-      → next ≡ pack high-first digestRoom (unpack high-first (4 * (p + i)) r ++ bitsOf high-first 4 x)
-      → next ≡ pack high-first digestRoom (unpack high-first (4 * p) out ++ take (4 * (i + 1)) (bitsIn high-first s))
-  front-next l x next ex en = rw (en, front-again, ex, front-half s ls i (omega arith))
+  front-again : unpack high-first (4 * (p + i)) r ≡ unpack high-first (4 * p) out ++ take (4 * i) (bitsIn high-first s)
+  front-again = read-back r _ (p + i) (omega arith) size er
+
+  pub front-kept : r ≡ pack high-first stateRoom (unpack high-first (4 * (p + i)) r)
+  front-kept = kept-back r _ (p + i) (omega arith) size er
+
+  -- one half byte more
+  front-half : i < 64 → (X : List Bool) → (X ++ take (4 * i) (bitsIn high-first s)) ++ bitsOf high-first 4 (cellIn 4 s i) ≡ X ++ take (4 * (i + 1)) (bitsIn high-first s)
+  unfolding cellIn
+  front-half l X =
+      let here : i * 4 ≡ 4 * i = omega arith in
+      let more : 4 * (i + 1) ≡ 4 * i + 4 = omega arith in
+      let four : length (take 4 (drop (i * 4) (bitsIn high-first s))) ≡ 4 =
+      length-take-le 4 (drop (i * 4) (bitsIn high-first s)) (omega (arith, length-drop (i * 4) (bitsIn high-first s), length-bitsIn high-first s)) in
+      rw (bitsOf-valueOf high-first 4 (take 4 (drop (i * 4) (bitsIn high-first s))) four, append-assoc, here, more, take-add)
+
+  pub front-next : i < 64 → (x : ℕ) (next : List ℕ) → x ≡ cellIn 4 s i
+      → next ≡ pack high-first (length r) (unpack high-first (4 * (p + i)) r ++ bitsOf high-first 4 x)
+      → next ≡ pack high-first stateRoom (unpack high-first (4 * p) out ++ take (4 * (i + 1)) (bitsIn high-first s))
+  front-next l x next ex en = rw (en, front-size, front-again, ex, front-half l)
 
 -- packed bytes depend on the bits that they have room for alone
+packed-whole : (o : Order) (k : ℕ) (X : List Bool) → pack o k X ≡ pack o k (filled (k * 8) X)
+packed-whole o k X = sym (rw (length-pack, bitsIn-pack) at (pack-bitsIn o (pack o k X) (pack-bytes o k X)))
+
 packed-front : (o : Order) (k m : ℕ) (S : List Bool) → k * 8 ≤ m → m ≤ length S → pack o k (take m S) ≡ pack o k S
 packed-front o k m S hk hm =
-    rw (whole (take m S), whole S, filled-take (k * 8) (take m S) (omega (arith, length-take-le m S hm)), filled-take (k * 8) S (omega arith), take-take (k * 8) m S hk)
-  where
-    whole : (X : List Bool) → pack o k X ≡ pack o k (filled (k * 8) X)
-    whole X = sym (rw (length-pack, bitsIn-pack) at (pack-bitsIn o (pack o k X) (pack-bytes o k X)))
+    rw (packed-whole o k (take m S), packed-whole o k S, filled-take (k * 8) (take m S) (omega (arith, length-take-le m S hm)), filled-take (k * 8) S (omega arith), take-take (k * 8) m S hk)
 
 -- the first m bits of a state, as they are given out, are the first m bits of the bytes that hold it
 pub output-bits : (o : Order) (t m : ℕ) (S : List Bool) → length S ≡ t → t ≤ stateRoom * 8 → m ≤ t → (high-first ≡ o) ⊎ (m % 8 ≡ 0)
@@ -79,6 +78,31 @@ output-bits o t m S lS ht hm w =
     rw (size, count, packed-front o (m / 8) m S (omega arith) (omega arith), ← take-pack o (m / 8) stateRoom S (omega arith))
     (rw (← bitsIn-take, whole, take-take m m (bitsIn high-first (pack o stateRoom S)) (omega arith))))
     w
+
+-- ---- the step of a block of zeros
+
+filled-zeros : (w n : ℕ) → filled w (replicate n false) ≡ filled w []
+unfolding filled
+filled-zeros zero n = refl
+filled-zeros (suc w) zero = refl
+filled-zeros (suc w) (suc n) = ap (λ (l : List Bool). false ∷ l) (filled-zeros w n)
+
+packed-zeros : (o : Order) (k n : ℕ) → pack o k (replicate n false) ≡ replicate k 0
+packed-zeros o k n = packed-whole o k (replicate n false) ∙ ap (pack o k) (filled-zeros (k * 8) n) ∙ sym (packed-whole o k []) ∙ pack-none o k
+
+take-zeros : (m n : ℕ) → m ≤ n → take m (replicate n false) ≡ replicate m false
+take-zeros zero n h = refl
+take-zeros (suc m) zero h = absurd (not-suc-le-zero h)
+take-zeros (suc m) (suc n) h = ap (λ (l : List Bool). false ∷ l) (take-zeros m n (le-of-suc-le-suc h))
+
+reordered-zeros : (a b : Order) (n : ℕ) → reordered a b (replicate n false) ≡ replicate n false
+unfolding reordered unpack
+reordered-zeros a b n = rw (length-replicate, packed-zeros, bitsIn-zeros, take-zeros n (8 * bytesFor n) (omega arith))
+
+-- is the permutation
+pub zero-step : (H : Variant) (S : List Bool) (k : ℕ) → H .r ≤ 8 * k → step H S (take (H .r) (bitsIn high-first (replicate k 0))) ≡ permutation H forward S
+unfolding spongeStep
+zero-step H S k h = rw (step-sponge, bitsIn-zeros, take-zeros (H .r) (8 * k) h, reordered-zeros, xorInto-zeros)
 
 -- ---- output blocks, one after the other
 
@@ -108,8 +132,8 @@ module _ (f : List Bool → List Bool) (r m : ℕ) (pos : 0 < r) (s : List Bool)
 
 -- ---- the loop over output blocks
 
--- p of n half bytes of the digest are out, q with each output block, and what the state `at` still gives makes it whole
-pub record Squeezing (v : ℕ) (s : List ℕ) (n q : ℕ) (out at : List ℕ) (p : ℕ) : Type 0 where
+-- p of n half bytes of the digest are out, q with each output block, and what the state S still gives makes it whole: the digest out of the end state E
+pub record Squeezing (v : ℕ) (E : List Bool) (n q : ℕ) (out : List ℕ) (S : List Bool) (p : ℕ) : Type 0 where
   pub number : known v ≡ true
   pub digest : 4 * n ≡ variant v .n
   pub digest-most : n ≤ 64
@@ -117,18 +141,18 @@ pub record Squeezing (v : ℕ) (s : List ℕ) (n q : ℕ) (out at : List ℕ) (p
   pub block-least : 0 < q
   pub block-most : q ≤ 9
   pub wanted : p < n
-  pub ready : Holds v at
-  pub kept : out ≡ pack high-first digestRoom (unpack high-first (4 * p) out)
+  pub state : length S ≡ variant v .t
+  pub kept : out ≡ pack high-first stateRoom (unpack high-first (4 * p) out)
   pub layout : (high-first ≡ order (variant v)) ⊎ ((variant v .n - 4 * p) % 8 ≡ 0)
   pub left : unpack high-first (4 * p) out
       ++ flatMap (reordered (order (variant v)) high-first)
-      (outputs (permutation (variant v) forward) (variant v .r′) (variant v .n - 4 * p) (blocksFor (variant v .r′) (variant v .n - 4 * p)) (stateIn (variant v) at))
-      ≡ squeezed (variant v) (stateIn (variant v) s)
+      (outputs (permutation (variant v) forward) (variant v .r′) (variant v .n - 4 * p) (blocksFor (variant v .r′) (variant v .n - 4 * p)) S)
+      ≡ squeezed (variant v) E
 
-pub squeezing-start : (v : ℕ) → known v ≡ true → (s : List ℕ) (n q : ℕ) → n ≡ variant v .n / 8 * 2 → q ≡ variant v .r′ / 4
-    → Holds v s → Squeezing v s n q (replicate digestRoom 0) s 0
+pub squeezing-start : (v : ℕ) → known v ≡ true → (E : List Bool) → length E ≡ variant v .t → (n q : ℕ) → n ≡ variant v .n / 8 * 2 → q ≡ variant v .r′ / 4
+    → Squeezing v E n q (replicate stateRoom 0) E 0
 unfolding squeezed outputBlocks unpack
-squeezing-start v k s n q en eq e =
+squeezing-start v k E l n q en eq =
     let H : Variant = variant v in
     let b : Bounds H = bounds v k in
     record {
@@ -139,76 +163,70 @@ squeezing-start v k s n q en eq e =
       block-least = omega (arith, b .output-least);
       block-most = omega (arith, b .output-most);
       wanted = omega (arith, b .digest-least);
-      ready = e;
-      kept = sym (pack-none high-first digestRoom);
+      state = l;
+      kept = sym (pack-none high-first stateRoom);
       layout = inr (rw sub-zero (b .digest-whole));
       left = rw sub-zero;
     }
 
-module _ (v : ℕ) (s : List ℕ) (n q : ℕ) (out at : List ℕ) (p : ℕ) (u : Squeezing v s n q out at p) where
+module _ (v : ℕ) (E : List Bool) (n q : ℕ) (out : List ℕ) (S : List Bool) (p : ℕ) (u : Squeezing v E n q out S p) where
   abbrev H : Variant
   H = variant v
 
   b : Bounds (variant v)
   b = bounds v (u .number)
 
-  lo : length out ≡ digestRoom
-  lo = ap length (u .kept) ∙ length-pack high-first digestRoom _
+  pub squeezing-room : length out ≡ stateRoom
+  squeezing-room = ap length (u .kept) ∙ length-pack high-first stateRoom _
 
-  la : length at ≡ stateRoom
-  la = ap length (u .ready) ∙ length-pack (order H) stateRoom _
+  -- bytes that begin with the bits that the state gives out
+  module _ (s : List ℕ) (ls : length s ≡ stateRoom) (es : take (variant v .r′) (bitsIn high-first s) ≡ take (variant v .r′) (bitsIn high-first (packedState (variant v) S))) where
+    -- the first m of them
+    given : (m : ℕ) → m ≤ H .r′ → (high-first ≡ order H) ⊎ (m % 8 ≡ 0) → take m (bitsIn high-first s) ≡ reordered (order H) high-first (take m S)
+    given m hm w =
+        sym (take-take m (H .r′) (bitsIn high-first s) hm)
+        ∙ ap (take m) es
+        ∙ take-take m (H .r′) (bitsIn high-first (packedState H S)) hm
+        ∙ sym (output-bits (order H) (H .t) m S (u .state) (b .state-most) (omega (arith, b .output-fits)) w)
 
-  lS : length (stateIn H at) ≡ H .t
-  lS = state-length v (u .number) at la
+    pub squeezing-more : (more : List ℕ) (next : List Bool) → p + q < n
+        → more ≡ pack high-first stateRoom (unpack high-first (4 * p) out ++ take (4 * q) (bitsIn high-first s))
+        → next ≡ step (variant v) S (take (variant v .r) (bitsIn high-first (replicate blockRoom 0))) → Squeezing v E n q more next (p + q)
+    unfolding flatMap
+    squeezing-more more next h em ex =
+        let k = u .number in
+        let stepped : next ≡ permutation H forward S = ex ∙ zero-step H S blockRoom (omega (arith, b .rate-most)) in
+        let X : List Bool = unpack high-first (4 * p) out in
+        let Y : List Bool = take (4 * q) (bitsIn high-first s) in
+        let again : unpack high-first (4 * (p + q)) more ≡ X ++ Y =
+        front-again out s squeezing-room ls p q (omega arith) more em in
+        let block : Y ≡ reordered (order H) high-first (take (H .r′) S) =
+        given (4 * q) (omega arith) (⊎-elim inl (λ (w : WholeBytes H). inr (rw (u .block) (w .output))) (layouts v k))
+        ∙ ap (λ (m : ℕ). reordered (order H) high-first (take m S)) (u .block) in
+        let rest : H .n - 4 * p - H .r′ ≡ H .n - 4 * (p + q) = omega arith in
+        record {
+          number = k;
+          digest = u .digest;
+          digest-most = u .digest-most;
+          block = u .block;
+          block-least = u .block-least;
+          block-most = u .block-most;
+          wanted = h;
+          state = ap length stepped ∙ permutation-length v k forward S (u .state);
+          kept = front-kept out s squeezing-room ls p q (omega arith) more em;
+          layout = ⊎-elim inl (λ e. ⊎-elim inl (λ (w : WholeBytes H). inr (omega arith)) (layouts v k)) (u .layout);
+          left =
+              rw (again, stepped, block, ← rest, append-assoc)
+              (rw (outputs-more (permutation H forward) (H .r′) (H .n - 4 * p) (omega (arith, b .output-least)) S (omega arith)) at (u .left));
+        }
 
-  -- the first m bits that the state gives out
-  given : (m : ℕ) → m ≤ H .r′ → (high-first ≡ order H) ⊎ (m % 8 ≡ 0)
-      → take m (bitsIn high-first at) ≡ reordered (order H) high-first (take m (stateIn H at))
-  given m hm w =
-      ap (λ (x : List ℕ). take m (bitsIn high-first x)) (u .ready)
-      ∙ sym (output-bits (order H) (H .t) m (stateIn H at) lS (b .state-most) (omega (arith, b .output-fits)) w)
-
-  pub squeezing-more : (more next : List ℕ) → p + q < n
-      → more ≡ pack high-first digestRoom (unpack high-first (4 * p) out ++ take (4 * q) (bitsIn high-first at))
-      → next ≡ packedState H (permutation H forward (stateIn H at)) → Squeezing v s n q more next (p + q)
-  unfolding flatMap
-  squeezing-more more next h em ex =
-      let k = u .number in
-      let S : List Bool = stateIn H at in
-      let fS : List Bool = permutation H forward S in
-      let lf : length fS ≡ H .t = permutation-length v k forward S lS in
-      let X : List Bool = unpack high-first (4 * p) out in
-      let Y : List Bool = take (4 * q) (bitsIn high-first at) in
-      let again : unpack high-first (4 * (p + q)) more ≡ X ++ Y =
-      front-again out at lo la p q (omega arith) more em in
-      let block : Y ≡ reordered (order H) high-first (take (H .r′) S) =
-      given (4 * q) (omega arith) (⊎-elim inl (λ (w : WholeBytes H). inr (rw (u .block) (w .output))) (layouts v k))
-      ∙ ap (λ (m : ℕ). reordered (order H) high-first (take m S)) (u .block) in
-      let rest : H .n - 4 * p - H .r′ ≡ H .n - 4 * (p + q) = omega arith in
-      record {
-        number = k;
-        digest = u .digest;
-        digest-most = u .digest-most;
-        block = u .block;
-        block-least = u .block-least;
-        block-most = u .block-most;
-        wanted = h;
-        ready = stored-ready v k next fS lf ex;
-        kept = front-kept out at lo la p q (omega arith) more em;
-        layout = ⊎-elim inl (λ e. ⊎-elim inl (λ (w : WholeBytes H). inr (omega arith)) (layouts v k)) (u .layout);
-        left =
-            rw (again, stored v k next fS lf ex, block, ← rest, append-assoc)
-            (rw (outputs-more (permutation H forward) (H .r′) (H .n - 4 * p) (omega (arith, b .output-least)) S (omega arith)) at (u .left));
-      }
-
-  pub squeezing-last : (last : List ℕ) → n ≤ p + q
-      → last ≡ pack high-first digestRoom (unpack high-first (4 * p) out ++ take (4 * (n - p)) (bitsIn high-first at))
-      → last ≡ pack high-first digestRoom (squeezed H (stateIn H s))
-  unfolding flatMap
-  squeezing-last last h el =
-      let S : List Bool = stateIn H at in
-      let m : ℕ = H .n - 4 * p in
-      let size : 4 * (n - p) ≡ m = omega arith in
-      rw (el, size, given m (omega arith) (u .layout))
-      (ap (pack high-first digestRoom)
-      (rw (outputs-last (permutation H forward) (H .r′) m (omega (arith, b .output-least)) S (omega arith) (omega arith), append-nil) at (u .left)))
+    pub squeezing-last : (last : List ℕ) → n ≤ p + q
+        → last ≡ pack high-first stateRoom (unpack high-first (4 * p) out ++ take (4 * (n - p)) (bitsIn high-first s))
+        → last ≡ pack high-first stateRoom (squeezed (variant v) E)
+    unfolding flatMap
+    squeezing-last last h el =
+        let m : ℕ = H .n - 4 * p in
+        let size : 4 * (n - p) ≡ m = omega arith in
+        rw (el, size, given m (omega arith) (u .layout))
+        (ap (pack high-first stateRoom)
+        (rw (outputs-last (permutation H forward) (H .r′) m (omega (arith, b .output-least)) S (omega arith) (omega arith), append-nil) at (u .left)))

@@ -9,19 +9,17 @@ use native.Mathlib.Omega.{arith}
 use lib.Dec.{lit≤}
 use lib.ListN.{length, getD}
 use Rattle.standard.specs.Bits.{Order, low-first, high-first, bitsIn, pack, unpack, reordered, xorInto}
-use Rattle.standard.specs.Rounds.{Direction, forward, backward}
+use Rattle.standard.specs.Rounds.{Direction, backward}
 use Rattle.standard.specs.Grid.{Grid, window, Small}
 use Rattle.standard.specs.Photon.{photonRounds, matrixOf, bitsOfMatrix, photonPermutation}
 use Rattle.standard.specs.Spongent.{spongentPermutation}
-use Rattle.standard.specs.Sponge.{Variant, order, permutation, spongeStep, unstep, stateIn}
-use Rattle.standard.specs.Chain.{step}
+use Rattle.standard.specs.Sponge.{Variant, order, permutation, unstep, stateIn}
 use Rattle.standard.specs.Variants.{variant, known}
 use Rattle.standard.proofs.Tests.{one-to-five}
 use Rattle.standard.proofs.Tab.{small-window}
-use Rattle.standard.proofs.BitLaws.{length-unpack, length-xorInto}
+use Rattle.standard.proofs.BitLaws.{length-unpack}
 use Rattle.standard.proofs.PhotonLaws.{photonRounds-state}
 use Rattle.standard.proofs.MatrixLaws.{matrixOf-square, matrixOf-small}
-use Rattle.standard.proofs.Sponge.{step-sponge}
 use Rattle.standard.proofs.Variants.{Bounds, bounds, sponge, permutation-length}
 use Rattle.photon.specs.Parameters.{photonOf}
 use Rattle.photon.proofs.ParametersOf.{photon-variant, sound}
@@ -105,9 +103,6 @@ module _ (v : ℕ) (k : known v ≡ true) where
     abbrev taken : List Bool
     taken = xorInto (stateIn (variant v) s) (reordered high-first (order (variant v)) (blockIn (variant v) z))
 
-    taken-length : length taken ≡ variant v .t
-    taken-length = length-xorInto _ _ ∙ state-length s ls
-
     pub taken-state : x ≡ packedState (variant v) taken
     unfolding stateIn
     taken-state =
@@ -117,15 +112,6 @@ module _ (v : ℕ) (k : known v ≡ true) where
         let w : (high-first ≡ order H) ⊎ (length B % 8 ≡ 0) = ⊎-elim inl (λ e. inr (ap (λ (n : ℕ). n % 8) lB ∙ e)) (sponge v k .layout) in
         taken-bytes (order H) (H .t) (b .state-most) s x B ls hx lx es w (omega (arith, b .rate-most)) (omega (arith, b .rate-fits))
         (ex (order H) ∙ ap (λ (l : List ℕ). xorInto (bitsIn (order H) s) (bitsIn (order H) l)) ez)
-
-    pub taken-holds : Holds v x
-    taken-holds = stored-ready x taken taken-length taken-state
-
-    -- permuted, it is the state after the block step
-    pub taken-step : (r : List ℕ) → r ≡ packedState (variant v) (permutation (variant v) forward (stateIn (variant v) x))
-        → r ≡ packedState (variant v) (step (variant v) (stateIn (variant v) s) (blockIn (variant v) z))
-    unfolding spongeStep
-    taken-step r e = rw step-sponge (rw (stored x taken taken-length taken-state) at e)
 
   -- the permutation taken back, and then the block xored out
   pub taken-back : (s p x z : List ℕ) → length s ≡ stateRoom → length p ≡ stateRoom → length z ≡ blockRoom → ((i : ℕ) → getD x i 0 < 256) → length x ≡ stateRoom

@@ -4,3 +4,4 @@ pub mod Cells
 pub mod Blocks
 pub mod Directions
 pub mod Images
+pub mod Words

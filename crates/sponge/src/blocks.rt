@@ -1,21 +1,20 @@
 // The blocks of a bit string that comes as held half bytes and a piece, with the 1 bit of the padding behind them and zeros past it.
 ghost use mathlib.Core.Path.{_≡_};
 ghost use mathlib.Core.Bool.{true};
-ghost use Prim.Native.Nat.{_*_, _^_, _≤_, _<_};
+ghost use Prim.Native.Nat.{_+_, _-_, _*_, _%_, _^_, _≤_, _<_};
 ghost use lib.ListN.{length, drop, getD};
 ghost use Rattle.standard.specs.Bits.{filled};
-ghost use Rattle.standard.specs.Sponge.{stateIn};
-ghost use Rattle.standard.specs.Chain.{run};
+ghost use Rattle.standard.specs.Chain.{step, run};
 ghost use Rattle.standard.specs.Variants.{variant, known};
-ghost use Rattle.sponge.specs.Layout.{packedState, packedBlock, Holds};
+ghost use Rattle.sponge.specs.Layout.{packedBlock};
 ghost use Rattle.sponge.specs.Blocks.{halfOf, halfIn, heldThen, withOne, firstBlocks};
+ghost use Rattle.sponge.specs.Words.{stateInWords, TableOf};
 use crate::sizes;
 use crate::sizes::BLOCK_BYTES;
-use crate::sizes::STATE_BYTES;
-use crate::step;
+use crate::words;
 
 // A half of the byte x: the upper one where n is even.
-fn half_of(x: u8, n: usize) -> u8
+pub fn half_of(x: u8, n: usize) -> u8
     ensures { λ r. ⌜ r ≡ halfOf x n ⌝ }
 {
     if n % 2 == 0 {
@@ -73,26 +72,67 @@ pub fn block_at(held: &[u8], p: usize, piece: &[u8], first: usize, q: usize) -> 
     out
 }
 
-// The state after the first `count` blocks.
-pub fn run_blocks(
+// Whether the q half bytes from the half byte `first` on all come from a piece of `length` bytes behind p half bytes, and begin at a byte of it where they are whole bytes.
+fn is_inside(p: usize, length: usize, first: usize, q: usize) -> bool
+    requires { ⌜ (q ≤ 10) × (first ≤ 2 ^ 40) ⌝ }
+    ensures { λ r. ⌜ (r ≡ true → (p ≤ first) × (first - p + q ≤ 2 * length) × (q % 2 ≡ 0 → (first - p) % 2 ≡ 0)) ⌝ }
+{
+    if first < p {
+        return false;
+    }
+    let m = first - p;
+    if length < (m + q + 1) / 2 {
+        return false;
+    }
+    if q % 2 == 1 {
+        return true;
+    }
+    m % 2 == 0
+}
+
+// The block step for q half bytes from the half byte `first` on: straight from the piece if they are all there, else from the bytes that they make.
+fn step_at(
     v: u8,
-    s: [u8; STATE_BYTES],
+    w: &mut [u64; 8],
+    held: &[u8],
+    p: usize,
+    piece: &[u8],
+    first: usize,
+    q: usize,
+    table: &[u64],
+)
+    requires { ⌜ (known v ≡ true) × (4 * q ≡ variant v .r) × (p ≤ 2 * length (now held)) × (first ≤ 2 ^ 40) ⌝ }
+    requires { ⌜ TableOf v (now table) ⌝ }
+    ensures { λ _. ⌜ stateInWords (variant v) (now (w .exit))
+        ≡ step (variant v) (stateInWords (variant v) (now (w .entry))) (filled (4 * q) (drop (4 * first) (withOne (heldThen (now (held .entry)) p (now (piece .entry)))))) ⌝ }
+{
+    if is_inside(p, piece.len(), first, q) {
+        words::step_words(v, w, piece, first - p, table);
+        return;
+    }
+    let block = block_at(held, p, piece, first, q);
+    words::step_words(v, w, &block, 0, table);
+}
+
+// The first `count` blocks run through the state of the words.
+pub fn run_words(
+    v: u8,
+    w: &mut [u64; 8],
     held: &[u8],
     p: usize,
     piece: &[u8],
     count: usize,
-) -> [u8; STATE_BYTES]
-    requires { ⌜ known v ≡ true ⌝ }
-    requires { ⌜ Holds v s ⌝ }
-    requires { ⌜ (p ≤ 2 * length (now held)) × (count ≤ 2 ^ 32) ⌝ }
-    ensures { λ r. ⌜ r ≡ packedState (variant v) (run (variant v) (stateIn (variant v) s) (firstBlocks (variant v .r) count (withOne (heldThen (now (held .entry)) p (now (piece .entry)))))) ⌝ }
+    table: &[u64],
+)
+    requires { ⌜ (known v ≡ true) × (p ≤ 2 * length (now held)) × (count ≤ 2 ^ 32) ⌝ }
+    requires { ⌜ TableOf v (now table) ⌝ }
+    ensures { λ _. ⌜ stateInWords (variant v) (now (w .exit))
+        ≡ run (variant v) (stateInWords (variant v) (now (w .entry))) (firstBlocks (variant v .r) count (withOne (heldThen (now (held .entry)) p (now (piece .entry))))) ⌝ }
 {
     let q = (sizes::block_bits(v) / 4) as usize;
-    let mut at = s;
-    for j in 0..count {
-        let block = block_at(held, p, piece, j * q, q);
-        let next = step::stepped(v, at, block);
-        at = next;
+    let mut j: usize = 0;
+    while j < count {
+        step_at(v, w, held, p, piece, j * q, q, table);
+        j += 1;
     }
-    at
 }

@@ -2,9 +2,11 @@
 pub mod blocks;
 pub mod images;
 mod matrix;
+pub mod outcome;
 pub mod sizes;
 pub mod squeeze;
 pub mod step;
+pub mod words;
 
 pub use images::permute;
 pub use images::unpermute;

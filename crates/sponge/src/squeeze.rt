@@ -1,74 +1,52 @@
-// The digest out of an end state.
+// The digest out of an end state in words.
 ghost use mathlib.Core.Path.{_≡_};
 ghost use mathlib.Core.Bool.{true};
 ghost use mathlib.Core.List.{_++_};
 ghost use Prim.Native.Nat.{_+_, _-_, _*_, _≤_, _<_};
-ghost use lib.ListN.{take};
-ghost use Rattle.standard.specs.Bits.{high-first, bitsOf, bitsIn, pack, unpack};
-ghost use Rattle.standard.specs.Sponge.{squeezed, stateIn};
+ghost use lib.ListN.{length, take};
+ghost use Rattle.standard.specs.Bits.{high-first, bitsIn, pack, unpack};
+ghost use Rattle.standard.specs.Sponge.{squeezed};
 ghost use Rattle.standard.specs.Variants.{variant, known};
-ghost use Rattle.sponge.specs.Layout.{digestRoom, Holds};
-use crate::matrix;
+ghost use Rattle.sponge.specs.Layout.{stateRoom};
+ghost use Rattle.sponge.specs.Words.{stateInWords, TableOf};
+use crate::blocks;
 use crate::sizes;
-use crate::sizes::DIGEST_BYTES;
+use crate::sizes::BLOCK_BYTES;
 use crate::sizes::STATE_BYTES;
-use crate::step;
-use crate::step::Direction;
+use crate::words;
 
-// The half byte x behind the first p half bytes, which are all that the bytes hold.
-fn with_half(out: [u8; DIGEST_BYTES], p: usize, x: u8) -> [u8; DIGEST_BYTES]
-    requires { ⌜ (p < 64) × (x < 16) ⌝ }
-    requires { ⌜ out ≡ pack high-first digestRoom (unpack high-first (4 * p) out) ⌝ }
-    ensures { λ r. ⌜ r ≡ pack high-first digestRoom (unpack high-first (4 * p) out ++ bitsOf high-first 4 x) ⌝ }
+// The first q half bytes of s behind the first p half bytes.
+fn put_front(out: &mut [u8], p: usize, s: &[u8], q: usize)
+    requires { ⌜ (length (now out) ≡ stateRoom) × (length (now s) ≡ stateRoom) × (p + q ≤ 64) ⌝ }
+    requires { ⌜ now out ≡ pack high-first stateRoom (unpack high-first (4 * p) (now out)) ⌝ }
+    ensures { λ _. ⌜ now (out .exit) ≡ pack high-first stateRoom (unpack high-first (4 * p) (now (out .entry)) ++ take (4 * q) (bitsIn high-first (now (s .entry)))) ⌝ }
 {
-    let mut r = out;
-    let k = p / 2;
-    if p % 2 == 0 {
-        r[k] = r[k] ^ (x * 16);
-        return r;
-    }
-    r[k] = r[k] ^ x;
-    r
-}
-
-// The first q half bytes of a state behind the first p half bytes.
-fn with_front(
-    out: [u8; DIGEST_BYTES],
-    p: usize,
-    s: [u8; STATE_BYTES],
-    q: usize,
-) -> [u8; DIGEST_BYTES]
-    requires { ⌜ (p + q ≤ 64) × (q ≤ 64) ⌝ }
-    requires { ⌜ out ≡ pack high-first digestRoom (unpack high-first (4 * p) out) ⌝ }
-    ensures { λ r. ⌜ r ≡ pack high-first digestRoom (unpack high-first (4 * p) out ++ take (4 * q) (bitsIn high-first s)) ⌝ }
-{
-    let mut r = out;
-    let mut i = 0;
+    let mut i: usize = 0;
     while i < q {
-        let next = with_half(r, p + i, matrix::cell_of(4, s, i));
-        r = next;
+        words::put_half(out, p + i, blocks::half_of(s[i / 2], i));
         i += 1;
     }
-    r
 }
 
-// The digest squeezed out of an end state, zeros behind it: whole output blocks with the permutation after each, and what the last has to give.
-pub fn squeezed(v: u8, s: [u8; STATE_BYTES]) -> [u8; DIGEST_BYTES]
+// The digest squeezed out of the state of the words, zeros behind it: whole output blocks with the permutation after each, which is the step of a block of zeros, and
+// what the last has to give.
+pub fn squeezed(v: u8, w: &mut [u64; 8], table: &[u64]) -> [u8; STATE_BYTES]
     requires { ⌜ known v ≡ true ⌝ }
-    requires { ⌜ Holds v s ⌝ }
-    ensures { λ r. ⌜ r ≡ pack high-first digestRoom (squeezed (variant v) (stateIn (variant v) s)) ⌝ }
+    requires { ⌜ TableOf v (now table) ⌝ }
+    ensures { λ r. ⌜ r ≡ pack high-first stateRoom (squeezed (variant v) (stateInWords (variant v) (now (w .entry)))) ⌝ }
 {
     let n = sizes::digest_bytes(v) * 2;
     let q = sizes::output_halves(v);
-    let mut out = [0u8; DIGEST_BYTES];
-    let mut at = s;
-    let mut p = 0;
+    let none = [0u8; BLOCK_BYTES];
+    let mut out = [0u8; STATE_BYTES];
+    let mut p: usize = 0;
     while p + q < n {
-        let more = with_front(out, p, at, q);
-        out = more;
-        let next = step::permuted(v, at, Direction::Forward);
-        at = next;
+        let s = words::front_of(v, w);
+        put_front(&mut out, p, &s, q);
+        words::step_words(v, w, &none, 0, table);
         p += q;
     }
-    with_front(out, p, at, n - p)
+    let s = words::front_of(v, w);
+    put_front(&mut out, p, &s, n - p);
+    out
 }

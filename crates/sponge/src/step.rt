@@ -6,7 +6,6 @@ ghost use lib.ListN.{length};
 ghost use Rattle.standard.specs.Bits.{Order, bitsIn, xorInto};
 ghost use Rattle.standard.specs.Rounds.{direction};
 ghost use Rattle.standard.specs.Sponge.{permutation, startState, unstep, stateIn};
-ghost use Rattle.standard.specs.Chain.{step};
 ghost use Rattle.standard.specs.Variants.{variant, known};
 ghost use Rattle.sponge.specs.Layout.{stateRoom, packedState, blockIn, Holds, HoldsBlock};
 ghost use Rattle.sponge.specs.Directions.{directionOf};
@@ -56,17 +55,6 @@ pub fn permuted(v: u8, s: [u8; STATE_BYTES], way: Direction) -> [u8; STATE_BYTES
         return matrix::permuted(v as usize, s, back);
     }
     spongent::permuted(v as usize, s, back)
-}
-
-// The block step on the bytes that hold a state and a block.
-pub fn stepped(v: u8, s: [u8; STATE_BYTES], b: [u8; BLOCK_BYTES]) -> [u8; STATE_BYTES]
-    requires { ⌜ known v ≡ true ⌝ }
-    requires { ⌜ Holds v s ⌝ }
-    requires { ⌜ HoldsBlock v b ⌝ }
-    ensures { λ r. ⌜ r ≡ packedState (variant v) (step (variant v) (stateIn (variant v) s) (blockIn (variant v) b)) ⌝ }
-{
-    let taken = xored(s, &b);
-    permuted(v, taken, Direction::Forward)
 }
 
 // The block step taken back.

@@ -1,0 +1,16 @@
+-- `sponge::outcome::outcome_shares` meets its contract: its table is the one that PHOTON's last variant looks up. Assumes nothing.
+use mathlib.Core.Path.{refl}
+use native.Mathlib.Omega.{arith}
+use borrow.Author.Needs.{needs}
+use Rattle.sponge.proofs.outcome.outcome_shares.Statement.{statement}
+use Rattle.sponge.proofs.outcome.outcome_shares.Tie as tie
+
+outcome-with-requires : tie.Need-outcome-with-requires
+outcome-with-requires c κs =
+    let pre = c .before .before .before .before .pre in (
+      (refl, pre .0, pre .1),
+      record { pairs = λ h. absurd (omega arith); shares = λ e. (omega arith, c .before .entries-288 .ensures); spread = λ h. absurd (omega arith) },
+    )
+
+pub outcome-shares-spec : {M : Type 1} → statement M
+outcome-shares-spec = tie.close (tie.spec (λ c κs. search needs) (λ c. search needs) outcome-with-requires (λ c. search needs))

@@ -1,0 +1,34 @@
+-- States in words, as the look-ups of each family hold them, and the tables that they look up.
+-- Assumes nothing.
+use mathlib.Core.Path.{_≡_}
+use mathlib.Core.Bool.{Bool, cond}
+use mathlib.Core.List.{List}
+use Prim.Native.Nat.{ℕ, _≤_}
+use lib.ListN.{length}
+use Rattle.standard.specs.Bits.{low-first, high-first, unpack, pack}
+use Rattle.standard.specs.Photon.{bitsOfMatrix}
+use Rattle.standard.specs.Sponge.{Family, photon, spongent, Variant, squeezed}
+use Rattle.shares.specs.Columns.{matrixOfWords, placeOf}
+use Rattle.shares.specs.Tables.{Entries, Pairs}
+use Rattle.photon.specs.Parameters.{photonOf}
+use Rattle.spongent.specs.Words.{bytesIn, Spread}
+use Rattle.sponge.specs.Layout.{stateRoom, packedState}
+
+-- by family: PHOTON's matrix has a column in each word, SPONGENT's bytes stand in order, eight to a word
+abbrev pub stateOfWords : Family → List ℕ → List Bool
+stateOfWords (photon p) words = bitsOfMatrix (p .s) (matrixOfWords (placeOf p) p words)
+stateOfWords (spongent p) words = unpack low-first (p .t) (bytesIn words)
+
+-- the state of a variant that words hold
+unfoldable pub stateInWords : Variant → List ℕ → List Bool
+stateInWords H words = stateOfWords (H .family) words
+
+-- the table that the block step of the variant v looks up
+pub record TableOf (v : ℕ) (table : List ℕ) : Type 0 where
+  pub pairs : v ≤ 4 → Pairs (photonOf v) table
+  pub shares : v ≡ 5 → (length table ≡ 1552) × Entries 1552 (photonOf 5) table
+  pub spread : 6 ≤ v → (length table ≡ 2188) × Spread v table
+
+-- the digest that is squeezed out of a state, or the state itself, at the front of bytes that have room for either
+abbrev pub outcome : Variant → Bool → List Bool → List ℕ
+outcome H digest s = cond digest (pack high-first stateRoom (squeezed H s)) (packedState H s)

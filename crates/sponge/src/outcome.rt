@@ -1,0 +1,131 @@
+// A state after a row of blocks, or the digest that it gives: the tables are made once for all of it, and the state stays in words until the end.
+ghost use mathlib.Core.Path.{_≡_};
+ghost use mathlib.Core.Bool.{true, false};
+ghost use Prim.Native.Nat.{_*_, _^_, _≤_};
+ghost use lib.ListN.{length};
+ghost use Rattle.standard.specs.Sponge.{stateIn};
+ghost use Rattle.standard.specs.Chain.{run};
+ghost use Rattle.standard.specs.Variants.{variant, known};
+ghost use Rattle.sponge.specs.Layout.{packedState, Holds};
+ghost use Rattle.sponge.specs.Blocks.{heldThen, withOne, firstBlocks};
+ghost use Rattle.sponge.specs.Words.{TableOf, outcome};
+use crate::blocks;
+use crate::sizes::STATE_BYTES;
+use crate::squeeze;
+use crate::words;
+
+// With the table of the variant at hand.
+fn outcome_with(
+    v: u8,
+    s: [u8; STATE_BYTES],
+    held: &[u8],
+    p: usize,
+    piece: &[u8],
+    count: usize,
+    digest: bool,
+    table: &[u64],
+) -> [u8; STATE_BYTES]
+    requires { ⌜ (known v ≡ true) × (p ≤ 2 * length (now held)) × (count ≤ 2 ^ 32) ⌝ }
+    requires { ⌜ TableOf v (now table) ⌝ }
+    ensures { λ r. ⌜ r ≡ outcome (variant v) digest (run (variant v) (stateIn (variant v) s) (firstBlocks (variant v .r) count (withOne (heldThen (now (held .entry)) p (now (piece .entry)))))) ⌝ }
+{
+    let mut w = words::words_of(v, s);
+    blocks::run_words(v, &mut w, held, p, piece, count, table);
+    if digest {
+        return squeeze::squeezed(v, &mut w, table);
+    }
+    words::bytes_of(v, &w)
+}
+
+// Each table is as large as it has to be, and lies in a function of its own: a call needs the room of its family's alone.
+
+fn outcome_pairs(
+    v: u8,
+    s: [u8; STATE_BYTES],
+    held: &[u8],
+    p: usize,
+    piece: &[u8],
+    count: usize,
+    digest: bool,
+) -> [u8; STATE_BYTES]
+    requires { ⌜ (1 ≤ v) × (v ≤ 4) × (p ≤ 2 * length (now held)) × (count ≤ 2 ^ 32) ⌝ }
+    ensures { λ r. ⌜ r ≡ outcome (variant v) digest (run (variant v) (stateIn (variant v) s) (firstBlocks (variant v .r) count (withOne (heldThen (now (held .entry)) p (now (piece .entry)))))) ⌝ }
+{
+    let mut table = [0u64; 1040];
+    photon::words::fill_pairs(v as usize, &mut table);
+    outcome_with(v, s, held, p, piece, count, digest, &table)
+}
+
+fn outcome_shares(
+    s: [u8; STATE_BYTES],
+    held: &[u8],
+    p: usize,
+    piece: &[u8],
+    count: usize,
+    digest: bool,
+) -> [u8; STATE_BYTES]
+    requires { ⌜ (p ≤ 2 * length (now held)) × (count ≤ 2 ^ 32) ⌝ }
+    ensures { λ r. ⌜ r ≡ outcome (variant 5) digest (run (variant 5) (stateIn (variant 5) s) (firstBlocks (variant 5 .r) count (withOne (heldThen (now (held .entry)) p (now (piece .entry)))))) ⌝ }
+{
+    let table = photon::words::entries_288();
+    outcome_with(5, s, held, p, piece, count, digest, &table)
+}
+
+fn outcome_spread(
+    v: u8,
+    s: [u8; STATE_BYTES],
+    held: &[u8],
+    p: usize,
+    piece: &[u8],
+    count: usize,
+    digest: bool,
+) -> [u8; STATE_BYTES]
+    requires { ⌜ (6 ≤ v) × (v ≤ 10) × (p ≤ 2 * length (now held)) × (count ≤ 2 ^ 32) ⌝ }
+    ensures { λ r. ⌜ r ≡ outcome (variant v) digest (run (variant v) (stateIn (variant v) s) (firstBlocks (variant v .r) count (withOne (heldThen (now (held .entry)) p (now (piece .entry)))))) ⌝ }
+{
+    let mut table = [0u64; 2188];
+    spongent::words::fill_table(v as usize, &mut table);
+    outcome_with(v, s, held, p, piece, count, digest, &table)
+}
+
+// The state after the first `count` blocks, or the digest that is squeezed out of it.
+pub fn outcome_after(
+    v: u8,
+    s: [u8; STATE_BYTES],
+    held: &[u8],
+    p: usize,
+    piece: &[u8],
+    count: usize,
+    digest: bool,
+) -> [u8; STATE_BYTES]
+    requires { ⌜ (known v ≡ true) × (p ≤ 2 * length (now held)) × (count ≤ 2 ^ 32) ⌝ }
+    ensures { λ r. ⌜ r ≡ outcome (variant v) digest (run (variant v) (stateIn (variant v) s) (firstBlocks (variant v .r) count (withOne (heldThen (now (held .entry)) p (now (piece .entry)))))) ⌝ }
+{
+    if v <= 4 {
+        return outcome_pairs(v, s, held, p, piece, count, digest);
+    }
+    if v == 5 {
+        return outcome_shares(s, held, p, piece, count, digest);
+    }
+    outcome_spread(v, s, held, p, piece, count, digest)
+}
+
+// The state after the first `count` blocks. A piece that fills no block needs no table.
+pub fn run_blocks(
+    v: u8,
+    s: [u8; STATE_BYTES],
+    held: &[u8],
+    p: usize,
+    piece: &[u8],
+    count: usize,
+) -> [u8; STATE_BYTES]
+    requires { ⌜ known v ≡ true ⌝ }
+    requires { ⌜ Holds v s ⌝ }
+    requires { ⌜ (p ≤ 2 * length (now held)) × (count ≤ 2 ^ 32) ⌝ }
+    ensures { λ r. ⌜ r ≡ packedState (variant v) (run (variant v) (stateIn (variant v) s) (firstBlocks (variant v .r) count (withOne (heldThen (now (held .entry)) p (now (piece .entry)))))) ⌝ }
+{
+    if count == 0 {
+        return s;
+    }
+    outcome_after(v, s, held, p, piece, count, false)
+}
