@@ -8,7 +8,7 @@ use lib.Dec.{ltb}
 use lib.ListN.{length, take, drop}
 use borrow.Author.Tests.{ltb-false, not-true, lt-ltb, le-ltb}
 use native.Mathlib.Omega.{arith}
-use Rattle.standard.specs.Chain.{messageBits}
+use Rattle.standard.specs.Chain.{messageBits, run, endState}
 use Rattle.standard.specs.Variants.{known, variant}
 use Rattle.answers.specs.declared.Refusal.{Refusal}
 use Rattle.answers.specs.declared.Refusal.the-variants.{UnknownVariant, TooLong}
@@ -22,13 +22,16 @@ use Rattle.standard.specs.Bits.{high-first, pack}
 use Rattle.standard.specs.Sponge.{Variant, order, squeezed, imageSize, imageOf}
 use Rattle.standard.proofs.BitLaws.{length-pack, take-pack}
 use Rattle.standard.proofs.Variants.{Bounds, bounds}
-use Rattle.sponge.specs.Layout.{stateRoom, digestRoom, packedState}
+use Rattle.sponge.specs.Layout.{stateRoom, packedState}
+use Rattle.sponge.specs.Words.{outcome}
+use Rattle.sponge.specs.Blocks.{firstBlocks}
+use Rattle.sponge.proofs.BlockRuns.{run-start}
 use Rattle.hasher.specs.declared.Hasher.{Hasher}
 use Rattle.hasher.specs.declared.Advanced.{Advanced}
 use Rattle.hasher.specs.Running.{closed, Open, blank, fresh, grown, ended, updateChecks, finishChecks, startedOver, started, updated, finished, variantOf, wellFormed}
 use Rattle.hasher.specs.declared.Wanted.{Wanted}
 use Rattle.hasher.specs.declared.Wanted.the-variants.{Digest, EndState}
-use Rattle.hasher.specs.Reading.{resultOf, resultSize, readChecks, readStatus, wholeChecks}
+use Rattle.hasher.specs.Reading.{resultOf, resultSize, isDigest, readChecks, readStatus, wholeChecks, wholeStatus, wholeInto}
 
 abbrev pub done : Hasher → Advanced
 done h = record { status = Done; hasher = h }
@@ -89,6 +92,11 @@ unfolding imageOf
 result-length H Digest s = length-pack high-first (H .n / 8) (squeezed H s)
 result-length H EndState s = length-pack (order H) (imageSize H) s
 
+-- a row of no blocks leaves the state that it began with
+pub no-blocks : (v : ℕ) → known v ≡ true → (s bs : List Bool) (bytes : List ℕ) → bytes ≡ outcome (variant v) true (run (variant v) s (firstBlocks (variant v .r) 0 bs))
+    → bytes ≡ pack high-first stateRoom (squeezed (variant v) s)
+no-blocks v k s bs bytes e = e ∙ ap (outcome (variant v) true) (sym (run-start v k s bs))
+
 -- ---- the first n bytes of what the code holds are the result
 
 module _ (v : ℕ) (k : known v ≡ true) (wanted : Wanted) (n : ℕ) (en : n ≡ resultSize (variant v) wanted) where
@@ -98,21 +106,32 @@ module _ (v : ℕ) (k : known v ≡ true) (wanted : Wanted) (n : ℕ) (en : n �
   b : Bounds H
   b = bounds v k
 
-  pub digest-fits : wanted ≡ Digest → n ≤ digestRoom
-  digest-fits e = omega (arith, en ∙ ap (resultSize H) e, b .digest-most)
+  -- there is room for either
+  pub result-fits : n ≤ stateRoom
+  result-fits = omega (arith, en, most-of wanted)
+    where
+      most-of : (w : Wanted) → resultSize H w ≤ stateRoom
+      most-of Digest = omega (arith, b .digest-most)
+      most-of EndState = b .image-most
 
-  pub image-fits : wanted ≡ EndState → n ≤ stateRoom
-  image-fits e = omega (arith, en ∙ ap (resultSize H) e, b .image-most)
+  -- the first bytes of an outcome of a row of blocks
+  pub outcome-front : (s : List Bool) (bytes : List ℕ) → bytes ≡ outcome (variant v) (isDigest wanted) s → take (resultSize (variant v) wanted) bytes ≡ resultOf (variant v) wanted s
+  unfolding imageOf
+  outcome-front s bytes eb = go wanted eb
+    where
+      go : (w : Wanted) → bytes ≡ outcome H (isDigest w) s → take (resultSize H w) bytes ≡ resultOf H w s
+      go Digest e = ap (take (H .n / 8)) e ∙ take-pack high-first (H .n / 8) stateRoom (squeezed H s) (omega (arith, b .digest-most))
+      go EndState e = ap (take (imageSize H)) e ∙ take-pack (order H) (imageSize H) stateRoom s (b .image-most)
 
   module _ (s : List Bool) (bytes out after : List ℕ) (ea : after ≡ take n bytes ++ drop n out) where
-    fronted : take n bytes ≡ resultOf H wanted s → after ≡ written Done (resultOf H wanted s) out
+    pub fronted : take n bytes ≡ resultOf H wanted s → after ≡ written Done (resultOf H wanted s) out
     fronted er = ea ∙ ap₂ (λ (x y : List ℕ). x ++ y) er (ap (λ (i : ℕ). drop i out) (en ∙ sym (result-length H wanted s)))
 
-    pub digest-front : wanted ≡ Digest → bytes ≡ pack high-first digestRoom (squeezed (variant v) s) → after ≡ written Done (resultOf (variant v) wanted s) out
+    pub digest-front : wanted ≡ Digest → bytes ≡ pack high-first stateRoom (squeezed (variant v) s) → after ≡ written Done (resultOf (variant v) wanted s) out
     digest-front e eb =
         fronted
         (ap₂ take (en ∙ ap (resultSize H) e) eb
-        ∙ take-pack high-first (H .n / 8) digestRoom (squeezed H s) (omega (arith, b .digest-most))
+        ∙ take-pack high-first (H .n / 8) stateRoom (squeezed H s) (omega (arith, b .digest-most))
         ∙ ap (λ (w : Wanted). resultOf H w s) (sym e))
 
     pub image-front : wanted ≡ EndState → bytes ≡ packedState (variant v) s → after ≡ written Done (resultOf (variant v) wanted s) out
@@ -122,6 +141,15 @@ module _ (v : ℕ) (k : known v ≡ true) (wanted : Wanted) (n : ℕ) (en : n �
         (ap₂ take (en ∙ ap (resultSize H) e) eb
         ∙ take-pack (order H) (imageSize H) stateRoom s (b .image-most)
         ∙ ap (λ (w : Wanted). resultOf H w s) (sym e))
+
+    -- all of a message, read of what is at the front of its outcome
+    pub whole-read : (m : List ℕ) → s ≡ endState (variant v) (messageBits m) → wholeStatus v m wanted (length out) ≡ Done
+        → take (resultSize (variant v) wanted) bytes ≡ resultOf (variant v) wanted s → (Done ≡ wholeStatus v m wanted (length out)) × (after ≡ wholeInto v m wanted out)
+    unfolding wholeInto
+    whole-read m es done er = (
+      sym done,
+      fronted (ap (λ (i : ℕ). take i bytes) en ∙ er) ∙ ap₂ (λ (t : Status) (x : List Bool). written t (resultOf H wanted x) out) (sym done) es,
+    )
 
 -- ---- a read
 

@@ -5,6 +5,7 @@ pub mod Next
 pub mod Calls
 pub mod Message
 pub mod TakenBlocks
+pub mod WholeRuns
 pub mod Keeps
 pub mod UpdateAppend
 pub mod ByteByByte

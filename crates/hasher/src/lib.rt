@@ -2,16 +2,16 @@
 ghost use mathlib.Core.Path.{_≡_};
 ghost use mathlib.Core.Bool.{true};
 ghost use Prim.Native.Nat.{_+_, _≤_};
-ghost use lib.ListN.{length};
+ghost use lib.ListN.{length, take};
 ghost use Rattle.standard.specs.Sponge.{stateIn};
-ghost use Rattle.standard.specs.Chain.{messageBits};
+ghost use Rattle.standard.specs.Chain.{messageBits, endState};
 ghost use Rattle.standard.specs.Variants.{variant, known};
 ghost use Rattle.answers.specs.declared.Status.the-variants.{Done};
 ghost use Rattle.answers.specs.Checks.{firstRefusal};
 ghost use Rattle.answers.specs.Outputs.{written, most};
 ghost use Rattle.sponge.specs.Layout.{Holds};
 ghost use Rattle.hasher.specs.Running.{heldCount, wellFormed, Open, fresh, grown, ended, updateChecks, finishChecks, startedOver, started, updated, finished};
-ghost use Rattle.hasher.specs.Reading.{resultOf, resultSize, readStatus, readInto, wholeChecks, wholeStatus, wholeInto};
+ghost use Rattle.hasher.specs.Reading.{resultOf, resultSize, isDigest, readStatus, readInto, wholeChecks, wholeStatus, wholeInto};
 ghost use Rattle.hasher.specs.declared.Wanted.the-variants.{Digest, EndState};
 use answers::MOST;
 use answers::Refusal;
@@ -186,7 +186,7 @@ fn grown(h: Hasher, piece: &[u8]) -> Hasher
         total: h.total + piece.len() as u32,
         variant: v,
         stage: h.stage,
-        state: sponge::blocks::run_blocks(v, state, &held, p, piece, count),
+        state: sponge::outcome::run_blocks(v, state, &held, p, piece, count),
         held: sponge::blocks::block_at(&held, p, piece, count * q, n % q),
     }
 }
@@ -224,7 +224,7 @@ fn ended(h: Hasher) -> Hasher
         total: h.total,
         variant: v,
         stage: 1,
-        state: sponge::blocks::run_blocks(v, state, &held, p, &none, 1),
+        state: sponge::outcome::run_blocks(v, state, &held, p, &none, 1),
         held: [0u8; BLOCK_BYTES],
     }
 }
@@ -268,7 +268,8 @@ fn write_result(v: u8, wanted: Wanted, state: [u8; STATE_BYTES], out: &mut [u8])
     let n = result_size(v, wanted);
     match wanted {
         Wanted::Digest => {
-            let digest = sponge::squeeze::squeezed(v, state);
+            let none: [u8; 0] = [];
+            let digest = sponge::outcome::outcome_after(v, state, &none, 0, &none, 0, true);
             sponge::images::copy_front(&digest, n, out);
         }
         Wanted::EndState => sponge::images::copy_front(&state, n, out),
@@ -318,6 +319,30 @@ pub fn check_whole(variant: u32, n: usize, wanted: Wanted, room: usize) -> Statu
     Status::Done
 }
 
+// Whether the digest is wanted.
+fn is_digest(wanted: Wanted) -> bool
+    ensures { λ r. ⌜ r ≡ isDigest wanted ⌝ }
+{
+    match wanted {
+        Wanted::Digest => true,
+        Wanted::EndState => false,
+    }
+}
+
+// What is wanted of a message's end state, at the front of bytes that have room for either: the padded blocks in one run, for which a table is made but once.
+fn end_of(v: u8, message: &[u8], wanted: Wanted) -> [u8; STATE_BYTES]
+    requires { ⌜ known v ≡ true ⌝ }
+    requires { ⌜ length (now message) ≤ most ⌝ }
+    ensures { λ r. ⌜ take (resultSize (variant v) wanted) r ≡ resultOf (variant v) wanted (endState (variant v) (messageBits (now (message .entry)))) ⌝ }
+{
+    let q = (sponge::sizes::block_bits(v) / 4) as usize;
+    let count = 2 * message.len() / q + 1;
+    let none: [u8; 0] = [];
+    let start = sponge::step::start(v);
+    let digest = is_digest(wanted);
+    sponge::outcome::outcome_after(v, start, &none, 0, message, count, digest)
+}
+
 // A whole message: what is wanted of its end state. Refusals 1, 4, 5.
 pub fn whole(variant: u32, message: &[u8], wanted: Wanted, out: &mut [u8]) -> Status
     ensures { λ r. ⌜ (r ≡ wholeStatus variant (now (message .entry)) wanted (length (now (out .entry))))
@@ -325,10 +350,10 @@ pub fn whole(variant: u32, message: &[u8], wanted: Wanted, out: &mut [u8]) -> St
 {
     let status = check_whole(variant, message.len(), wanted, out.len());
     if let Status::Done = status {
-        let s = start(variant);
-        let u = update(s.hasher, message);
-        let f = finish(u.hasher);
-        return read(f.hasher, wanted, out);
+        let v = variant as u8;
+        let result = end_of(v, message, wanted);
+        sponge::images::copy_front(&result, result_size(v, wanted), out);
+        return Status::Done;
     }
     status
 }

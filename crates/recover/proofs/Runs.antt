@@ -98,7 +98,7 @@ module _ (v : ℕ) (k : known v ≡ true) (m : List ℕ) where
     back-more q eq j s held x next l es ex en =
         let B : List Bool = filled (H .r) (drop (j * H .r) (withOne M)) in
         let block : x ≡ packedBlock B =
-        block-is v k q eq x (withOne (heldThen held 0 m)) j ex ∙ ap (λ (z : List Bool). packedBlock (filled (H .r) (drop (j * H .r) (withOne z)))) (heldThen-alone held m) in
+        ex ∙ ap packedBlock (block-is v k q eq (withOne (heldThen held 0 m)) j) ∙ ap (λ (z : List Bool). packedBlock (filled (H .r) (drop (j * H .r) (withOne z)))) (heldThen-alone held m) in
         en
         ∙ ap₂ (λ (y z : List Bool). packedState H (unstep H y z)) (stored v k s (before (j + 1)) (before-size (j + 1)) es)
         (block-read v k x B (length-filled (H .r) (drop (j * H .r) (withOne M))) block ∙ sym (block-at j l))

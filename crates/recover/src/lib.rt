@@ -66,7 +66,7 @@ fn difference(v: u8, message: &[u8], place: usize, end: [u8; STATE_BYTES]) -> [u
     ensures { λ r. ⌜ r ≡ packedState (variant v) (difference (variant v) (messageBits (now (message .entry))) place (stateIn (variant v) end)) ⌝ }
 {
     let start = step::start(v);
-    let before = blocks::run_blocks(v, start, b"", 0, message, place);
+    let before = sponge::outcome::run_blocks(v, start, b"", 0, message, place);
     let behind = run_back(v, message, place, end);
     let wanted = step::permuted(v, behind, Direction::Backward);
     step::xored(before, &wanted)

@@ -1,25 +1,44 @@
--- `hasher::whole` meets its contract: the checks, and then the calls one after another. Assumes nothing.
-use mathlib.Core.Path.{sym, _∙_}
+-- `hasher::whole` meets its contract: the checks, and then one run. Assumes nothing.
+use mathlib.Core.Path.{_≡_, refl, sym, _∙_}
 use lib.ListN.{length}
+use native.Mathlib.Omega.{arith}
 use borrow.Author.Needs.{needs}
+use Rattle.standard.proofs.Variants.{known-high}
+use Rattle.answers.specs.declared.Status.the-variants.{Done}
 use Rattle.hasher.specs.Reading.{wholeStatus, wholeInto}
-use Rattle.hasher.proofs.Calls.{whole-says}
-use Rattle.hasher.proofs.Message.{calls-read}
+use Rattle.hasher.proofs.Calls.{Hashable, whole-says, result-fits, whole-read}
 use Rattle.hasher.proofs.whole.Statement.{statement}
 use Rattle.hasher.proofs.whole.Tie as tie
 
+module _ (c : tie.After-enum-told) where
+  abbrev entry : tie.Start
+  entry = c .before .before .before .before .before
+
+  passed : wholeStatus (entry .args .variant) (entry .args .message .now) (entry .args .wanted) (length (entry .args .out .now)) ≡ Done
+  unfolding wholeStatus
+  passed = sym (c .before .before .check-whole .ensures) ∙ c .enum-told .given .1
+
+  hashable : Hashable (entry .args .variant) (length (entry .args .message .now)) (entry .args .wanted) (length (entry .args .out .now))
+  unfolding wholeStatus
+  hashable = whole-says (entry .args .variant) (length (entry .args .message .now)) (entry .args .wanted) (length (entry .args .out .now)) passed
+
+cast-v : tie.Need-cast-v
+cast-v c = omega (arith, known-high (entry c .args .variant) (hashable c .named))
+
+copy-front-requires : tie.Need-copy-front-requires
+copy-front-requires c κs =
+    let told = c .before .before .before .before in
+    let a = entry told .args in
+    let n = c .before .result-size in
+    (omega (arith, result-fits (a .variant) (hashable told .named) (a .wanted) _ (n .ensures)), omega (arith, n .ensures, hashable told .room))
+
 returns : tie.Need-returns
 returns c =
-    let call = c .before .before in
-    let f = call .before .before in
-    let u = f .before in
-    let s = u .before in
-    let told = s .before in
-    let check = told .before .before in
-    let a = check .before .before .before .args in
-    let w = whole-says (a .variant) (length (a .message .now)) (a .wanted) (length (a .out .now)) (sym (check .check-whole .ensures) ∙ told .enum-told .given .1) in
-    calls-read (a .variant) (w .named) (a .message .now) (w .few) (a .wanted) (a .out .now) (s .start .result) (u .update .result) (f .finish .result) _ _
-    (s .start .ensures) (u .update .ensures) (f .finish .ensures) (call .read .ensures)
+    let copy = c .before .before in
+    let told = copy .before .before .before .before .before in
+    let n = copy .before .before .result-size in
+    let a = entry told .args in
+    whole-read (a .variant) (hashable told .named) (a .wanted) (n .result) (n .ensures) _ _ (a .out .now) _ (copy .copy-front .ensures) (a .message .now) refl (passed told) (copy .before .before .before .before .end-of .ensures)
 
 returns-2 : tie.Need-returns-2
 unfolding wholeStatus wholeInto
@@ -29,5 +48,5 @@ returns-2 c =
 
 pub whole-spec : {M : Type 1} → statement M
 whole-spec =
-    tie.close (tie.spec (λ c κs. search needs) (λ c. search needs) (λ c κs. search needs) (λ c κs. search needs) (λ c κs. search needs)
-    (λ c κs. search needs) (λ c. search needs) returns (λ c. search needs) returns-2)
+    tie.close (tie.spec (λ c κs. search needs) (λ c. search needs) cast-v (λ c κs. (hashable c .named, hashable c .few)) (λ c. search needs)
+    (λ c κs. search needs) copy-front-requires (λ c. search needs) returns (λ c. search needs) returns-2)

@@ -1,32 +1,29 @@
 -- `hasher::write_result` meets its contract: the front of the digest's bytes, or of the state's. Assumes nothing.
 use native.Mathlib.Omega.{arith}
 use borrow.Author.Needs.{needs}
-use Rattle.hasher.proofs.Calls.{digest-fits, image-fits, digest-front, image-front}
+use Rattle.hasher.proofs.Calls.{result-fits, no-blocks, digest-front, image-front}
 use Rattle.hasher.proofs.write_result.Statement.{statement}
 use Rattle.hasher.proofs.write_result.Tie as tie
 
 copy-front-requires : tie.Need-copy-front-requires
 copy-front-requires c κs =
-    let told = c .before .before .before in
-    let size = told .before .before in
+    let size = c .before .before .before .before .before .before .before in
     let s = size .before .before in
-    (omega (arith, digest-fits (s .args .v) (s .pre .0) (s .args .wanted) _ (size .result-size .ensures) (told .enum-told .given .1)), omega (arith, size .result-size .ensures, s .pre .1 .1))
+    (omega (arith, result-fits (s .args .v) (s .pre .0) (s .args .wanted) _ (size .result-size .ensures)), omega (arith, size .result-size .ensures, s .pre .1 .1))
 
 copy-front-requires-2 : tie.Need-copy-front-requires-2
 copy-front-requires-2 c κs =
-    let told = c .before .before in
-    let size = told .before .before in
+    let size = c .before .before .before .before in
     let s = size .before .before in
-    (omega (arith, image-fits (s .args .v) (s .pre .0) (s .args .wanted) _ (size .result-size .ensures) (told .enum-told2 .given .1)), omega (arith, size .result-size .ensures, s .pre .1 .1))
+    (omega (arith, result-fits (s .args .v) (s .pre .0) (s .args .wanted) _ (size .result-size .ensures)), omega (arith, size .result-size .ensures, s .pre .1 .1))
 
 returns : tie.Need-returns
 returns c =
     let copy = c .before .before in
     let digest = copy .before .before in
-    let told = digest .before .before in
-    let size = told .before .before in
+    let size = digest .before .before .before .before .before .before in
     let s = size .before .before in
-    digest-front (s .args .v) (s .pre .0) (s .args .wanted) _ (size .result-size .ensures) _ _ (s .args .out .now) _ (copy .copy-front .ensures) (told .enum-told .given .1) (digest .before .squeezed .ensures)
+    digest-front (s .args .v) (s .pre .0) (s .args .wanted) _ (size .result-size .ensures) _ _ (s .args .out .now) _ (copy .copy-front .ensures) (digest .before .before .before .before .enum-told .given .1) (no-blocks (s .args .v) (s .pre .0) _ _ _ (digest .before .outcome-after .ensures))
 
 returns-2 : tie.Need-returns-2
 returns-2 c =
@@ -38,5 +35,5 @@ returns-2 c =
 
 pub write-result-spec : {M : Type 1} → statement M
 write-result-spec =
-    tie.close (tie.spec (λ c κs. search needs) (λ c. search needs) (λ c κs. search needs) (λ c. search needs) copy-front-requires
+    tie.close (tie.spec (λ c κs. search needs) (λ c. search needs) (λ c. search needs) (λ c. search needs) (λ c κs. search needs) (λ c. search needs) copy-front-requires
     (λ c. search needs) (λ c. search needs) copy-front-requires-2 (λ c. search needs) returns (λ c. search needs) returns-2)
