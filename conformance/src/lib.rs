@@ -2,8 +2,8 @@
 //! apart: [`wickslate`] calls the archive, [`compare`] makes the same call on
 //! both sides and looks at every lent byte, [`stack`] makes it on a stack of
 //! its own, [`programs`] runs the programs, [`random`], [`make`] and [`faults`]
-//! give the tests their inputs, [`chains`] are digests of digests, [`rows`] are
-//! what a measurement prints.
+//! give the tests their inputs, [`chains`] are digests of digests, [`speed`]
+//! times both sides by turns, [`rows`] are what a measurement prints.
 
 #![warn(missing_docs)]
 
@@ -18,5 +18,6 @@ pub mod programs;
 pub mod random;
 pub mod rows;
 pub mod settings;
+pub mod speed;
 pub mod stack;
 pub mod wickslate;
