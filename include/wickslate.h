@@ -3,8 +3,8 @@
  *
  * C99, C11 and C++. Link with libwickslate.a, which `rt staticlib wickslate`
  * writes to target/staticlib, for x86-64. The archive keeps nothing between
- * calls, uses no heap and needs only memcpy from outside; calls on different
- * memory can run at the same time.
+ * calls, uses no heap and needs only memcpy and memset from outside; calls on
+ * different memory can run at the same time.
  *
  * THE ANSWER. Every function answers with WICKSLATE_DONE, which is 0, or with
  * one refusal: its number in the low byte and, for 10 and 11, the number of an
@@ -230,7 +230,7 @@ WICKSLATE_CALL uint32_t wickslate_start(wickslate_hasher *h, uint32_t variant);
  *
  * Refusals: 2; 3 if closed; 4 if the total would pass 16,777,215.
  * Writes:   `h`, if done. `piece` is only read.
- * Stack:    3,136 bytes.
+ * Stack:    22,528 bytes.
  *
  *     uint32_t answer = wickslate_update(&h, buffer, received);
  *     if (answer == WICKSLATE_TOO_LONG)
@@ -244,7 +244,7 @@ WICKSLATE_CALL uint32_t wickslate_update(wickslate_hasher *h, const uint8_t *pie
  *
  * Refusals: 2; 3 if closed already.
  * Writes:   `h`, if done.
- * Stack:    3,072 bytes.
+ * Stack:    22,528 bytes.
  *
  *     if (wickslate_finish(&h) != WICKSLATE_DONE)
  *         return -1;
@@ -275,7 +275,7 @@ WICKSLATE_CALL uint32_t wickslate_end_state(const wickslate_hasher *h, uint8_t *
  * Refusals: 2; 3 if still open; 5.
  * Writes:   the variant's digest bytes, if done. What lies behind them in
  *           `out` stays, and so does `h`.
- * Stack:    2,624 bytes.
+ * Stack:    22,528 bytes.
  *
  *     uint8_t digest[WICKSLATE_PHOTON_256_DIGEST_BYTES] = {0};
  *     if (wickslate_digest(&h, digest, sizeof digest) == WICKSLATE_DONE)
@@ -290,7 +290,7 @@ WICKSLATE_CALL uint32_t wickslate_digest(const wickslate_hasher *h, uint8_t *out
  * Refusals: 1; 4; 5.
  * Writes:   the result over the front of `out`, if done. What lies behind it
  *           stays. `message` is only read.
- * Stack:    3,520 bytes.
+ * Stack:    22,528 bytes.
  *
  *     uint8_t image[WICKSLATE_MOST_IMAGE_BYTES] = {0};
  *     uint32_t answer = wickslate_whole(WICKSLATE_SPONGENT_176, table, table_length,
@@ -339,7 +339,7 @@ WICKSLATE_CALL uint32_t wickslate_unpermute(uint32_t variant, uint8_t *image, si
  *           no block leads to that state.
  * Writes:   the variant's block bytes over the front of `out`, if done. What
  *           lies behind them stays. `message` and `image` are only read.
- * Stack:    3,200 bytes.
+ * Stack:    22,528 bytes.
  *
  *     uint8_t block[WICKSLATE_MOST_BLOCK_BYTES] = {0};
  *     uint32_t answer = wickslate_recover(WICKSLATE_PHOTON_256, table, table_length, 7,
@@ -412,7 +412,7 @@ WICKSLATE_CALL uint32_t wickslate_check_entry(const uint8_t *list, size_t list_l
  *           of the entry; 4 if the segments together are too long; 5.
  * Writes:   the result over the front of `out`, if done. What lies behind it
  *           stays. `list` and `buffer` are only read.
- * Stack:    3,584 bytes.
+ * Stack:    22,528 bytes.
  *
  *     uint8_t image[WICKSLATE_PHOTON_144_IMAGE_BYTES] = {0};
  *     uint32_t answer = wickslate_digest_list(WICKSLATE_PHOTON_144, list, list_length, buffer, buffer_length,
