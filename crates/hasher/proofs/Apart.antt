@@ -9,13 +9,13 @@ use lib.ListN.{length, take, drop, getD}
 use lib.Seq.{take-at}
 use Rattle.standard.specs.Bits.{high-first}
 use Rattle.standard.specs.Sponge.{Variant, imageSize, imageOf}
-use Rattle.standard.specs.Chain.{messageBits, endState}
+use Rattle.standard.specs.Chain.{messageBits, blocksOf, DifferAt, endState}
 use Rattle.standard.specs.Variants.{variant, known}
 use Rattle.standard.specs.Values.{DifferWithin, inOneBlock}
 use Rattle.standard.proofs.BitLaws.{length-bitsIn}
 use Rattle.standard.proofs.Streaming.{end-length}
 use Rattle.standard.proofs.Variants.{streams}
-use Rattle.standard.proofs.OneValue.{value-block, one-changed-part}
+use Rattle.standard.proofs.OneValue.{value-block, one-changed-row, one-changed-part}
 use Rattle.standard.proofs.ImageStates.{imageOf-length, imageOf-injective}
 use Rattle.answers.specs.declared.Status.{Status}
 use Rattle.answers.specs.declared.Status.the-variants.{Done}
@@ -86,6 +86,10 @@ module _ (v : ℕ) (k : known v ≡ true) (x y : List ℕ) where
           → Differ (imageSize H) (hashedInto v xs EndState out) (hashedInto v ys EndState out′)
       pieces xs ys ex ey out out′ l l′ e =
           whole out out′ l l′ (ap (take (imageSize H)) (cut xs x ex out) ∙ e ∙ sym (ap (take (imageSize H)) (cut ys y ey out′)))
+
+  -- Two messages of bytes within the limit, of one length or not, whose padded rows have equal count and differ at exactly one block, are told apart.
+  pub row-told : length x ≤ most → length y ≤ most → (i : ℕ) → DifferAt i (blocksOf (variant v) (messageBits x)) (blocksOf (variant v) (messageBits y)) → ToldApart v x y
+  row-told fx fy i d = ends-tell fx fy (one-changed-row v k i (messageBits x) (messageBits y) d)
 
   module _ (few : length x ≤ most) where
     -- Two messages of bytes of equal length within the limit whose bits differ, and only within the block j, are told apart.

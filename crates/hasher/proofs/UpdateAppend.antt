@@ -63,3 +63,9 @@ module _ (h : Hasher) (z : Sized h) (a b : List ℕ) where
       let says = update-says h (length (a ++ b)) e in
       let l : h .total + length a ≤ most = omega (arith, length-append a b) in
       ap (λ (u : Advanced). andThen u (λ g. updated g b)) (update-done h a (says .0) l) ∙ second (says .0) l (says .1)
+
+  -- The running hash after both.
+  pub update-twice : Open h → h .total + length (a ++ b) ≤ most → updated (updated h a .hasher) b .hasher ≡ updated h (a ++ b) .hasher
+  update-twice o m =
+      let l : h .total + length a ≤ most = omega (arith, length-append a b) in
+      ap (λ (u : Advanced). u .hasher) (ap (λ (u : Advanced). updated (u .hasher) b) (update-done h a o l) ∙ second o l m)

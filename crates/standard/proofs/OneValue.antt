@@ -9,7 +9,7 @@ use native.Mathlib.Nat.{add-comm, div-add-mod', mul-comm, mul-assoc, lt-of-mul-l
 use native.Mathlib.Omega.{arith}
 use lib.Dec.{eqb}
 use lib.ListN.{length, take, drop, getD, take-append-drop, length-append, List·getD-eq-default}
-use lib.Seq.{take-all, take-length, take-append-le, drop-append-le, drop-append-add, take-take, drop-drop, take-at}
+use lib.Seq.{take-all, take-length, take-append-le, drop-append-le, drop-append-add, take-take, drop-drop, take-at, drop-at, take-append-add}
 use borrow.Author.Tests.{leb-true, eqb-true}
 use Rattle.standard.specs.Bits.{high-first, pack}
 use Rattle.standard.specs.Sponge.{Variant, startState}
@@ -66,6 +66,17 @@ module _ {A : Type 0} (a m : ℕ) (x y : List A) (d : DifferWithin a m x y) wher
       short : length x < a + m → drop (a + m) (x ++ p) ≡ drop (a + m) (y ++ p)
       short l = past x refl l ∙ sym (past y (sym (d .size)) l)
 
+  -- with equal strings in front of them
+  pub differ-behind : (p : List A) → DifferWithin (length p + a) m (p ++ x) (p ++ y)
+  differ-behind p =
+      let e : length p + a + m ≡ length p + (a + m) = omega arith in
+      record {
+        size = simp (length-append, d .size);
+        differ = λ e. d .differ (sym (drop-at p x (length p) refl) ∙ ap (drop (length p)) e ∙ drop-at p y (length p) refl);
+        before = rw (take-append-add p x a, d .before, take-append-add p y a);
+        behind = rw (e, drop-append-add p x (a + m), d .behind, drop-append-add p y (a + m));
+      }
+
   -- the part itself differs
   pub differ-part : take m (drop a x) ≡ take m (drop a y) → ⊥
   differ-part e = d .differ (parts x ∙ rw (d .before, e, d .behind) (sym (parts y)))
@@ -120,6 +131,15 @@ module _ (r : ℕ) (pos : 0 < r) (j : ℕ) (x y : List Bool) (d : DifferWithin (
 
 -- ---- messages of bits
 
+-- two messages whose rows of blocks have equal count and differ at exactly one place have different end states
+pub changed-row : (H : Variant) → Streams H → IsSponge H → (i : ℕ) (x y : List Bool) → DifferAt i (blocksOf H x) (blocksOf H y) → endState H x ≡ endState H y → ⊥
+unfolding endState
+changed-row H g h i x y d e =
+    let xs : List (List Bool) = blocksOf H x in
+    let ys : List (List Bool) = blocksOf H y in
+    changed-block H g h (startState H) (g .start-length) xs ys i (length xs) (blocks-sized H x) (blocks-sized H y) d (omega arith) .1 (d .within)
+    (rw (take-length xs, take-all (length xs) ys (omega (arith, d .count))) e)
+
 module _ (H : Variant) (g : Streams H) (j : ℕ) (x y : List Bool) (d : DifferWithin (j * H .r) (H .r) x y) where
   -- only the block j changes
   pub changed-bits : DifferAt j (blocksOf H x) (blocksOf H y)
@@ -130,12 +150,7 @@ module _ (H : Variant) (g : Streams H) (j : ℕ) (x y : List Bool) (d : DifferWi
 
   -- and so does the end state
   pub changed-end : IsSponge H → endState H x ≡ endState H y → ⊥
-  unfolding endState
-  changed-end h e =
-      let xs : List (List Bool) = blocksOf H x in
-      let ys : List (List Bool) = blocksOf H y in
-      changed-block H g h (startState H) (g .start-length) xs ys j (length xs) (blocks-sized H x) (blocks-sized H y) changed-bits (omega arith) .1 (changed-bits .within)
-      (rw (take-length xs, take-all (length xs) ys (omega (arith, changed-bits .count))) e)
+  changed-end h = changed-row H g h j x y changed-bits
 
 -- ---- messages of bytes
 
@@ -168,6 +183,11 @@ module _ (x y : List ℕ) (hx : (i : ℕ) → getD x i 0 < 256) (hy : (i : ℕ) 
       (omega (arith, div-add-mod' (8 * p) (H .r))) (omega (arith, fits, div-add-mod' (8 * p) (H .r)))
 
 -- ---- the theorems by number
+
+-- two messages of bits, of one length or not, whose padded rows have equal count and differ at exactly one block
+pub one-changed-row : (v : ℕ) → known v ≡ true → (i : ℕ) (x y : List Bool) → DifferAt i (blocksOf (variant v) x) (blocksOf (variant v) y)
+    → endState (variant v) x ≡ endState (variant v) y → ⊥
+one-changed-row v k = changed-row (variant v) (streams v k) (sponge v k)
 
 -- two messages of bits of equal length that differ, and only within the block j
 pub one-changed-part : (v : ℕ) → known v ≡ true → (j : ℕ) (x y : List Bool) → DifferWithin (j * variant v .r) (variant v .r) x y
