@@ -159,9 +159,10 @@ fn too_long() -> Vec<Fault<'static>> {
     vec![fault(4, |call| call.message = &LONG)]
 }
 
-/// All of a buffer that is too long.
+/// Segments that make, with two bytes of count and a list of two entries, a
+/// message of one byte too many.
 fn too_long_together() -> Vec<Fault<'static>> {
-    let end = MESSAGE_LIMIT as u32 + 1;
+    let end = MESSAGE_LIMIT as u32 + 1 - (2 + 16);
     vec![fault(4, move |call| {
         call.message = &LONG;
         call.entries = vec![(0, end), (end, 0)];

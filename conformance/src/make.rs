@@ -127,6 +127,19 @@ pub fn list(entries: &[Entry]) -> Vec<u8> {
         .collect()
 }
 
+/// The message over a sound list: the number of entries, the list, and the
+/// segments that the entries name.
+pub fn list_message(entries: &[Entry], buffer: &[u8]) -> Vec<u8> {
+    let count = [(entries.len() >> 8) as u8, entries.len() as u8];
+    let segment = |&(offset, length): &Entry| &buffer[offset as usize..(offset + length) as usize];
+    let segments = entries.iter().flat_map(segment);
+    count
+        .into_iter()
+        .chain(list(entries))
+        .chain(segments.copied())
+        .collect()
+}
+
 /// Up to so many entries that name segments of a buffer, in order. Many
 /// touch, and some are empty.
 pub fn entries(random: &mut Random, most: usize, buffer_bytes: usize) -> Vec<Entry> {

@@ -267,8 +267,8 @@ pub fn check_entry(list: &[u8], buffer: &[u8], k: usize) -> Answer {
     }
 }
 
-/// The digest over the segments, or if `wanted` is not 0 the end state:
-/// refusals 1, 9, 10, 11, 4, 5.
+/// The digest over a list and its segments, or if `wanted` is not 0 the end
+/// state: refusals 1, 9, 10, 11, 4, 5.
 pub fn digest_list(
     variant: u32,
     list: &[u8],

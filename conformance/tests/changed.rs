@@ -2,7 +2,7 @@
 //! bytes, and any bits of a block, whichever way each message is cut.
 
 use wickslate_conformance::compare::{digest_list, finish, read, start, update, whole};
-use wickslate_conformance::make::{self, list, none, Entry};
+use wickslate_conformance::make::{self, list, list_message, none, Entry};
 use wickslate_conformance::random::Random;
 use wickslate_conformance::settings::amount;
 use wickslate_conformance::wickslate::Hasher;
@@ -158,10 +158,19 @@ fn states_part_with_the_block_that_differs() {
     }
 }
 
-/// Where the bytes of a list's message lie in its buffer.
+/// Where the bytes of a list's segments lie in its buffer.
 fn places(entries: &[Entry]) -> Vec<usize> {
     let bytes = |&(offset, length): &Entry| offset as usize..(offset + length) as usize;
     entries.iter().flat_map(bytes).collect()
+}
+
+/// The buffer with these bytes at these places.
+fn with_bytes(buffer: &[u8], places: &[usize], bytes: &[u8]) -> Vec<u8> {
+    let mut other = buffer.to_vec();
+    for (&place, &byte) in places.iter().zip(bytes) {
+        other[place] = byte;
+    }
+    other
 }
 
 /// Two buffers under one list, whose messages differ in a value that lies in
@@ -173,26 +182,20 @@ fn another_value_under_the_same_list() {
         for variant in &VARIANTS {
             let entries = make::entries(&mut random, 30, 100);
             let (list, places) = (list(&entries), places(&entries));
+            let front = 2 + list.len();
             let (offsets, period) = OFFSETS[variant.number as usize - 1];
             let in_one = |&offset: &usize| offsets.contains(&(offset % period));
-            let values: Vec<usize> = (0..places.len().saturating_sub(1)).filter(in_one).collect();
+            let last = front + places.len() - 1;
+            let values: Vec<usize> = (front..last).filter(in_one).collect();
             if values.is_empty() {
                 continue;
             }
             let offset = random.pick(&values);
             let buffer = random.bytes(100);
-            let message: Vec<u8> = places.iter().map(|&place| buffer[place]).collect();
+            let message = list_message(&entries, &buffer);
             let changed = with_other_value(&mut random, &message, offset);
-            let mut beside = random.bytes(100);
-            places
-                .iter()
-                .zip(&message)
-                .for_each(|(&p, &byte)| beside[p] = byte);
-            let mut other = beside.clone();
-            places
-                .iter()
-                .zip(&changed)
-                .for_each(|(&p, &byte)| other[p] = byte);
+            let beside = with_bytes(&random.bytes(100), &places, &message[front..]);
+            let other = with_bytes(&beside, &places, &changed[front..]);
 
             let out = [0x5e; 36];
             let end = |buffer: &[u8]| digest_list(variant.number, &list, buffer, 1, &out);
@@ -201,6 +204,59 @@ fn another_value_under_the_same_list() {
             assert_eq!(given, end(&beside), "what no entry names");
             assert_ne!(given, end(&other), "{} {offset}", variant.name);
             assert_eq!(given.0, 0);
+        }
+    }
+}
+
+/// Two lists that name the same bytes, and of which an empty segment lies
+/// elsewhere: one byte of the message, which lies in one block or in two.
+#[test]
+fn an_empty_segment_elsewhere() {
+    let buffer = Random::of_test("an_empty_segment_elsewhere").bytes(90);
+    let mut in_one_block = 0;
+    for variant in &VARIANTS {
+        for empty in 0..6 {
+            let [first, second] = [1, 2].map(|gap| {
+                let mut entries: Vec<Entry> = (0..6).map(|k| (15 * k, 10)).collect();
+                entries.insert(empty + 1, (15 * empty as u32 + 10 + gap, 0));
+                entries
+            });
+            let [one, two] = [&first, &second].map(|entries| list_message(entries, &buffer));
+            if changed_blocks(variant, &one, &two).len() == 1 {
+                let end = |entries: &[Entry]| {
+                    digest_list(variant.number, &list(entries), &buffer, 1, &[0x5e; 36])
+                };
+                assert_ne!(end(&first), end(&second), "{} {empty}", variant.name);
+                in_one_block += 1;
+            }
+        }
+    }
+    assert!(in_one_block >= 48, "all those of eight variants");
+}
+
+/// The border between two touching segments stands elsewhere, and all else is
+/// as it was. More than one block is another then: that the messages differ is
+/// proved, and that the end states do is seen here.
+#[test]
+fn a_border_that_is_moved() {
+    let mut random = Random::of_test("a_border_that_is_moved");
+    for _ in 0..amount(40, 4) {
+        let buffer = random.bytes(1000);
+        let (begin, end) = (random.below(20), 700 + random.below(20));
+        let apart = random.pick(&[1, 2, 255, 256, 257, 512]);
+        let border = begin + random.below(100);
+        for variant in &VARIANTS {
+            let [first, second] = [border, border + apart].map(|border| {
+                let [begin, border, end] = [begin, border, end].map(|place| place as u32);
+                [(begin, border - begin), (border, end - border), (900, 5)]
+            });
+            let [one, two] = [first, second].map(|entries| list_message(&entries, &buffer));
+            assert_eq!(one[2 + 24..], two[2 + 24..], "the joined segments");
+            assert!(changed_blocks(variant, &one, &two).len() > 1);
+            let end = |entries: &[Entry]| {
+                digest_list(variant.number, &list(entries), &buffer, 1, &[0x5e; 36])
+            };
+            assert_ne!(end(&first), end(&second), "{}", variant.name);
         }
     }
 }

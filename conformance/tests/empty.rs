@@ -59,11 +59,12 @@ fn an_empty_list_or_buffer() {
     }
     for variant in &VARIANTS {
         let number = variant.number;
-        let expected = digest(number, b"").expect("the empty message");
-        let mut out = vec![0; expected.len()];
-        for list in [nowhere(), list(&[(0, 0)]), list(&[(0, 0), (0, 0)])] {
+        let mut out = vec![0; variant.digest_bytes()];
+        for (count, list) in (0..).zip([nowhere(), list(&[(0, 0)]), list(&[(0, 0), (0, 0)])]) {
+            // No segment has a byte.
+            let message = [&[0, count][..], &list].concat();
             assert!(wickslate::digest_list(number, &list, &nowhere(), 0, &mut out).is_done());
-            assert_eq!(out, expected);
+            assert_eq!(digest(number, &message).as_deref(), Ok(&out[..]));
             out.fill(0);
         }
         for entry in [(0, 1), (1, 0), (1, 1)] {

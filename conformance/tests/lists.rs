@@ -2,7 +2,7 @@
 //! and 5 alone and against their neighbours.
 
 use wickslate_conformance::compare::{advance, at, check_entry, entry, whole};
-use wickslate_conformance::make::{self, list, result_bytes, variant, UNKNOWN};
+use wickslate_conformance::make::{self, list, list_message, result_bytes, variant, UNKNOWN};
 use wickslate_conformance::random::Random;
 use wickslate_conformance::settings::amount;
 use wickslate_conformance::wickslate::{Answer, Cursor};
@@ -60,22 +60,55 @@ fn a_cursor_goes_over_the_list() {
     }
 }
 
-/// The result over a list is that of the segments joined.
+/// The result over a list is that of its message.
 #[test]
-fn segments_are_joined() {
-    let mut random = Random::of_test("segments_are_joined");
+fn count_list_and_segments() {
+    let mut random = Random::of_test("count_list_and_segments");
     for variant in &VARIANTS {
         let buffer = random.bytes(120);
         let entries = make::entries(&mut random, 30, buffer.len());
-        let segment = |&(offset, length): &make::Entry| {
-            let (offset, length) = (offset as usize, length as usize);
-            buffer[offset..offset + length].to_vec()
-        };
-        let joined: Vec<u8> = entries.iter().flat_map(segment).collect();
+        let message = list_message(&entries, &buffer);
         for wanted in [0, 1, 77, 256, u32::MAX] {
             let given =
                 compare::digest_list(variant.number, &list(&entries), &buffer, wanted, &OUT);
-            assert_eq!(given, whole(variant.number, &joined, wanted, &OUT));
+            assert_eq!(given, whole(variant.number, &message, wanted, &OUT));
+        }
+    }
+}
+
+/// The count has two bytes, the high one first, and the list is the message
+/// where no entry names a byte.
+#[test]
+fn counts_of_two_bytes() {
+    for (count, bytes) in [
+        (0, [0, 0]),
+        (1, [0, 1]),
+        (255, [0, 255]),
+        (256, [1, 0]),
+        (257, [1, 1]),
+        (512, [2, 0]),
+    ] {
+        let list = list(&vec![(6, 0); count]);
+        let message = [&bytes[..], &list].concat();
+        for variant in &VARIANTS {
+            let given = compare::digest_list(variant.number, &list, SIX, 1, &OUT);
+            assert_eq!(given, whole(variant.number, &message, 1, &OUT));
+        }
+    }
+}
+
+/// The known value of document 02: 22 bytes, 2 of count, 16 of list, 4 of
+/// segments.
+#[test]
+fn twenty_two_bytes() {
+    let entries = [(0, 2), (3, 2)];
+    let message = b"\0\x02\0\0\0\0\0\0\0\x02\0\0\0\x03\0\0\0\x02brdg";
+    assert_eq!(message.len(), 22);
+    assert_eq!(list_message(&entries, SIX), message);
+    for variant in &VARIANTS {
+        for wanted in [0, 1] {
+            let given = compare::digest_list(variant.number, &list(&entries), SIX, wanted, &OUT);
+            assert_eq!(given, whole(variant.number, message, wanted, &OUT));
         }
     }
 }
@@ -252,36 +285,67 @@ fn a_list_that_is_none_comes_before_its_entries() {
     }
 }
 
-/// Segments that make a message one byte too long, in one part and in many.
+/// Lists whose message has so many bytes, the count and the list among them: of
+/// one entry, of two with a gap between them, and of 512 that touch.
+fn lists_for(message_bytes: usize) -> [Vec<u8>; 3] {
+    let left = |entries: u32| message_bytes as u32 - 2 - 8 * entries;
+    let half = left(2) / 2;
+    let step = left(MOST_ENTRIES) / MOST_ENTRIES;
+    let mut many: Vec<make::Entry> = (0..MOST_ENTRIES).map(|k| (k * step, step)).collect();
+    many[511].1 += left(MOST_ENTRIES) % MOST_ENTRIES;
+    [
+        list(&[(0, left(1))]),
+        list(&[(0, half), (half + 1, left(2) - half)]),
+        list(&many),
+    ]
+}
+
+/// A message of one byte more than the limit, count and list among them.
 #[test]
 fn too_long_comes_behind_the_entries_and_before_the_output() {
     let buffer = vec![0x31; MESSAGE_LIMIT + 1];
     let end = buffer.len() as u32;
-    let one = list(&[(0, end)]);
-    let touching: Vec<make::Entry> = (0..MOST_ENTRIES).map(|k| (k << 15, 1 << 15)).collect();
-    let many = list(&touching);
     let beyond = list(&[(0, end), (end, 1)]);
     let misordered = list(&[(0, end), (end - 1, 1)]);
     for variant in &VARIANTS {
         for out in [&OUT[..], &[]] {
             let answer = |list: &[u8]| digest_list(variant.number, list, &buffer, 1, out);
-            assert_eq!(answer(&one), 4);
-            assert_eq!(answer(&many), 4);
+            for list in lists_for(MESSAGE_LIMIT + 1) {
+                assert_eq!(answer(&list), 4);
+            }
             assert_eq!(answer(&beyond), at(11, 1), "and too long");
             assert_eq!(answer(&misordered), at(10, 1), "and too long");
         }
     }
 }
 
-/// As for whole messages: what is refused is the output.
+/// A message of just the limit. As for whole messages: what is refused is the
+/// output.
 #[test]
 fn the_longest_message_is_not_too_long() {
     let buffer = vec![0x31; MESSAGE_LIMIT + 1];
-    let half = 1 << 23;
-    let longest = list(&[(0, half), (half + 1, half - 1)]);
     for variant in &VARIANTS {
-        let answer = wickslate::digest_list(variant.number, &longest, &buffer, 0, &mut [0; 9]);
-        assert_eq!(answer.0, 5, "{}", variant.name);
+        for list in lists_for(MESSAGE_LIMIT) {
+            let answer = wickslate::digest_list(variant.number, &list, &buffer, 0, &mut [0; 9]);
+            assert_eq!(answer.0, 5, "{}", variant.name);
+        }
+    }
+}
+
+/// And one is hashed to its end, as the same message whole. Under valgrind it
+/// would take a minute, and is left out.
+#[test]
+fn a_message_of_just_the_limit() {
+    let buffer = vec![0x31; MESSAGE_LIMIT];
+    let bytes = MESSAGE_LIMIT as u32 - 2 - 8;
+    let message = list_message(&[(0, bytes)], &buffer);
+    assert_eq!(message.len(), MESSAGE_LIMIT);
+    let list = list(&[(0, bytes)]);
+    for _ in 0..amount(1, 0) {
+        let [mut given, mut expected] = [[0; 32]; 2];
+        assert!(wickslate::digest_list(5, &list, &buffer, 0, &mut given).is_done());
+        assert!(wickslate::whole(5, &message, 0, &mut expected).is_done());
+        assert_eq!(given, expected);
     }
 }
 

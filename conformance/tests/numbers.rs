@@ -50,11 +50,11 @@ fn a_variant_is_not_cut_to_a_byte() {
 fn a_choice_is_not_cut_to_a_byte() {
     let segments = list(&[(0, 6)]);
     for variant in &VARIANTS {
-        let asked = whole(variant.number, MESSAGE, 1, &OUT);
+        let of_message = |wanted| whole(variant.number, MESSAGE, wanted, &OUT);
+        let over_list = |wanted| digest_list(variant.number, &segments, MESSAGE, wanted, &OUT);
         for wanted in above_a_byte(0) {
-            assert_eq!(whole(variant.number, MESSAGE, wanted, &OUT), asked);
-            let over_list = digest_list(variant.number, &segments, MESSAGE, wanted, &OUT);
-            assert_eq!(over_list, asked);
+            assert_eq!(of_message(wanted), of_message(1));
+            assert_eq!(over_list(wanted), over_list(1));
         }
     }
 }

@@ -195,9 +195,11 @@ fn records(random: &mut Random) -> u32 {
     compare::check_manifest(&list)
 }
 
-/// 16,777,215 bytes: whole, in pieces, and as two segments.
+/// 16,777,215 bytes: whole, in pieces, and as that of a list of two segments.
 fn longest_messages(random: &mut Random) {
-    let message = random.bytes(MESSAGE_LIMIT);
+    let (entries, buffer) = two_segments(random, MESSAGE_LIMIT - 2 - 16);
+    let message = make::list_message(&entries, &buffer);
+    assert_eq!(message.len(), MESSAGE_LIMIT);
     let expected = digest(FAST, &message).expect("not too long");
     let expect_same = |hash: &mut dyn FnMut(&mut [u8]) -> Answer| {
         let mut out = vec![0; expected.len()];
@@ -207,7 +209,7 @@ fn longest_messages(random: &mut Random) {
     expect_same(&mut |out| wickslate::whole(FAST, &message, 0, out));
     let h = closed(random.cut(&message, 100_000));
     expect_same(&mut |out| wickslate::digest(&h, out));
-    let (list, buffer) = two_segments(&message);
+    let list = make::list(&entries);
     expect_same(&mut |out| wickslate::digest_list(FAST, &list, &buffer, 0, out));
 }
 
@@ -223,10 +225,10 @@ fn closed(pieces: Vec<&[u8]>) -> Hasher {
     h
 }
 
-/// A list and a buffer in which the message is cut in two by a gap.
-fn two_segments(message: &[u8]) -> (Vec<u8>, Vec<u8>) {
-    let (first, second) = message.split_at(message.len() / 2);
-    let [first_bytes, second_bytes] = [first, second].map(|part| part.len() as u32);
-    let list = make::list(&[(0, first_bytes), (first_bytes + 3, second_bytes)]);
-    (list, [first, b"gap", second].concat())
+/// Two segments of so many bytes together, and a buffer in which a gap of three
+/// lies between them.
+fn two_segments(random: &mut Random, bytes: usize) -> ([Entry; 2], Vec<u8>) {
+    let first = bytes as u32 / 2;
+    let second = bytes as u32 - first;
+    ([(0, first), (first + 3, second)], random.bytes(bytes + 3))
 }

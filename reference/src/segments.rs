@@ -46,8 +46,21 @@ pub fn segment<'a>(list: &[u8], buffer: &'a [u8], k: usize) -> Result<&'a [u8], 
     named(&entries(list)?, buffer, k)
 }
 
-/// The digest, or the end state's image, of the segments joined in order.
-/// Refusals 1, 9, 10, 11, 4 and 5.
+/// The message over a list: how many entries there are, in two bytes, the
+/// list, then the segments in order. Refusals 9, 10 and 11.
+pub fn message(list: &[u8], buffer: &[u8]) -> Result<Vec<u8>, Refusal> {
+    let entries = entries(list)?;
+    let count = u16::try_from(entries.len()).expect("512 entries at most");
+    let mut message = count.to_be_bytes().to_vec();
+    message.extend(list);
+    for k in 0..entries.len() {
+        message.extend(named(&entries, buffer, k)?);
+    }
+    Ok(message)
+}
+
+/// The digest, or the end state's image, of that message. Refusals 1, 9, 10,
+/// 11, 4 and 5.
 pub fn digest_list(
     number: u32,
     list: &[u8],
@@ -57,11 +70,7 @@ pub fn digest_list(
 ) -> Result<(), Refusal> {
     let plain = |refusal| (refusal, None);
     message_check(number, 0).map_err(plain)?;
-    let entries = entries(list)?;
-    let mut message = Vec::new();
-    for k in 0..entries.len() {
-        message.extend_from_slice(named(&entries, buffer, k)?);
-    }
+    let message = message(list, buffer)?;
     let result = match image {
         true => end_state(number, &message),
         false => digest(number, &message),

@@ -1,6 +1,6 @@
 -- A number in bytes reads back as itself, and bytes as the number that they stand for.
 -- Assumes nothing.
-use mathlib.Core.Path.{_≡_, refl, _∙_}
+use mathlib.Core.Path.{_≡_, refl, ap, _∙_}
 use mathlib.Core.List.{List, [], _∷_, _++_, foldl-append}
 use Prim.Native.Nat.{ℕ, zero, suc, _+_, _*_, _/_, _%_, _^_, _≤_, _<_}
 use native.Mathlib.Nat.{pow-zero, pow-suc}
@@ -58,3 +58,10 @@ four-bytes xs i h =
     let two : i + 1 + 1 ≡ i + 2 = omega arith in
     let three : i + 2 + 1 ≡ i + 3 = omega arith in
     rw (drop-at xs i (omega arith), drop-at xs (i + 1) (omega arith), two, drop-at xs (i + 2) (omega arith), three, drop-at xs (i + 3) (omega arith)) (omega arith)
+
+-- a number in two bytes, as the code writes them
+pub two-in-bytes : (n : ℕ) → n < 65536 → inBytes 2 n ≡ n / 256 ∷ n % 256 ∷ []
+unfolding inBytes
+two-in-bytes n h =
+    let e : n / 256 % 256 ≡ n / 256 = omega arith in
+    ap (λ (b : ℕ). b ∷ n % 256 ∷ []) e

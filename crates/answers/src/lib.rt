@@ -5,7 +5,7 @@ ghost use mathlib.Core.Path.{_≡_};
 ghost use Prim.Native.Nat.{_+_, _*_, _<_, _≤_};
 ghost use lib.ListN.{length, take, drop};
 ghost use Rattle.answers.specs.Refusals.{number, entry, answer};
-ghost use Rattle.answers.specs.Numbers.{bigEndian};
+ghost use Rattle.answers.specs.Numbers.{bigEndian, inBytes};
 
 // The most bytes that a message may have.
 pub const MOST: usize = 16777215;
@@ -112,4 +112,11 @@ pub fn u32_at(bytes: &[u8], i: usize) -> u32
 {
     ((wide(bytes[i]) * 256 + wide(bytes[i + 1])) * 256 + wide(bytes[i + 2])) * 256
         + wide(bytes[i + 3])
+}
+
+// A number in two bytes, the first the most significant.
+pub fn u16_bytes(n: u16) -> [u8; 2]
+    ensures { λ r. ⌜ r ≡ inBytes 2 n ⌝ }
+{
+    [(n / 256) as u8, (n % 256) as u8]
 }

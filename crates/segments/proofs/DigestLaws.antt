@@ -13,7 +13,8 @@ use Rattle.answers.specs.declared.Refusal.the-variants.{UnknownVariant, TooLong
 use Rattle.answers.specs.declared.Status.{Status}
 use Rattle.answers.specs.declared.Status.the-variants.{Done, Refused}
 use Rattle.answers.specs.Checks.{Check, unless, when, firstRefusal}
-use Rattle.answers.specs.Outputs.{written, most, whenDone}
+use Rattle.answers.specs.Numbers.{inBytes}
+use Rattle.answers.specs.Outputs.{written, most}
 use Rattle.answers.proofs.Statuses.{not-done}
 use Rattle.answers.proofs.Rows.{passed-all, passing-says, row-first, row-second, row-both}
 use Rattle.standard.specs.Chain.{messageBits, endState}
@@ -21,49 +22,46 @@ use Rattle.standard.specs.Variants.{variant, known}
 use Rattle.hasher.specs.declared.Hasher.{Hasher}
 use Rattle.hasher.specs.declared.Advanced.{Advanced}
 use Rattle.hasher.specs.declared.Wanted.{Wanted}
-use Rattle.hasher.specs.Running.{Open, fresh, started, updated, finished, stateOf}
+use Rattle.hasher.specs.Sized.{Sized}
+use Rattle.hasher.specs.Running.{Open, started, updated, finished, stateOf}
 use Rattle.hasher.specs.Reading.{resultSize, resultOf, readStatus, readInto, wholeChecks, wholeStatus, wholeInto}
 use Rattle.hasher.proofs.Calls.{start-done, Hashable, whole-says, update-done}
-use Rattle.hasher.proofs.Message.{fresh-open, calls-read}
+use Rattle.hasher.proofs.Message.{fresh-sized, fresh-open, calls-read}
+use Rattle.hasher.proofs.UpdateAppend.{update-twice}
 use Rattle.standard.specs.Bits.{bitsIn}
 use Rattle.hasher.proofs.Owned.{Owned}
 use Rattle.hasher.proofs.WellFormed.{facts, state-kept, held-kept}
 use Rattle.hasher.proofs.Next.{onward-none, onward, onward-total, onward-open, onward-append}
-use Rattle.segments.specs.Entries.{isList, entriesChecks, entriesStatus, messageOf, totalOf, count, segmentIn, segmentOf}
+use Rattle.segments.specs.Entries.{isList, entriesChecks, entriesStatus, segmentsOf, headerOf, messageOf, totalOf, count, segmentIn, segmentOf}
 use Rattle.segments.specs.Digests.{listStatus, listInto}
-use Rattle.segments.proofs.ListLaws.{message-length, messageUpTo, message-suc, message-up-to-within, passed-entries}
+use Rattle.segments.proofs.ListLaws.{segments-length, message-length, segmentsUpTo, segments-suc, segments-up-to-within, segment-there}
 
 module _ (h : Hasher) (w : Owned h) (o : Open h) (list buffer : List ℕ) (whole : isList list ≡ true) (all-fit : entriesStatus list (length buffer) ≡ Done)
-    (few : h .total + length (messageOf list buffer) ≤ most) where
+    (few : h .total + length (segmentsOf list buffer) ≤ most) where
   -- the running hash after the first k segments
   abbrev pub after : ℕ → Hasher
-  after k = onward h (messageUpTo list buffer k)
+  after k = onward h (segmentsUpTo list buffer k)
 
   pub no-segment : h ≡ after 0
   unfolding flatMap bitsIn stateOf
   no-segment = sym (onward-none h (w .sized) o (state-kept h (facts h (o .0)) w) (held-kept h (facts h (o .0)) w))
 
-  -- the segment of an entry of a list that passes
-  segment-there : (k : ℕ) → k < count list → segmentOf list buffer k ≡ segmentIn list buffer k
-  unfolding segmentOf
-  segment-there k l = ap (λ (s : Status). whenDone s (segmentIn list buffer k) []) (passed-entries list (length buffer) whole all-fit k l)
-
   -- an update with the next segment
   pub next-segment : (k : ℕ) → k < count list → (g : Hasher) (s : List ℕ) → g ≡ after k → s ≡ segmentOf list buffer k → updated g s .hasher ≡ after (k + 1)
   next-segment k l g s eg es =
-      let m : List ℕ = messageUpTo list buffer k in
+      let m : List ℕ = segmentsUpTo list buffer k in
       let t : List ℕ = segmentIn list buffer k in
-      let j : messageUpTo list buffer (k + 1) ≡ m ++ t = ap (messageUpTo list buffer) (add-one k) ∙ message-suc list buffer k in
-      let room : h .total + (length m + length t) ≤ most = omega (arith, length-append m t, ap length j, message-up-to-within list buffer (k + 1) (omega arith)) in
+      let j : segmentsUpTo list buffer (k + 1) ≡ m ++ t = ap (segmentsUpTo list buffer) (add-one k) ∙ segments-suc list buffer k in
+      let room : h .total + (length m + length t) ≤ most = omega (arith, length-append m t, ap length j, segments-up-to-within list buffer (k + 1) (omega arith)) in
       ap (λ (a : Advanced). a .hasher)
-      (ap₂ updated eg (es ∙ segment-there k l)
+      (ap₂ updated eg (es ∙ segment-there list buffer whole all-fit k l)
       ∙ update-done (after k) t (onward-open h (w .sized) o m (omega arith)) (omega (arith, onward-total h m)))
       ∙ onward-append h (w .sized) o m t
       ∙ ap (onward h) (sym j)
 
-  pub every-segment : after (count list) ≡ updated h (messageOf list buffer) .hasher
-  unfolding messageOf
-  every-segment = sym (ap (λ (a : Advanced). a .hasher) (update-done h (messageOf list buffer) o few))
+  pub every-segment : after (count list) ≡ updated h (segmentsOf list buffer) .hasher
+  unfolding segmentsOf
+  every-segment = sym (ap (λ (a : Advanced). a .hasher) (update-done h (segmentsOf list buffer) o few))
 
 -- ---- the checks in order
 
@@ -94,8 +92,8 @@ module _ (v : ℕ) (list buffer : List ℕ) (wanted : Wanted) (l : isList list �
       ap₂ (λ (b : Bool) (s : Status). cond (known v) (cond b s (Refused BadList)) (Refused UnknownVariant)) l
       (row-second (entriesChecks list (length buffer)) (behind v (messageOf list buffer) wanted n) e)
 
-  -- the answer for a message of as many bytes as the entries name together
-  pub list-message : (n t : ℕ) (s : Status) → t ≡ totalOf list → s ≡ firstRefusal (wholeChecks v t wanted n) → s ≡ listStatus v list buffer wanted n
+  -- the answer for a message of as many bytes as the header has and the entries name together
+  pub list-message : (n t : ℕ) (s : Status) → t ≡ length (headerOf list) + totalOf list → s ≡ firstRefusal (wholeChecks v t wanted n) → s ≡ listStatus v list buffer wanted n
   unfolding wholeStatus
   list-message n t s et es =
       es ∙ ap (λ (i : ℕ). firstRefusal (wholeChecks v i wanted n)) (et ∙ sym (message-length list buffer e)) ∙ sym (list-whole-status n)
@@ -132,20 +130,64 @@ module _ (v : ℕ) (list buffer : List ℕ) (wanted : Wanted) (n : ℕ) where
     pub all-fit : entriesStatus list (length buffer) ≡ Done
     pub message : Hashable v (length (messageOf list buffer)) wanted n
 
-  pub accepted : listStatus v list buffer wanted n ≡ Done → Accepted
+  pub accepted : (s : Status) → s ≡ listStatus v list buffer wanted n → s ≡ Done → Accepted
   unfolding listStatus wholeStatus
-  accepted e =
+  accepted s es d =
+      let e : listStatus v list buffer wanted n ≡ Done = sym es ∙ d in
       let m = messageOf list buffer in
       let a = row-both (before v list) (entriesChecks list (length buffer) ++ behind v m wanted n) e in
       let l = passing-says (before v list) (a .0) .1 .0 in
       let f = row-both (entriesChecks list (length buffer)) (behind v m wanted n) (a .1) .0 in
       record { whole = l; all-fit = f; message = whole-says v (length m) wanted n (sym (list-whole-status v list buffer wanted l f n) ∙ e) }
 
--- a start that is to be updated
-pub start-ready : (v : ℕ) → known v ≡ true → (s : Advanced) → s ≡ started v → Open (s .hasher) × (s .hasher .total ≡ 0)
-start-ready v k s e =
-    let b : fresh v ≡ s .hasher = sym (ap (λ (a : Advanced). a .hasher) (e ∙ start-done v k)) in
-    (subst Open b (fresh-open v k), ap (λ (h : Hasher). h .total) (sym b))
+-- ---- from start to read
+
+-- a running hash that takes a message
+abbrev Ready : Hasher → Type 0
+Ready h = Sized h × (Open h × (h .total ≡ 0))
+
+-- a start
+start-ready : (v : ℕ) → known v ≡ true → (s : Advanced) → s ≡ started v → Ready (s .hasher)
+start-ready v k s e = subst Ready (sym (ap (λ (a : Advanced). a .hasher) (e ∙ start-done v k))) (fresh-sized v k, (fresh-open v k, refl))
+
+-- the number of entries and then the list
+pub header-taken : (h : Hasher) → Sized h → Open h → (list : List ℕ) → h .total + length (headerOf list) ≤ most
+    → (bytes : List ℕ) (counted listed : Advanced) → bytes ≡ inBytes 2 (count list) → counted ≡ updated h bytes → listed ≡ updated (counted .hasher) list
+    → listed .hasher ≡ updated h (headerOf list) .hasher
+unfolding headerOf
+header-taken h z o list few bytes counted listed eb ec el =
+    ap (λ (a : Advanced). a .hasher) (el ∙ ap (λ (a : Advanced). updated (a .hasher) list) (ec ∙ ap (updated h) eb))
+    ∙ update-twice h z (inBytes 2 (count list)) list o few
+
+module _ (v : ℕ) (list buffer : List ℕ) (wanted : Wanted) (n : ℕ) (a : Accepted v list buffer wanted n) (begun : Advanced) (eb : begun ≡ started v) where
+  ready : Ready (begun .hasher)
+  ready = start-ready v (a .message .named) begun eb
+
+  few : length (headerOf list) + length (segmentsOf list buffer) ≤ most
+  few = omega (arith, a .message .few, message-length list buffer (a .all-fit), segments-length list buffer (a .all-fit))
+
+  -- the header fits
+  pub header-fits : Open (begun .hasher) × ((isList list ≡ true) × (begun .hasher .total + length (headerOf list) ≤ most))
+  header-fits = (ready .1 .0, (a .whole, omega (arith, ready .1 .1, few)))
+
+  -- and the segments behind it
+  pub segments-fit : (led : Hasher) → led ≡ updated (begun .hasher) (headerOf list) .hasher
+      → Open led × (((isList list ≡ true) × (entriesStatus list (length buffer) ≡ Done)) × (led .total + length (segmentsOf list buffer) ≤ most))
+  segments-fit led e =
+      let h : Hasher = begun .hasher in
+      let m : List ℕ = headerOf list in
+      let on : onward h m ≡ led = sym (e ∙ ap (λ (u : Advanced). u .hasher) (update-done h m (ready .1 .0) (header-fits .1 .1))) in (
+        subst Open on (onward-open h (ready .0) (ready .1 .0) m (header-fits .1 .1)),
+        ((a .whole, a .all-fit), omega (arith, ap (λ (g : Hasher). g .total) on, onward-total h m, ready .1 .1, few)),
+      )
+
+  -- the running hash after both is that after the message
+  pub message-taken : (led h : Hasher) → led ≡ updated (begun .hasher) (headerOf list) .hasher → h ≡ updated led (segmentsOf list buffer) .hasher
+      → h ≡ updated (begun .hasher) (messageOf list buffer) .hasher
+  unfolding messageOf
+  message-taken led h e eh =
+      let room : begun .hasher .total + length (headerOf list ++ segmentsOf list buffer) ≤ most = omega (arith, ready .1 .1, few, length-append (headerOf list) (segmentsOf list buffer)) in
+      eh ∙ ap (λ (g : Hasher). updated g (segmentsOf list buffer) .hasher) e ∙ update-twice (begun .hasher) (ready .0) (headerOf list) (segmentsOf list buffer) (ready .1 .0) room
 
 module _ (v : ℕ) (list buffer : List ℕ) (wanted : Wanted) (out : List ℕ) where
   -- status and output after a call

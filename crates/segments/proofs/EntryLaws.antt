@@ -7,7 +7,7 @@ use Prim.Native.Nat.{ℕ, zero, suc, _-_, _%_, _≤_, _<_}
 use native.Mathlib.Omega.{arith}
 use lib.Dec.{eqb, leb}
 use lib.ListN.{length, take, drop}
-use borrow.Author.Tests.{ltb-true, ltb-false, leb-true, not-true, lt-ltb}
+use borrow.Author.Tests.{eqb-true, ltb-true, ltb-false, leb-true, not-true, lt-ltb}
 use Rattle.answers.specs.declared.Status.{Status}
 use Rattle.answers.specs.declared.Status.the-variants.{Done}
 use Rattle.answers.specs.Checks.{firstRefusal}
@@ -24,6 +24,10 @@ former-behind list (suc k) n = let e : k ≡ suc k - 1 = omega arith in ap (endO
 pub list-short : (list : List ℕ) → isList list ≡ true → length list ≤ 4096
 unfolding isList
 list-short list e = leb-true (length list) 4096 (and-true (eqb (length list % 8) 0) (leb (length list) 4096) e .1)
+
+pub list-whole : (list : List ℕ) → isList list ≡ true → length list % 8 ≡ 0
+unfolding isList
+list-whole list e = eqb-true (length list % 8) 0 (and-true (eqb (length list % 8) 0) (leb (length list) 4096) e .0)
 
 module _ (list : List ℕ) (n k : ℕ) where
   -- an entry that is not refused begins where the former ends or later, and ends within the buffer

@@ -1,19 +1,41 @@
--- Every known value of document 01 is what the definitions give: one statement for the one list.
+-- Every known value of the papers is what the definitions give: one statement for the one list.
 -- Assumes nothing.
-use mathlib.Core.Path.{refl}
-use mathlib.Core.List.{flatMap}
-use Rattle.answers.specs.Numbers.{bigEndian}
+use mathlib.Core.Path.{_≡_, refl}
+use mathlib.Core.List.{_++_, flatMap}
+use native.Mathlib.Omega.{arith}
+use Rattle.answers.specs.Numbers.{bigEndian, inBytes}
 use Rattle.standard.specs.KnownValues as standard
 use Rattle.standard.specs.KnownValues.{AllHold}
 use Rattle.standard.proofs.KnownValues as proved
 use Rattle.standard.proofs.KnownValues.{holds-append}
-use Rattle.segments.specs.Entries.{formerEnd, isList, segmentIn, entryChecks, segmentChecks, segmentOf, messageOf}
-use Rattle.segments.specs.KnownValues.{listValues, knownValues}
+use Rattle.segments.specs.Entries.{formerEnd, isList, segmentIn, entryChecks, segmentChecks, segmentOf, segmentsOf, headerOf, messageOf, BorderMoved}
+use Rattle.segments.specs.KnownValues.{entryOf, sixBytes, listValues, knownValues}
+use Rattle.segments.proofs.EqualMessages.{border-shows}
 
 -- the rows for lists compute
 list-values : AllHold listValues
-unfolding flatMap bigEndian formerEnd isList segmentIn entryChecks segmentChecks segmentOf messageOf
+unfolding flatMap bigEndian inBytes formerEnd isList segmentIn entryChecks segmentChecks segmentOf segmentsOf headerOf messageOf
 list-values = refl
 
 pub known-values : AllHold knownValues
 known-values = holds-append standard.knownValues listValues proved.known-values list-values
+
+-- ---- a border that is moved, and shows
+
+border-moved : BorderMoved 0 (entryOf 0 2 ++ entryOf 2 2) (entryOf 0 3 ++ entryOf 3 1)
+unfolding bigEndian
+border-moved =
+    record {
+      counts = refl;
+      there = omega arith;
+      begins = refl;
+      touch = refl;
+      touch′ = refl;
+      moved = omega arith;
+      ends = refl;
+      elsewhere = λ j h n m. absurd (omega (arith, h, n, m));
+    }
+
+pub border-example : messageOf (entryOf 0 2 ++ entryOf 2 2) sixBytes ≡ messageOf (entryOf 0 3 ++ entryOf 3 1) sixBytes → ⊥
+unfolding bigEndian formerEnd isList entryChecks
+border-example = border-shows 0 (entryOf 0 2 ++ entryOf 2 2) (entryOf 0 3 ++ entryOf 3 1) border-moved sixBytes sixBytes (refl, refl) (refl, refl)

@@ -1,10 +1,11 @@
--- The check of a whole list against that of its entries, and the length of its message.
+-- The check of a whole list against that of its entries, its joined segments, and the length of its message.
 -- Assumes nothing.
 use mathlib.Core.Path.{_≡_, refl, sym, ap, ap₂, _∙_, subst}
 use mathlib.Core.Bool.{true}
 use mathlib.Core.List.{List, [], _∷_, _++_, append-assoc, append-nil, flatMap, sum}
+use mathlib.Core.Logic.{⊎-elim}
 use Prim.Native.Nat.{ℕ, zero, suc, _+_, _-_, _≤_, _<_}
-use native.Mathlib.Nat.{add-assoc}
+use native.Mathlib.Nat.{add-assoc, le-of-suc-le-suc, eq-or-lt-of-le}
 use native.Mathlib.Numerals.{add-one}
 use native.Mathlib.Omega.{arith}
 use lib.ListN.{length, length-append, length-take, length-drop}
@@ -12,19 +13,22 @@ use Rattle.answers.specs.declared.Refusal.{Refusal}
 use Rattle.answers.specs.declared.Status.{Status}
 use Rattle.answers.specs.declared.Status.the-variants.{Done, Refused}
 use Rattle.answers.specs.Checks.{firstRefusal}
+use Rattle.answers.specs.Numbers.{inBytes}
+use Rattle.answers.specs.Outputs.{whenDone}
 use Rattle.answers.specs.Refusals.{entry}
+use Rattle.answers.proofs.NumberLaws.{length-inBytes}
 use Rattle.answers.proofs.Statuses.{not-done}
 use Rattle.answers.proofs.Rows.{by-ways, each-done, done-each, each-first, First, first-of}
 use Rattle.standard.specs.Grid.{tab}
 use Rattle.standard.proofs.Tab.{tab-snoc}
-use Rattle.segments.specs.Entries.{lengthOf, endOf, formerEnd, isList, count, segmentIn, entryChecks, segmentStatus, entriesStatus, StopsAt, messageOf, totalUpTo, totalOf}
+use Rattle.segments.specs.Entries.{lengthOf, endOf, formerEnd, isList, count, segmentIn, entryChecks, segmentStatus, segmentOf, entriesStatus, StopsAt, segmentsOf, headerOf, messageOf, totalUpTo, totalOf}
 use Rattle.segments.proofs.EntryLaws.{Fits, entry-fits, segment-checked, segment-entry}
 
 -- ---- joined segments, and the sum of their lengths
 
--- the message of the first k entries
-abbrev pub messageUpTo : List ℕ → List ℕ → ℕ → List ℕ
-messageUpTo list buffer k = flatMap (λ s. s) (tab k (segmentIn list buffer))
+-- the first k of them
+abbrev pub segmentsUpTo : List ℕ → List ℕ → ℕ → List ℕ
+segmentsUpTo list buffer k = flatMap (λ s. s) (tab k (segmentIn list buffer))
 
 flat-snoc : (xs : List (List ℕ)) (x : List ℕ) → flatMap (λ s. s) (xs ++ (x ∷ [])) ≡ flatMap (λ s. s) xs ++ x
 unfolding flatMap
@@ -36,8 +40,8 @@ unfolding sum
 sum-snoc [] x = omega arith
 sum-snoc (y ∷ xs) x = ap (λ (r : ℕ). y + r) (sum-snoc xs x) ∙ sym (add-assoc y (sum _+_ 0 xs) x)
 
-pub message-suc : (list buffer : List ℕ) (k : ℕ) → messageUpTo list buffer (suc k) ≡ messageUpTo list buffer k ++ segmentIn list buffer k
-message-suc list buffer k = ap (flatMap (λ s. s)) (tab-snoc k (segmentIn list buffer)) ∙ flat-snoc (tab k (segmentIn list buffer)) (segmentIn list buffer k)
+pub segments-suc : (list buffer : List ℕ) (k : ℕ) → segmentsUpTo list buffer (suc k) ≡ segmentsUpTo list buffer k ++ segmentIn list buffer k
+segments-suc list buffer k = ap (flatMap (λ s. s)) (tab-snoc k (segmentIn list buffer)) ∙ flat-snoc (tab k (segmentIn list buffer)) (segmentIn list buffer k)
 
 total-suc : (list : List ℕ) (k : ℕ) → totalUpTo list (suc k) ≡ totalUpTo list k + lengthOf list k
 total-suc list k = ap (sum _+_ 0) (tab-snoc k (lengthOf list)) ∙ sum-snoc (tab k (lengthOf list)) (lengthOf list k)
@@ -50,17 +54,17 @@ unfolding segmentIn
 segment-length list buffer k h = simp (length-take, length-drop) (omega arith)
 
 -- the first k segments are no longer than those of more entries
-message-more : (list buffer : List ℕ) (k d : ℕ) → length (messageUpTo list buffer k) ≤ length (messageUpTo list buffer (k + d))
-message-more list buffer k zero = let e : k + 0 ≡ k = omega arith in rw e (omega arith)
-message-more list buffer k (suc d) =
+segments-more : (list buffer : List ℕ) (k d : ℕ) → length (segmentsUpTo list buffer k) ≤ length (segmentsUpTo list buffer (k + d))
+segments-more list buffer k zero = let e : k + 0 ≡ k = omega arith in rw e (omega arith)
+segments-more list buffer k (suc d) =
     let e : k + suc d ≡ suc (k + d) = omega arith in
-    rw e (omega (arith, message-more list buffer k d, ap length (message-suc list buffer (k + d)), length-append (messageUpTo list buffer (k + d)) (segmentIn list buffer (k + d))))
+    rw e (omega (arith, segments-more list buffer k d, ap length (segments-suc list buffer (k + d)), length-append (segmentsUpTo list buffer (k + d)) (segmentIn list buffer (k + d))))
 
-pub message-up-to-within : (list buffer : List ℕ) (k : ℕ) → k ≤ count list → length (messageUpTo list buffer k) ≤ length (messageOf list buffer)
-unfolding messageOf
-message-up-to-within list buffer k h =
+pub segments-up-to-within : (list buffer : List ℕ) (k : ℕ) → k ≤ count list → length (segmentsUpTo list buffer k) ≤ length (segmentsOf list buffer)
+unfolding segmentsOf
+segments-up-to-within list buffer k h =
     let e : k + (count list - k) ≡ count list = omega arith in
-    rw e at (message-more list buffer k (count list - k))
+    rw e at (segments-more list buffer k (count list - k))
 
 module _ (list buffer : List ℕ) where
   -- the first k entries pass
@@ -73,13 +77,13 @@ module _ (list buffer : List ℕ) where
   fits : (k : ℕ) → Passed (suc k) → Fits list (length buffer) k
   fits k p = entry-fits list (length buffer) k (p k (omega arith))
 
-  pub message-up-to-length : (k : ℕ) → Passed k → length (messageUpTo list buffer k) ≡ totalUpTo list k
+  segments-up-to-length : (k : ℕ) → Passed k → length (segmentsUpTo list buffer k) ≡ totalUpTo list k
   unfolding flatMap sum
-  message-up-to-length zero p = refl
-  message-up-to-length (suc k) p =
-      ap length (message-suc list buffer k)
-      ∙ length-append (messageUpTo list buffer k) (segmentIn list buffer k)
-      ∙ ap₂ (λ (a b : ℕ). a + b) (message-up-to-length k (fewer k p)) (segment-length list buffer k (fits k p .within))
+  segments-up-to-length zero p = refl
+  segments-up-to-length (suc k) p =
+      ap length (segments-suc list buffer k)
+      ∙ length-append (segmentsUpTo list buffer k) (segmentIn list buffer k)
+      ∙ ap₂ (λ (a b : ℕ). a + b) (segments-up-to-length k (fewer k p)) (segment-length list buffer k (fits k p .within))
       ∙ sym (total-suc list k)
 
   former-within : (k : ℕ) → Passed k → formerEnd list k ≤ length buffer
@@ -95,17 +99,49 @@ module _ (list buffer : List ℕ) where
   all-passed : entriesStatus list (length buffer) ≡ Done → Passed (count list)
   all-passed e = done-each (count list) (entryChecks list (length buffer)) e
 
-  -- The message of an accepted list has as many bytes as its entries name together.
-  pub message-length : entriesStatus list (length buffer) ≡ Done → length (messageOf list buffer) ≡ totalOf list
-  unfolding messageOf totalOf
-  message-length e = message-up-to-length (count list) (all-passed e)
+  module _ (e : entriesStatus list (length buffer) ≡ Done) where
+    -- The first k segments of an accepted list have as many bytes as its first k entries name together.
+    pub passed-up-to-length : (k : ℕ) → k ≤ count list → length (segmentsUpTo list buffer k) ≡ totalUpTo list k
+    passed-up-to-length k h = segments-up-to-length k (λ j l. all-passed e j (omega arith))
 
-  -- It never has more bytes than the buffer.
-  pub message-within : entriesStatus list (length buffer) ≡ Done → length (messageOf list buffer) ≤ length buffer
-  unfolding totalOf
-  message-within e =
-      let p = all-passed e in
-      omega (arith, message-length e, total-former (count list) p, former-within (count list) p)
+    -- So all of them have the sum of the lengths, and never more bytes than the buffer.
+    pub segments-length : length (segmentsOf list buffer) ≡ totalOf list
+    unfolding segmentsOf totalOf
+    segments-length = segments-up-to-length (count list) (all-passed e)
+
+    pub segments-within : length (segmentsOf list buffer) ≤ length buffer
+    unfolding totalOf
+    segments-within =
+        let p = all-passed e in
+        omega (arith, segments-length, total-former (count list) p, former-within (count list) p)
+
+    -- The message has those of its header more.
+    pub message-length : length (messageOf list buffer) ≡ length (headerOf list) + totalOf list
+    unfolding messageOf
+    message-length = simp length-append (omega (arith, segments-length))
+
+    pub message-within : length (messageOf list buffer) ≤ length (headerOf list) + length buffer
+    message-within = omega (arith, message-length, segments-length, segments-within)
+
+pub header-length : (list : List ℕ) → length (headerOf list) ≡ 2 + length list
+unfolding headerOf
+header-length list = length-append (inBytes 2 (count list)) list ∙ ap (λ (n : ℕ). n + length list) (length-inBytes 2 (count list))
+
+-- ---- lists that name the same
+
+-- The joined segments of two lists agree up to a, and so do those from a on: they agree up to b.
+pub same-up-to : (list x list′ y : List ℕ) (a b : ℕ) → a ≤ b → segmentsUpTo list x a ≡ segmentsUpTo list′ y a
+    → ((j : ℕ) → a ≤ j → j < b → segmentIn list x j ≡ segmentIn list′ y j) → segmentsUpTo list x b ≡ segmentsUpTo list′ y b
+same-up-to list x list′ y a zero h e s =
+    let none : a ≡ 0 = omega arith in
+    subst (λ (i : ℕ). segmentsUpTo list x i ≡ segmentsUpTo list′ y i) none e
+same-up-to list x list′ y a (suc b) h e s =
+    ⊎-elim (λ here. subst (λ (i : ℕ). segmentsUpTo list x i ≡ segmentsUpTo list′ y i) here e)
+    (λ l.
+    segments-suc list x b
+    ∙ ap₂ (λ (p q : List ℕ). p ++ q) (same-up-to list x list′ y a b (le-of-suc-le-suc l) e (λ j m n. s j m (omega arith))) (s b (le-of-suc-le-suc l) (omega arith))
+    ∙ sym (segments-suc list′ y b))
+    (eq-or-lt-of-le h)
 
 -- ---- the list's check and that of its entries
 
@@ -151,3 +187,8 @@ module _ (list : List ℕ) (n : ℕ) where
       where
         here : firstRefusal (entryChecks list n k) ≡ Refused r
         here = sym (segment-entry list n k whole (w .there)) ∙ w .refused
+
+-- The segment of an entry of a list that passes is there.
+pub segment-there : (list buffer : List ℕ) → isList list ≡ true → entriesStatus list (length buffer) ≡ Done → (k : ℕ) → k < count list → segmentOf list buffer k ≡ segmentIn list buffer k
+unfolding segmentOf
+segment-there list buffer whole e k l = ap (λ (s : Status). whenDone s (segmentIn list buffer k) []) (passed-entries list (length buffer) whole e k l)

@@ -1,4 +1,4 @@
--- Two buffers that differ only in a value that one entry names: their messages differ only in it, where the message has it; where it lies in one block, the end states of the lists are told apart.
+-- Two lists whose messages differ in one block are told apart by their end states. So are two buffers that differ only in a value that one entry names: their messages differ only in it, where the message has it, and it may lie in one block.
 -- Assumes nothing.
 use mathlib.Core.Path.{_≡_, refl, sym, ap, ap₂, _∙_, subst}
 use mathlib.Core.List.{List, [], _∷_, _++_, append-assoc, flatMap}
@@ -10,23 +10,24 @@ use lib.ListN.{length, take, drop, getD, length-append, length-take, length-drop
 use lib.Seq.{drop-append-add, take-add, drop-drop, getD-drop, take-at, drop-at}
 use mathlib.Core.Bool.{true}
 use Rattle.answers.specs.declared.Status.the-variants.{Done}
+use Rattle.answers.specs.Numbers.{inBytes}
 use Rattle.answers.proofs.Rows.{done-each}
 use Rattle.standard.specs.Values.{DifferWithin, inOneBlock}
 use Rattle.standard.proofs.CutLaws.{take-drop-take}
-use Rattle.standard.proofs.OneValue.{differ-part, differ-append}
+use Rattle.standard.proofs.OneValue.{differ-part, differ-append, differ-behind, one-changed-row}
 use Rattle.standard.specs.Sponge.{imageSize}
-use Rattle.standard.specs.Chain.{messageBits}
+use Rattle.standard.specs.Chain.{messageBits, blocksOf, DifferAt, endState}
 use Rattle.standard.specs.Variants.{variant}
 use Rattle.hasher.specs.declared.Wanted.the-variants.{EndState}
 use Rattle.hasher.specs.Apart.{Differ, ToldApart}
-use Rattle.hasher.proofs.Apart.{block-told, value-told}
-use Rattle.segments.specs.Entries.{offsetOf, lengthOf, endOf, formerEnd, count, segmentIn, entryChecks, entriesStatus, messageOf, placeOf, Names}
+use Rattle.hasher.proofs.Apart.{row-told, block-told, value-told}
+use Rattle.segments.specs.Entries.{offsetOf, lengthOf, endOf, formerEnd, count, segmentIn, entryChecks, entriesStatus, segmentsOf, headerOf, messageOf, placeOf, Names}
 use Rattle.segments.specs.Digests.{listStatus, listInto}
 use Rattle.segments.proofs.EntryLaws.{Fits, entry-fits}
-use Rattle.segments.proofs.ListLaws.{messageUpTo, message-suc, message-up-to-length}
+use Rattle.segments.proofs.ListLaws.{segmentsUpTo, segments-suc, passed-up-to-length, same-up-to}
 use Rattle.segments.proofs.DigestLaws.{Accepted, accepted, list-whole-into}
 
--- ---- the bytes of a message are the buffer's
+-- ---- a message is of bytes, if the list and the buffer are
 
 abbrev Bytes : List ℕ → Type 0
 Bytes xs = (i : ℕ) → getD xs i 0 < 256
@@ -42,18 +43,25 @@ append-bytes [] ys hx hy i = hy i
 append-bytes (x ∷ xs) ys hx hy zero = hx 0
 append-bytes (x ∷ xs) ys hx hy (suc i) = append-bytes xs ys (λ j. hx (suc j)) hy i
 
-module _ (list buffer : List ℕ) (h : Bytes buffer) where
-  up-to-bytes : (k : ℕ) → Bytes (messageUpTo list buffer k)
+-- those of the header
+header-bytes : (list : List ℕ) → Bytes list → Bytes (headerOf list)
+unfolding headerOf inBytes
+header-bytes list h zero = omega arith
+header-bytes list h (suc zero) = omega arith
+header-bytes list h (suc (suc i)) = h i
+
+module _ (list buffer : List ℕ) (hl : Bytes list) (h : Bytes buffer) where
+  up-to-bytes : (k : ℕ) → Bytes (segmentsUpTo list buffer k)
   unfolding flatMap segmentIn
   up-to-bytes zero = λ i. omega arith
   up-to-bytes (suc k) =
-      subst Bytes (sym (message-suc list buffer k))
-      (append-bytes (messageUpTo list buffer k) (segmentIn list buffer k) (up-to-bytes k)
+      subst Bytes (sym (segments-suc list buffer k))
+      (append-bytes (segmentsUpTo list buffer k) (segmentIn list buffer k) (up-to-bytes k)
       (take-bytes (lengthOf list k) (drop (offsetOf list k) buffer) (λ i. rw getD-drop (h _))))
 
   pub message-bytes : Bytes (messageOf list buffer)
-  unfolding messageOf
-  message-bytes = up-to-bytes (count list)
+  unfolding messageOf segmentsOf
+  message-bytes = append-bytes (headerOf list) (segmentsOf list buffer) (header-bytes list hl) (up-to-bytes (count list))
 
 -- ---- entries in order
 
@@ -111,11 +119,9 @@ module _ (list x y : List ℕ) (p n : ℕ) (d : DifferWithin p n x y) (passes : 
   unfolding segmentIn
   same-behind j h there = part-behind (offsetOf list j) (lengthOf list j) (omega (arith, ends-before list (length x) passes k j h there, v .ends))
 
-  front : (j : ℕ) → j ≤ k → messageUpTo list x j ≡ messageUpTo list y j
+  front : segmentsUpTo list x k ≡ segmentsUpTo list y k
   unfolding flatMap
-  front zero h = refl
-  front (suc j) h =
-      message-suc list x j ∙ ap₂ (λ (s t : List ℕ). s ++ t) (front j (omega arith)) (same-before j (omega arith)) ∙ sym (message-suc list y j)
+  front = same-up-to list x list y 0 k (omega arith) refl (λ j l h. same-before j h)
 
   -- the segment of entry k: bytes before the value, the value, bytes behind it
   abbrev behind : ℕ
@@ -135,15 +141,15 @@ module _ (list x y : List ℕ) (p n : ℕ) (d : DifferWithin p n x y) (passes : 
 
   -- with the segments before it
   abbrev before : List ℕ → List ℕ
-  before z = messageUpTo list z k ++ take (p - offsetOf list k) (drop (offsetOf list k) z)
+  before z = segmentsUpTo list z k ++ take (p - offsetOf list k) (drop (offsetOf list k) z)
 
-  cut-message : (z : List ℕ) → messageUpTo list z (suc k) ≡ before z ++ (take n (drop p z) ++ take behind (drop (p + n) z))
-  cut-message z = message-suc list z k ∙ ap (λ (t : List ℕ). messageUpTo list z k ++ t) (cut-segment z) ∙ sym (append-assoc (messageUpTo list z k) _ _)
+  cut-message : (z : List ℕ) → segmentsUpTo list z (suc k) ≡ before z ++ (take n (drop p z) ++ take behind (drop (p + n) z))
+  cut-message z = segments-suc list z k ∙ ap (λ (t : List ℕ). segmentsUpTo list z k ++ t) (cut-segment z) ∙ sym (append-assoc (segmentsUpTo list z k) _ _)
 
   same-around : (t : List ℕ) → before x ++ (t ++ take behind (drop (p + n) x)) ≡ before y ++ (t ++ take behind (drop (p + n) y))
   same-around t =
       ap₂ (λ (a b : List ℕ). a ++ (t ++ b))
-      (ap₂ (λ (a b : List ℕ). a ++ b) (front k (omega arith)) (part-before (offsetOf list k) (p - offsetOf list k) (omega (arith, v .begins))))
+      (ap₂ (λ (a b : List ℕ). a ++ b) front (part-before (offsetOf list k) (p - offsetOf list k) (omega (arith, v .begins))))
       (part-behind (p + n) behind (omega arith))
 
   value-length : (z : List ℕ) → length z ≡ length x → length (take n (drop p z)) ≡ n
@@ -152,44 +158,49 @@ module _ (list x y : List ℕ) (p n : ℕ) (d : DifferWithin p n x y) (passes : 
   before-length : length (before x) ≡ placeOf list k p
   unfolding placeOf
   before-length =
-      length-append (messageUpTo list x k) _
+      length-append (segmentsUpTo list x k) _
       ∙ ap₂ (λ (a b : ℕ). a + b)
-      (message-up-to-length list x k (λ j h. done-each (count list) (entryChecks list (length x)) passes j (omega (arith, v .there))))
+      (passed-up-to-length list x passes k (omega (arith, v .there)))
       (simp (length-take, length-drop) (omega (arith, fits list (length x) passes k (v .there) .within, v .ends, v .begins)))
 
-  at-value : DifferWithin (placeOf list k p) n (messageUpTo list x (suc k)) (messageUpTo list y (suc k))
+  at-value : DifferWithin (placeOf list k p) n (segmentsUpTo list x (suc k)) (segmentsUpTo list y (suc k))
   at-value =
-      subst (λ (q : ℕ). DifferWithin q n (messageUpTo list x (suc k)) (messageUpTo list y (suc k))) before-length
+      subst (λ (q : ℕ). DifferWithin q n (segmentsUpTo list x (suc k)) (segmentsUpTo list y (suc k))) before-length
       (differ-same (length (before x)) n _ _ _ _ (sym (cut-message x)) (same-around (take n (drop p y)) ∙ sym (cut-message y))
       (differ-between (before x) (take behind (drop (p + n) x)) (take n (drop p x)) (take n (drop p y)) n
       (value-length x refl) (value-length y (sym (d .size))) (differ-part p n x y d)))
 
   -- and the segments behind it
-  further-on : (j : ℕ) → suc k + j ≤ count list → DifferWithin (placeOf list k p) n (messageUpTo list x (suc k + j)) (messageUpTo list y (suc k + j))
+  further-on : (j : ℕ) → suc k + j ≤ count list → DifferWithin (placeOf list k p) n (segmentsUpTo list x (suc k + j)) (segmentsUpTo list y (suc k + j))
   further-on zero h =
       let e : suc k ≡ suc k + 0 = omega arith in
-      subst (λ (i : ℕ). DifferWithin (placeOf list k p) n (messageUpTo list x i) (messageUpTo list y i)) e at-value
+      subst (λ (i : ℕ). DifferWithin (placeOf list k p) n (segmentsUpTo list x i) (segmentsUpTo list y i)) e at-value
   further-on (suc j) h =
       let i : ℕ = suc k + j in
       let e : suc i ≡ suc k + suc j = omega arith in
-      subst (λ (i : ℕ). DifferWithin (placeOf list k p) n (messageUpTo list x i) (messageUpTo list y i)) e
-      (differ-same (placeOf list k p) n _ _ _ _ (sym (message-suc list x i))
-      (ap (λ (t : List ℕ). messageUpTo list y i ++ t) (same-behind i (omega arith) (omega arith)) ∙ sym (message-suc list y i))
-      (differ-append (placeOf list k p) n (messageUpTo list x i) (messageUpTo list y i) (further-on j (omega arith)) (segmentIn list x i)))
+      subst (λ (i : ℕ). DifferWithin (placeOf list k p) n (segmentsUpTo list x i) (segmentsUpTo list y i)) e
+      (differ-same (placeOf list k p) n _ _ _ _ (sym (segments-suc list x i))
+      (ap (λ (t : List ℕ). segmentsUpTo list y i ++ t) (same-behind i (omega arith) (omega arith)) ∙ sym (segments-suc list y i))
+      (differ-append (placeOf list k p) n (segmentsUpTo list x i) (segmentsUpTo list y i) (further-on j (omega arith)) (segmentIn list x i)))
 
-  pub message-value : DifferWithin (placeOf list k p) n (messageOf list x) (messageOf list y)
-  unfolding messageOf
-  message-value =
+  pub segments-value : DifferWithin (placeOf list k p) n (segmentsOf list x) (segmentsOf list y)
+  unfolding segmentsOf
+  segments-value =
       let e : suc k + (count list - suc k) ≡ count list = omega (arith, v .there) in
-      subst (λ (i : ℕ). DifferWithin (placeOf list k p) n (messageUpTo list x i) (messageUpTo list y i)) e (further-on (count list - suc k) (omega (arith, v .there)))
+      subst (λ (i : ℕ). DifferWithin (placeOf list k p) n (segmentsUpTo list x i) (segmentsUpTo list y i)) e (further-on (count list - suc k) (omega (arith, v .there)))
+
+  -- behind one header
+  pub message-value : DifferWithin (length (headerOf list) + placeOf list k p) n (messageOf list x) (messageOf list y)
+  unfolding messageOf
+  message-value = differ-behind (placeOf list k p) n (segmentsOf list x) (segmentsOf list y) segments-value (headerOf list)
 
 -- the lists, buffers and outputs of two calls that are asked for the end state, both Done
 module _ (v : ℕ) (list x out list′ y out′ : List ℕ) (dx : listStatus v list x EndState (length out) ≡ Done) (dy : listStatus v list′ y EndState (length out′) ≡ Done) where
   ax : Accepted v list x EndState (length out)
-  ax = accepted v list x EndState (length out) dx
+  ax = accepted v list x EndState (length out) _ refl dx
 
   ay : Accepted v list′ y EndState (length out′)
-  ay = accepted v list′ y EndState (length out′) dy
+  ay = accepted v list′ y EndState (length out′) _ refl dy
 
   -- the bytes that the two calls write differ
   abbrev Apart : Type 0
@@ -202,17 +213,26 @@ module _ (v : ℕ) (list x out list′ y out′ : List ℕ) (dx : listStatus v l
       ∙ e
       ∙ ap (take (imageSize (variant v))) (list-whole-into v list′ y EndState (ay .whole) (ay .all-fit) out′))
 
+  -- Demand 3 over lists: rows of blocks of equal count that differ at exactly one place.
+  pub list-row-told : (i : ℕ) → DifferAt i (blocksOf (variant v) (messageBits (messageOf list x))) (blocksOf (variant v) (messageBits (messageOf list′ y)))
+      → (endState (variant v) (messageBits (messageOf list x)) ≡ endState (variant v) (messageBits (messageOf list′ y)) → ⊥) × Apart
+  list-row-told i d = (
+    one-changed-row v (ax .message .named) i (messageBits (messageOf list x)) (messageBits (messageOf list′ y)) d,
+    lists-told (row-told v (ax .message .named) (messageOf list x) (messageOf list′ y) (ax .message .few) (ay .message .few) i d),
+  )
+
   -- Two messages over lists that differ, and only within the block j.
   pub list-block-told : (j : ℕ) → DifferWithin (j * variant v .r) (variant v .r) (messageBits (messageOf list x)) (messageBits (messageOf list′ y)) → Apart
   list-block-told j d = lists-told (block-told v (ax .message .named) (messageOf list x) (messageOf list′ y) (ax .message .few) j d)
 
 -- Two buffers that differ only in a value that one entry of a list names, and that lies in one block of the message.
 pub list-value-told : (v : ℕ) (list x out y out′ : List ℕ) → listStatus v list x EndState (length out) ≡ Done → listStatus v list y EndState (length out′) ≡ Done
-    → ((i : ℕ) → getD x i 0 < 256) → ((i : ℕ) → getD y i 0 < 256) → (p n : ℕ) → DifferWithin p n x y
-    → (k : ℕ) → Names list k p n → inOneBlock (variant v) (placeOf list k p) n ≡ true
+    → ((i : ℕ) → getD list i 0 < 256) → ((i : ℕ) → getD x i 0 < 256) → ((i : ℕ) → getD y i 0 < 256) → (p n : ℕ) → DifferWithin p n x y
+    → (k : ℕ) → Names list k p n → inOneBlock (variant v) (length (headerOf list) + placeOf list k p) n ≡ true
     → Differ (imageSize (variant v)) (listInto v list x EndState out) (listInto v list y EndState out′)
-list-value-told v list x out y out′ dx dy hx hy p n d k w o =
-    let a = accepted v list x EndState (length out) dx in
+list-value-told v list x out y out′ dx dy hl hx hy p n d k w o =
+    let a = accepted v list x EndState (length out) _ refl dx in
     let m = message-value list x y p n d (a .all-fit) k w in
     lists-told v list x out list y out′ dx dy
-    (value-told v (a .message .named) (messageOf list x) (messageOf list y) (a .message .few) (message-bytes list x hx) (message-bytes list y hy) (placeOf list k p) n m o)
+    (value-told v (a .message .named) (messageOf list x) (messageOf list y) (a .message .few) (message-bytes list x hl hx) (message-bytes list y hl hy)
+    (length (headerOf list) + placeOf list k p) n m o)

@@ -1,4 +1,4 @@
--- The digest or end state over the segments of a list (document 01: mark of a sheet).
+-- The digest or end state over a list and its segments (document 01: mark of a sheet).
 -- Assumes nothing.
 use mathlib.Core.List.{List, [], _∷_, _++_}
 use Prim.Native.Nat.{ℕ}

@@ -1,8 +1,8 @@
 -- A segment list (document 01: cut sheet): entries (pairs) of eight bytes that name segments (parts) of a buffer.
 -- Assumes nothing.
 use mathlib.Core.Path.{_≡_}
-use mathlib.Core.Bool.{Bool, _&&_}
-use mathlib.Core.List.{List, [], _∷_, flatMap, sum}
+use mathlib.Core.Bool.{Bool, true, _&&_}
+use mathlib.Core.List.{List, [], _∷_, _++_, flatMap, sum}
 use Prim.Native.Nat.{ℕ, zero, suc, _+_, _-_, _*_, _/_, _%_, _≤_, _<_}
 use lib.Dec.{eqb, ltb, leb}
 use lib.ListN.{length, take, drop}
@@ -10,7 +10,7 @@ use Rattle.answers.specs.declared.Refusal.the-variants.{OutOfRange, BadList, Mi
 use Rattle.answers.specs.declared.Status.{Status}
 use Rattle.answers.specs.declared.Status.the-variants.{Done}
 use Rattle.answers.specs.Checks.{Check, unless, when, firstRefusal, each}
-use Rattle.answers.specs.Numbers.{bigEndian}
+use Rattle.answers.specs.Numbers.{bigEndian, inBytes}
 use Rattle.answers.specs.Outputs.{whenDone}
 use Rattle.standard.specs.Grid.{tab}
 
@@ -80,9 +80,17 @@ pub record StopsAt (list : List ℕ) (n k : ℕ) (s : Status) : Type 0 where
   pub earlier : (j : ℕ) → j < k → segmentStatus list n j ≡ Done
   pub refused : segmentStatus list n k ≡ s
 
--- the message: the segments joined in order
+-- the segments joined in order
+unfoldable pub segmentsOf : List ℕ → List ℕ → List ℕ
+segmentsOf list buffer = flatMap (λ s. s) (tab (count list) (segmentIn list buffer))
+
+-- what stands in front of them: the number of entries in two bytes, and the list
+unfoldable pub headerOf : List ℕ → List ℕ
+headerOf list = inBytes 2 (count list) ++ list
+
+-- the message (document 02, Q-3): the number of entries, the list, the segments
 unfoldable pub messageOf : List ℕ → List ℕ → List ℕ
-messageOf list buffer = flatMap (λ s. s) (tab (count list) (segmentIn list buffer))
+messageOf list buffer = headerOf list ++ segmentsOf list buffer
 
 -- the bytes that the first k entries name together, and those of all
 abbrev pub totalUpTo : List ℕ → ℕ → ℕ
@@ -91,7 +99,7 @@ totalUpTo list k = sum _+_ 0 (tab k (lengthOf list))
 unfoldable pub totalOf : List ℕ → ℕ
 totalOf list = totalUpTo list (count list)
 
--- where in the message the byte p of the buffer stands, which entry k names
+-- where among the joined segments the byte p of the buffer stands, which entry k names
 unfoldable pub placeOf : List ℕ → ℕ → ℕ → ℕ
 placeOf list k p = totalUpTo list k + (p - offsetOf list k)
 
@@ -100,3 +108,23 @@ pub record Names (list : List ℕ) (k p n : ℕ) : Type 0 where
   pub there : k < count list
   pub begins : offsetOf list k ≤ p
   pub ends : p + n ≤ endOf list k
+
+-- a list that none of 9, 10 and 11 refuses over a buffer: an accepted one
+abbrev pub Passes : List ℕ → List ℕ → Type 0
+Passes list buffer = (isList list ≡ true) × (entriesStatus list (length buffer) ≡ Done)
+
+-- two lists, each over its own buffer, are equal and entry by entry name equal bytes
+pub record SameSegments (list buffer list′ buffer′ : List ℕ) : Type 0 where
+  pub lists : list ≡ list′
+  pub segments : (k : ℕ) → segmentOf list buffer k ≡ segmentOf list′ buffer′ k
+
+-- two lists that differ only in the border between the touching segments of the entries k and k + 1
+pub record BorderMoved (k : ℕ) (list list′ : List ℕ) : Type 0 where
+  pub counts : count list ≡ count list′
+  pub there : suc k < count list
+  pub begins : offsetOf list k ≡ offsetOf list′ k
+  pub touch : endOf list k ≡ offsetOf list (suc k)
+  pub touch′ : endOf list′ k ≡ offsetOf list′ (suc k)
+  pub moved : endOf list k ≡ endOf list′ k → ⊥
+  pub ends : endOf list (suc k) ≡ endOf list′ (suc k)
+  pub elsewhere : (j : ℕ) → j < count list → (j ≡ k → ⊥) → (j ≡ suc k → ⊥) → (offsetOf list j ≡ offsetOf list′ j) × (lengthOf list j ≡ lengthOf list′ j)

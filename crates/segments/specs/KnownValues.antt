@@ -1,12 +1,14 @@
--- All known values of document 01 that are proved: those of the standard, and those for segment lists of a buffer of 6 bytes.
+-- All known values of document 01 that are proved: those of the standard, and those for segment lists of a buffer of 6 bytes, with document 02's.
 -- Assumes nothing.
 use mathlib.Core.List.{List, [], _∷_, _++_}
 use Prim.Native.Nat.{ℕ, _/_, _%_}
+use lib.ListN.{length}
 use Rattle.answers.specs.declared.Status.{Status}
+use Rattle.answers.specs.Numbers.{inBytes}
 use Rattle.answers.specs.Refusals.{answer}
 use Rattle.standard.specs.KnownValues as standard
 use Rattle.standard.specs.KnownValues.{Row}
-use Rattle.segments.specs.Entries.{segmentStatus, segmentOf, entriesStatus, messageOf}
+use Rattle.segments.specs.Entries.{count, segmentStatus, segmentOf, entriesStatus, segmentsOf, messageOf}
 
 -- an entry of an offset and a length below 256
 abbrev pub entryOf : ℕ → ℕ → List ℕ
@@ -24,12 +26,19 @@ parts s = answer s % 256 ∷ answer s / 256 ∷ []
 abbrev pub answerOf : List ℕ → List ℕ
 answerOf list = parts (entriesStatus list 6)
 
+-- the bytes of a message, and of these those of the count, of the list and of the segments
+abbrev pub sizesOf : List ℕ → List ℕ → List ℕ
+sizesOf list buffer = length (messageOf list buffer) ∷ length (inBytes 2 (count list)) ∷ length list ∷ length (segmentsOf list buffer) ∷ []
+
 -- the rows for lists
 abbrev pub listValues : List Row
 listValues =
     -- (0, 2), (3, 2) take the bytes 0, 1, 3, 4
     record { gives = answerOf (entryOf 0 2 ++ entryOf 3 2); stated = 0 ∷ 0 ∷ [] }
-    ∷ record { gives = messageOf (entryOf 0 2 ++ entryOf 3 2) sixBytes; stated = 0 ∷ 1 ∷ 3 ∷ 4 ∷ [] }
+    ∷ record { gives = segmentsOf (entryOf 0 2 ++ entryOf 3 2) sixBytes; stated = 0 ∷ 1 ∷ 3 ∷ 4 ∷ [] }
+    -- and give 22 bytes (document 02, Q-3): 2 of count, 16 of list, 4 of segments
+    ∷ record { gives = sizesOf (entryOf 0 2 ++ entryOf 3 2) sixBytes; stated = 22 ∷ 2 ∷ 16 ∷ 4 ∷ [] }
+    ∷ record { gives = messageOf (entryOf 0 2 ++ entryOf 3 2) sixBytes; stated = 0 ∷ 2 ∷ (entryOf 0 2 ++ entryOf 3 2 ++ 0 ∷ 1 ∷ 3 ∷ 4 ∷ []) }
     ∷ record { gives = segmentOf (entryOf 0 2 ++ entryOf 3 2) sixBytes 0; stated = 0 ∷ 1 ∷ [] }
     ∷ record { gives = segmentOf (entryOf 0 2 ++ entryOf 3 2) sixBytes 1; stated = 3 ∷ 4 ∷ [] }
     -- (0, 2), (1, 2) gives 10 at entry 1
@@ -39,6 +48,11 @@ listValues =
     ∷ record { gives = answerOf (entryOf 5 2); stated = 11 ∷ 0 ∷ [] }
     -- (6, 0) passes
     ∷ record { gives = answerOf (entryOf 6 0); stated = 0 ∷ 0 ∷ [] }
+    -- not the papers': the border of (0, 2), (2, 2) moved by one shows in the message, and not in the joined segments
+    ∷ record { gives = segmentsOf (entryOf 0 2 ++ entryOf 2 2) sixBytes; stated = 0 ∷ 1 ∷ 2 ∷ 3 ∷ [] }
+    ∷ record { gives = segmentsOf (entryOf 0 3 ++ entryOf 3 1) sixBytes; stated = 0 ∷ 1 ∷ 2 ∷ 3 ∷ [] }
+    ∷ record { gives = messageOf (entryOf 0 2 ++ entryOf 2 2) sixBytes; stated = 0 ∷ 2 ∷ (entryOf 0 2 ++ entryOf 2 2 ++ 0 ∷ 1 ∷ 2 ∷ 3 ∷ []) }
+    ∷ record { gives = messageOf (entryOf 0 3 ++ entryOf 3 1) sixBytes; stated = 0 ∷ 2 ∷ (entryOf 0 3 ++ entryOf 3 1 ++ 0 ∷ 1 ∷ 2 ∷ 3 ∷ []) }
     ∷ []
 
 -- the one list

@@ -8,7 +8,7 @@ ghost use Rattle.answers.specs.declared.Status.the-variants.{Done};
 ghost use Rattle.answers.specs.Checks.{firstRefusal};
 ghost use Rattle.answers.specs.Outputs.{most};
 ghost use Rattle.hasher.specs.Running.{Open, updated};
-ghost use Rattle.segments.specs.Entries.{offsetOf, lengthOf, endOf, formerEnd, isList, count, entryChecks, segmentStatus, segmentOf, segmentAt, further, entriesStatus, messageOf, totalOf};
+ghost use Rattle.segments.specs.Entries.{offsetOf, lengthOf, endOf, formerEnd, isList, count, entryChecks, segmentStatus, segmentOf, segmentAt, further, entriesStatus, segmentsOf, headerOf, totalOf};
 ghost use Rattle.segments.specs.Digests.{listStatus, listInto};
 use answers::Refusal;
 use answers::Status;
@@ -115,13 +115,13 @@ fn check_all(list: &[u8], buffer: &[u8]) -> Status
     Status::Done
 }
 
-// The bytes that the entries name together.
-fn total_length(list: &[u8]) -> usize
+// The bytes of the message: two of count, the list, and what the entries name. No sum wraps: 512 lengths of four bytes stay far below a usize.
+fn message_length(list: &[u8]) -> usize
     requires { ⌜ isList (now list) ≡ true ⌝ }
-    ensures { λ r. ⌜ r ≡ totalOf (now (list .entry)) ⌝ }
+    ensures { λ r. ⌜ r ≡ length (headerOf (now (list .entry))) + totalOf (now (list .entry)) ⌝ }
 {
     let n = list.len() / 8;
-    let mut sum: usize = 0;
+    let mut sum: usize = 2 + list.len();
     let mut k = 0;
     while k < n {
         sum += length_at(list, k) as usize;
@@ -144,15 +144,28 @@ fn check_list(variant: u32, list: &[u8], buffer: &[u8], wanted: Wanted, n: usize
     let Status::Done = s else {
         return s;
     };
-    hasher::check_whole(variant, total_length(list), wanted, n)
+    hasher::check_whole(variant, message_length(list), wanted, n)
+}
+
+// The running hash after the number of entries and the list.
+fn update_header(h: Hasher, list: &[u8]) -> Hasher
+    requires { ⌜ Open h ⌝ }
+    requires { ⌜ isList (now list) ≡ true ⌝ }
+    requires { ⌜ h .total + length (headerOf (now list)) ≤ most ⌝ }
+    ensures { λ r. ⌜ r ≡ updated h (headerOf (now (list .entry))) .hasher ⌝ }
+{
+    let count = answers::u16_bytes((list.len() / 8) as u16);
+    let counted = hasher::update(h, &count);
+    let listed = hasher::update(counted.hasher, list);
+    listed.hasher
 }
 
 // The running hash after every segment in turn, each read where it lies in the buffer.
 fn update_all(h: Hasher, list: &[u8], buffer: &[u8]) -> Hasher
     requires { ⌜ Open h ⌝ }
     requires { ⌜ (isList (now list) ≡ true) × (entriesStatus (now list) (length (now buffer)) ≡ Done) ⌝ }
-    requires { ⌜ h .total + length (messageOf (now list) (now buffer)) ≤ most ⌝ }
-    ensures { λ r. ⌜ r ≡ updated h (messageOf (now (list .entry)) (now (buffer .entry))) .hasher ⌝ }
+    requires { ⌜ h .total + length (segmentsOf (now list) (now buffer)) ≤ most ⌝ }
+    ensures { λ r. ⌜ r ≡ updated h (segmentsOf (now (list .entry)) (now (buffer .entry))) .hasher ⌝ }
 {
     let n = list.len() / 8;
     let mut g = h;
@@ -165,7 +178,7 @@ fn update_all(h: Hasher, list: &[u8], buffer: &[u8]) -> Hasher
     g
 }
 
-// The digest over the segments of a list, or the image of the end state: refusals 1, 9, 10, 11, 4, 5. A refusal leaves every byte.
+// The digest over a list and its segments, or the image of the end state: refusals 1, 9, 10, 11, 4, 5. A refusal leaves every byte.
 pub fn digest_list(
     variant: u32,
     list: &[u8],
@@ -181,7 +194,8 @@ pub fn digest_list(
         return s;
     };
     let begun = hasher::start(variant);
-    let h = update_all(begun.hasher, list, buffer);
+    let led = update_header(begun.hasher, list);
+    let h = update_all(led, list, buffer);
     let ended = hasher::finish(h);
     hasher::read(ended.hasher, wanted, out)
 }

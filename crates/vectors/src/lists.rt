@@ -1,5 +1,5 @@
-// Segment lists: the known values of document 01, and calls that are refused. A line gives the list, the buffer and, for one entry, its
-// number.
+// Segment lists: the known values of documents 01 and 02, a border that is moved, and calls that are refused. A line gives the list, the
+// buffer and, for one entry, its number.
 use crate::show;
 use crate::whole;
 use hasher::Wanted;
@@ -70,6 +70,28 @@ fn known_values(buffer: &[u8]) {
     only(one(6, 0), buffer);
 }
 
+// The same results as for a list whose message this is.
+fn as_message(message: &[u8]) {
+    whole::whole(Wanted::Digest, 1, message, 10);
+    whole::whole(Wanted::EndState, 6, message, 11);
+}
+
+// The message of (0, 2), (3, 2): the number of entries, the list, the segments.
+fn twenty_two_bytes() {
+    as_message(
+        b"\x00\x02\x00\x00\x00\x00\x00\x00\x00\x02\x00\x00\x00\x03\x00\x00\x00\x02\x10\x11\x13\x14",
+    );
+}
+
+// Touching segments, their border in two places; no entry.
+fn borders(buffer: &[u8]) {
+    both(two(0, 2, 2, 2), buffer);
+    both(two(0, 3, 3, 1), buffer);
+    digest(Wanted::Digest, 1, b"", buffer, 10);
+    digest(Wanted::EndState, 6, b"", buffer, 11);
+    as_message(b"\x00\x00");
+}
+
 // Lists that are not whole entries, no variant, and an output one byte too short.
 fn refused(buffer: &[u8]) {
     let list = two(0, 2, 3, 2);
@@ -81,6 +103,8 @@ fn refused(buffer: &[u8]) {
 
 fn six(buffer: &[u8]) {
     known_values(buffer);
+    twenty_two_bytes();
+    borders(buffer);
     refused(buffer);
 }
 

@@ -44,7 +44,7 @@ pub fn size(v: u8, wanted: Wanted) -> usize
 }
 
 // One call, with an output of n bytes.
-fn whole(wanted: Wanted, v: u32, message: &[u8], n: usize)
+pub fn whole(wanted: Wanted, v: u32, message: &[u8], n: usize)
     requires { ⌜ n ≤ 36 ⌝ }
 {
     let mut out = [0xA0u8; 36];

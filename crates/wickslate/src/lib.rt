@@ -162,7 +162,7 @@ pub extern "C" fn wickslate_advance<'s, 'a>(c: &'s mut Cursor<'a>) -> u32
     lent::answer_of_step(lent::advance(c))
 }
 
-// The digest over the segments of a list or, if `wanted` is not 0, the end state: refusals 1, 9, 10, 11, 4, 5.
+// The digest over a list and its segments or, if `wanted` is not 0, the end state: refusals 1, 9, 10, 11, 4, 5.
 #[no_mangle]
 pub extern "C" fn wickslate_digest_list(
     variant: u32,

@@ -1,8 +1,9 @@
-//! Segment lists: the known values, and a call for each other way to be
-//! refused.
+//! Segment lists: the known values, a border that is moved, and a call for
+//! each other way to be refused.
 
 use std::fmt::Write;
 
+use super::whole::add_whole;
 use super::{hexadecimal, name, result_hexadecimal, status};
 use crate::segments::{digest_list, segment};
 
@@ -16,6 +17,15 @@ pub fn add(lines: &mut String) {
     add_both(lines, [(0, 2), (1, 2)]);
     add_only(lines, (5, 2));
     add_only(lines, (6, 0));
+    // As a whole message: the number of entries, the list, the segments.
+    let counted = [0, 2, 0, 0, 0, 0, 0, 0, 0, 2, 0, 0, 0, 3, 0, 0, 0, 2];
+    add_message(lines, &[&counted[..], &[0x10, 0x11, 0x13, 0x14]].concat());
+    // Touching segments, their border in two places; no entry.
+    add_both(lines, [(0, 2), (2, 2)]);
+    add_both(lines, [(0, 3), (3, 1)]);
+    add_digest(lines, false, 1, &[], 10);
+    add_digest(lines, true, 6, &[], 11);
+    add_message(lines, &[0, 0]);
     // Not whole entries; no variant; an output a byte too short.
     let list = bytes_of(&[(0, 2), (3, 2)]);
     add_segment(lines, &list[..9], 0);
@@ -45,6 +55,12 @@ fn add_digest(lines: &mut String, image: bool, number: u32, list: &[u8], bytes: 
     let input = [list, SIX].map(hexadecimal).join("+");
     let output = result_hexadecimal(number, image, &out);
     writeln!(lines, "list-{name} {number} {input} {status} {output}").expect("memory");
+}
+
+/// The same results as for a list whose message this is.
+fn add_message(lines: &mut String, message: &[u8]) {
+    add_whole(lines, false, 1, message, 10);
+    add_whole(lines, true, 6, message, 11);
 }
 
 /// Both entries of a list of two, and the results over it.

@@ -31,7 +31,7 @@ pub fn add(lines: &mut String) {
 }
 
 /// One call, with an output of so many bytes.
-fn add_whole(lines: &mut String, image: bool, number: u32, message: &[u8], bytes: usize) {
+pub fn add_whole(lines: &mut String, image: bool, number: u32, message: &[u8], bytes: usize) {
     let result = match image {
         true => end_state(number, message),
         false => digest(number, message),

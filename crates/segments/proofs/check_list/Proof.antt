@@ -36,7 +36,7 @@ returns-4 c =
     let all = told .before .before in
     let a = all .before .before .before .before .before .before .before .args in
     list-message (a .variant) (a .list .now) (a .buffer .now) (a .wanted) (whole (all .before)) (sym (all .check-all .ensures) ∙ told .enum-told .given .1) (a .n) _ _
-    (c .before .total-length .ensures) (c .check-whole .ensures)
+    (c .before .message-length .ensures) (c .check-whole .ensures)
 
 pub check-list-spec : {M : Type 1} → statement M
 check-list-spec =

@@ -7,13 +7,13 @@ use Rattle.hasher.specs.declared.Advanced.{Advanced}
 use Rattle.hasher.proofs.Owned.{owned}
 use Rattle.hasher.proofs.Next.{onward}
 use Rattle.segments.specs.Entries.{count}
-use Rattle.segments.proofs.ListLaws.{messageUpTo}
+use Rattle.segments.proofs.ListLaws.{segmentsUpTo}
 use Rattle.segments.proofs.DigestLaws.{no-segment, next-segment, every-segment}
 use Rattle.segments.proofs.update_all.Statement.{statement}
 use Rattle.segments.proofs.update_all.Tie as tie
 
 abbrev Inv-loop : tie.InvT-loop
-Inv-loop list buffer n g₀ k₀ g k = (k ≤ n) × (g ≡ onward g₀ (messageUpTo list buffer k))
+Inv-loop list buffer n g₀ k₀ g k = (k ≤ n) × (g ≡ onward g₀ (segmentsUpTo list buffer k))
 
 abbrev μ-loop : tie.MeasureT-loop
 μ-loop list buffer n g₀ k₀ g k = n - k
@@ -41,7 +41,7 @@ returns c =
     let p = s .pre in
     let e : c .before .loop .k ≡ count (a .list .now) = omega arith in
     c .before .loop .inv .1
-    ∙ ap (λ k. onward (a .h) (messageUpTo (a .list .now) (a .buffer .now) k)) e
+    ∙ ap (λ k. onward (a .h) (segmentsUpTo (a .list .now) (a .buffer .now) k)) e
     ∙ every-segment (a .h) (owned _ _ (s .good .0)) (p .0) (a .list .now) (a .buffer .now) (p .1 .0 .0) (p .1 .0 .1) (p .1 .1)
 
 pub update-all-spec : {M : Type 1} → statement M
