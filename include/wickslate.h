@@ -352,10 +352,10 @@ WICKSLATE_CALL uint32_t wickslate_recover(uint32_t variant, const uint8_t *messa
                                           uint8_t *out, size_t out_length);
 
 /*
- * A segment list names the parts of a buffer that make up a message. Each
- * entry has eight bytes: an offset and a length of four bytes each, the high
- * byte first. Entries are sorted by offset and do not overlap; they may touch
- * and may have length 0.
+ * A segment list names the parts of a buffer that count. Each entry has eight
+ * bytes: an offset and a length of four bytes each, the high byte first.
+ * Entries are sorted by offset and do not overlap; they may touch and may have
+ * length 0.
  *
  * Reads the offset and length of entry `k`, counted from 0, as they stand. A
  * caller walks a list with k = 0, 1, .. until the answer is 7.
@@ -405,11 +405,16 @@ WICKSLATE_CALL uint32_t wickslate_check_entry(const uint8_t *list, size_t list_l
                                               const uint8_t *buffer, size_t buffer_length, size_t k);
 
 /*
- * The digest of the segments joined in list order, or the image of the end
- * state if `wanted` is not 0 (WICKSLATE_DIGEST, WICKSLATE_END_STATE).
+ * The digest over a list, or the image of the end state if `wanted` is not 0
+ * (WICKSLATE_DIGEST, WICKSLATE_END_STATE). The message is the number of
+ * entries in two bytes, the high byte first; the bytes of the list; and the
+ * segments in list order. Of lists that are not refused, equal messages mean
+ * equal lists and, entry by entry, equal segments: moving the border between
+ * two touching segments always changes the message.
  *
  * Refusals: 1; 9; then entry by entry 10 and 11, as above and with the number
- *           of the entry; 4 if the segments together are too long; 5.
+ *           of the entry; 4 if the message is too long, its two bytes of count
+ *           and the list among it; 5.
  * Writes:   the result over the front of `out`, if done. What lies behind it
  *           stays. `list` and `buffer` are only read.
  * Stack:    22,528 bytes.
