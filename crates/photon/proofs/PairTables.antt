@@ -17,7 +17,10 @@ use Rattle.shares.specs.Tables.{Entries, Pairs, pairOf}
 use Rattle.shares.proofs.EntryTests.{entry-constant, entry-share}
 use Rattle.shares.proofs.LookUps.{share-lt}
 use Rattle.shares.proofs.PairSums.{SideBySide}
-use Rattle.photon.specs.Words.{pairAt}
+
+-- entry e of a table of pairs as the code makes it of the shares of each row: the share of a byte's lower half and, 32 bits higher, that of its upper half in the next row
+abbrev pub pairAt : List ℕ → ℕ → ℕ
+pairAt shares e = bitXor (getD shares (16 + 32 * (e / 256) + e % 16) 0) (getD shares (32 + 32 * (e / 256) + e / 16 % 16) 0 * 2 ^ 32 % 2 ^ 64)
 
 -- the constants and the first 16 h pairs are there
 pub record Paired (shares : List ℕ) (h : ℕ) (out : List ℕ) : Type 0 where
@@ -74,16 +77,15 @@ module _ (p : PhotonParameters) (b : SideBySide (placeOf p) p) (shares : List �
       ∙ ap (bitXor A) (shl-exact 32 32 64 (small (2 * k + 1) (e % 256 / 16) (omega arith)) (omega arith))
       ∙ xor-comm A (B * 2 ^ 32) ∙ xor-shifted B 32 A (small (2 * k) (e % 256 % 16) (omega arith))
 
-  pub pairs-of : (n : ℕ) → n ≡ (p .d + 1) / 2 → p .d ≤ 8 → (out : List ℕ) → length out ≡ 1040 → ((r : ℕ) → r < 16 → getD out r 0 ≡ getD shares r 0)
-      → ((e : ℕ) → e < 256 * n → getD out (16 + e) 0 ≡ pairAt shares e) → Pairs p out
-  pairs-of n en few out l cs es =
+  pub pairs-of : (n : ℕ) → n ≡ (p .d + 1) / 2 → p .d ≤ 8 → (h : ℕ) → 16 * n ≤ h → (out : List ℕ) → Paired shares h out → Pairs p out
+  pairs-of n en few h all out u =
       record {
-        size = omega (arith, b .sound .pos);
-        constant = λ r h. cs r (omega arith) ∙ entry-constant 144 p shares S r (omega arith) (omega arith);
+        size = omega (arith, b .sound .pos, u .len);
+        constant = λ r h. u .constants r (omega arith) ∙ entry-constant 144 p shares S r (omega arith) (omega arith);
         pair = λ k x hk hx.
             let e : ℕ = 256 * k + x in
             let place : 16 + 256 * k + x ≡ 16 + e = omega arith in
             let row : e / 256 ≡ k = omega arith in
             let val : e % 256 ≡ x = omega arith in
-            ap (λ (y : ℕ). getD out y 0) place ∙ es e (omega arith) ∙ pair-is e (omega arith) ∙ ap₂ (pairOf (placeOf p) p) row val;
+            ap (λ (y : ℕ). getD out y 0) place ∙ u .pairs e (omega arith) ∙ pair-is e (omega arith) ∙ ap₂ (pairOf (placeOf p) p) row val;
       }

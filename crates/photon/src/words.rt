@@ -12,7 +12,7 @@ ghost use Rattle.standard.specs.Photon.{photonRounds};
 ghost use Rattle.shares.specs.Columns.{placeOf};
 ghost use Rattle.shares.specs.Tables.{Entries, Pairs};
 ghost use Rattle.photon.specs.Parameters.{photonOf};
-ghost use Rattle.photon.specs.Words.{matrixIn, roundThen, pairAt};
+ghost use Rattle.photon.specs.Words.{matrixIn, roundThen};
 
 // ---- bytes of a word
 
@@ -167,13 +167,13 @@ fn fill(out: &mut [u64], at: usize, shares: &[u32; 144], from: usize, above: u64
     }
 }
 
-// n tables of pairs, behind the constants.
-fn pair_rows(out: &mut [u64], shares: &[u32; 144], n: usize)
-    requires { ⌜ (n ≤ 4) × (length (now out) ≡ 1040) ⌝ }
-    ensures { λ _. ⌜ (length (now (out .exit)) ≡ 1040)
-        × ((r : ℕ) → r < 16 → getD (now (out .exit)) r 0 ≡ getD (now (shares .entry)) r 0)
-        × ((e : ℕ) → e < 256 * n → getD (now (out .exit)) (16 + e) 0 ≡ pairAt (now (shares .entry)) e) ⌝ }
+// The tables of pairs of a variant, 1 to 4, behind its constants.
+fn pair_rows(v: usize, out: &mut [u64], shares: &[u32; 144])
+    requires { ⌜ (1 ≤ v) × (v ≤ 4) × (length (now out) ≡ 1040) ⌝ }
+    requires { ⌜ Entries 144 (photonOf v) (now shares) ⌝ }
+    ensures { λ _. ⌜ Pairs (photonOf v) (now (out .exit)) × (length (now (out .exit)) ≡ 1040) ⌝ }
 {
+    let n = (crate::size_of(v) + 1) / 2;
     fill(out, 0, shares, 0, 0);
     let mut h: usize = 0;
     while h < 16 * n {
@@ -195,7 +195,7 @@ fn pairs_100(out: &mut [u64])
     ensures { λ _. ⌜ Pairs (photonOf 1) (now (out .exit)) × (length (now (out .exit)) ≡ 1040) ⌝ }
 {
     let table = shares::shares_100();
-    pair_rows(out, &table, 3);
+    pair_rows(1, out, &table);
 }
 
 fn pairs_144(out: &mut [u64])
@@ -203,7 +203,7 @@ fn pairs_144(out: &mut [u64])
     ensures { λ _. ⌜ Pairs (photonOf 2) (now (out .exit)) × (length (now (out .exit)) ≡ 1040) ⌝ }
 {
     let table = shares::shares_144();
-    pair_rows(out, &table, 3);
+    pair_rows(2, out, &table);
 }
 
 fn pairs_196(out: &mut [u64])
@@ -211,7 +211,7 @@ fn pairs_196(out: &mut [u64])
     ensures { λ _. ⌜ Pairs (photonOf 3) (now (out .exit)) × (length (now (out .exit)) ≡ 1040) ⌝ }
 {
     let table = shares::shares_196();
-    pair_rows(out, &table, 4);
+    pair_rows(3, out, &table);
 }
 
 fn pairs_256(out: &mut [u64])
@@ -219,7 +219,7 @@ fn pairs_256(out: &mut [u64])
     ensures { λ _. ⌜ Pairs (photonOf 4) (now (out .exit)) × (length (now (out .exit)) ≡ 1040) ⌝ }
 {
     let table = shares::shares_256();
-    pair_rows(out, &table, 4);
+    pair_rows(4, out, &table);
 }
 
 // The table of a variant, 1 to 4.

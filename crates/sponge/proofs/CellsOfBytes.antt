@@ -13,6 +13,11 @@ use Rattle.sponge.specs.Cells.{cellIn}
 use Rattle.sponge.specs.Blocks.{halfOf}
 use Rattle.sponge.proofs.CellLaws.{cell-even, cell-odd, cell-wide}
 
+-- a half of a byte has four bits
+pub half-below : (x n : ℕ) → x < 256 → halfOf x n < 16
+half-below x n h =
+    ⊎-elim (λ l. rw (eq-eqb (n % 2) 0 (omega arith)) (omega arith)) (λ l. rw (ne-eqb (n % 2) 0 (λ z. omega arith)) (omega arith)) (lt-or-le (n % 2) 1)
+
 module _ (bytes : List ℕ) (hb : (i : ℕ) → getD bytes i 0 < 256) where
   -- a half of a byte is a cell of four bits
   pub half-is : (n : ℕ) → n / 2 < length bytes → halfOf (getD bytes (n / 2) 0) n ≡ cellIn 4 bytes n

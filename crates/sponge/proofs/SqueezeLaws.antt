@@ -11,8 +11,8 @@ use native.Mathlib.Omega.{arith}
 use lib.ListN.{length, take, drop, length-append, length-drop, length-take, length-replicate, replicate}
 use lib.Seq.{length-take-le, take-add, take-all, take-take, take-append-le}
 use Rattle.standard.specs.Bits.{Order, high-first, bitsOf, bitsIn, pack, unpack, filled, bytesFor, reordered}
-use Rattle.standard.specs.Rounds.{forward}
-use Rattle.standard.specs.Sponge.{Variant, order, permutation, spongeStep, outputs, outputBlocks, squeezed}
+use Rattle.standard.specs.Rounds.{forward, iterate}
+use Rattle.standard.specs.Sponge.{Variant, order, permutation, spongeStep, outputs, outputCount, outputBlocks, squeezed}
 use Rattle.standard.specs.Chain.{step}
 use Rattle.standard.specs.Variants.{variant, known}
 use Rattle.standard.proofs.BitLaws.{length-bitsIn, length-unpack, length-pack, bitsOf-valueOf, bitsIn-take, bitsIn-pack, bitsIn-zeros, take-pack, pack-bitsIn, pack-bytes, pack-none, xorInto-zeros}
@@ -130,6 +130,26 @@ module _ (f : List Bool → List Bool) (r m : ℕ) (pos : 0 < r) (s : List Bool)
       let less : m - 1 < r = omega arith in
       rw (sum, add-mul-div-right (m - 1) 1 pos, div-eq-of-lt less, take-take m r s hr)
 
+  -- the permutations that are left, one fewer than the blocks
+  pub ahead-more : r < m → iterate (blocksFor r m - 1) f s ≡ iterate (blocksFor r (m - r) - 1) f (f s)
+  ahead-more h =
+      let sum : m + (r - 1) ≡ m - r + (r - 1) + 1 * r = omega arith in
+      let some : 0 < blocksFor r (m - r) = le-div-iff-mul-le {k = r} pos .1 (omega arith) in
+      rw (sum, add-mul-div-right (m - r + (r - 1)) 1 pos, add-one) (go (blocksFor r (m - r)) some)
+    where
+      go : (k : ℕ) → 0 < k → iterate (suc k - 1) f s ≡ iterate (k - 1) f (f s)
+      go zero z = absurd (not-suc-le-zero z)
+      go (suc k) z =
+          let one : suc (suc k) - 1 ≡ suc k = omega arith in
+          let two : suc k - 1 ≡ k = omega arith in
+          rw (one, two)
+
+  pub ahead-last : 0 < m → m ≤ r → iterate (blocksFor r m - 1) f s ≡ s
+  ahead-last hm hr =
+      let sum : m + (r - 1) ≡ m - 1 + 1 * r = omega arith in
+      let less : m - 1 < r = omega arith in
+      rw (sum, add-mul-div-right (m - 1) 1 pos, div-eq-of-lt less)
+
 -- ---- the loop over output blocks
 
 -- p of n half bytes of the digest are out, q with each output block, and what the state S still gives makes it whole: the digest out of the end state E
@@ -148,6 +168,8 @@ pub record Squeezing (v : ℕ) (E : List Bool) (n q : ℕ) (out : List ℕ) (S :
       ++ flatMap (reordered (order (variant v)) high-first)
       (outputs (permutation (variant v) forward) (variant v .r′) (variant v .n - 4 * p) (blocksFor (variant v .r′) (variant v .n - 4 * p)) S)
       ≡ squeezed (variant v) E
+  pub ahead : iterate (blocksFor (variant v .r′) (variant v .n - 4 * p) - 1) (permutation (variant v) forward) S
+      ≡ iterate (outputCount (variant v) - 1) (permutation (variant v) forward) E
 
 pub squeezing-start : (v : ℕ) → known v ≡ true → (E : List Bool) → length E ≡ variant v .t → (n q : ℕ) → n ≡ variant v .n / 8 * 2 → q ≡ variant v .r′ / 4
     → Squeezing v E n q (replicate stateRoom 0) E 0
@@ -167,6 +189,7 @@ squeezing-start v k E l n q en eq =
       kept = sym (pack-none high-first stateRoom);
       layout = inr (rw sub-zero (b .digest-whole));
       left = rw sub-zero;
+      ahead = rw sub-zero;
     }
 
 module _ (v : ℕ) (E : List Bool) (n q : ℕ) (out : List ℕ) (S : List Bool) (p : ℕ) (u : Squeezing v E n q out S p) where
@@ -218,6 +241,9 @@ module _ (v : ℕ) (E : List Bool) (n q : ℕ) (out : List ℕ) (S : List Bool) 
           left =
               rw (again, stepped, block, ← rest, append-assoc)
               (rw (outputs-more (permutation H forward) (H .r′) (H .n - 4 * p) (omega (arith, b .output-least)) S (omega arith)) at (u .left));
+          ahead =
+              rw (stepped, ← rest)
+              (sym (ahead-more (permutation H forward) (H .r′) (H .n - 4 * p) (omega (arith, b .output-least)) S (omega arith)) ∙ u .ahead);
         }
 
     pub squeezing-last : (last : List ℕ) → n ≤ p + q
@@ -230,3 +256,7 @@ module _ (v : ℕ) (E : List Bool) (n q : ℕ) (out : List ℕ) (S : List Bool) 
         rw (el, size, given m (omega arith) (u .layout))
         (ap (pack high-first stateRoom)
         (rw (outputs-last (permutation H forward) (H .r′) m (omega (arith, b .output-least)) S (omega arith) (omega arith), append-nil) at (u .left)))
+
+  -- the state that gives the last block
+  pub squeezing-end : n ≤ p + q → S ≡ iterate (outputCount (variant v) - 1) (permutation (variant v) forward) E
+  squeezing-end h = sym (ahead-last (permutation H forward) (H .r′) (H .n - 4 * p) (omega (arith, b .output-least)) S (omega arith) (omega arith)) ∙ u .ahead

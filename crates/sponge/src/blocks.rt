@@ -7,21 +7,11 @@ ghost use Rattle.standard.specs.Bits.{filled};
 ghost use Rattle.standard.specs.Chain.{step, run};
 ghost use Rattle.standard.specs.Variants.{variant, known};
 ghost use Rattle.sponge.specs.Layout.{packedBlock};
-ghost use Rattle.sponge.specs.Blocks.{halfOf, halfIn, heldThen, withOne, firstBlocks};
+ghost use Rattle.sponge.specs.Blocks.{halfIn, heldThen, withOne, firstBlocks};
 ghost use Rattle.sponge.specs.Words.{stateInWords, TableOf};
 use crate::sizes;
 use crate::sizes::BLOCK_BYTES;
 use crate::words;
-
-// A half of the byte x: the upper one where n is even.
-pub fn half_of(x: u8, n: usize) -> u8
-    ensures { λ r. ⌜ r ≡ halfOf x n ⌝ }
-{
-    if n % 2 == 0 {
-        return x / 16;
-    }
-    x % 16
-}
 
 // The half byte n of the first p half bytes of `held`, the piece and the added 1 bit.
 fn half_at(held: &[u8], p: usize, piece: &[u8], n: usize) -> u8
@@ -30,12 +20,12 @@ fn half_at(held: &[u8], p: usize, piece: &[u8], n: usize) -> u8
 {
     if n < p {
         let i = n / 2;
-        return half_of(held[i], n);
+        return words::half_of(held[i], n);
     }
     let m = n - p;
     let k = m / 2;
     if k < piece.len() {
-        return half_of(piece[k], m);
+        return words::half_of(piece[k], m);
     }
     if piece.len() < k {
         return 0;

@@ -49,13 +49,19 @@ fn byte_bit(i: usize) -> usize
 }
 
 // A half of the byte x: the upper one where n is even.
+pub fn half_of(x: u8, n: usize) -> u8
+    ensures { λ r. ⌜ r ≡ halfOf x n ⌝ }
+{
+    if n % 2 == 0 {
+        return x / 16;
+    }
+    x % 16
+}
+
 fn half(x: u8, n: usize) -> u64
     ensures { λ r. ⌜ (r ≡ halfOf x n) × (r < 16) ⌝ }
 {
-    if n % 2 == 0 {
-        return (x / 16) as u64;
-    }
-    (x % 16) as u64
+    half_of(x, n) as u64
 }
 
 fn whole(x: u8) -> u64

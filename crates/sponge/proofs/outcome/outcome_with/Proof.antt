@@ -8,7 +8,7 @@ use Rattle.sponge.proofs.outcome.outcome_with.Tie as tie
 returns : tie.Need-returns
 returns c =
     let a = c .before .before .before .before .before .before .before .before .before .args in
-    gave-digest (variant (a .v)) (a .digest) _ _ _ _ _ (c .before .before .before .before .before .words-of .ensures) (c .before .before .before .run-words .ensures) (c .before .before .if1 .taken) (c .squeezed .ensures)
+    gave-digest (variant (a .v)) (a .digest) _ _ _ _ _ (c .before .before .before .before .before .words-of .ensures) (c .before .before .before .run-words .ensures) (c .before .before .if1 .taken) (c .squeezed .ensures .0)
 
 returns-2 : tie.Need-returns-2
 returns-2 c =

@@ -1,4 +1,4 @@
--- `sponge::squeeze::squeezed` meets its contract: what is out and what the state still gives make the digest. Assumes nothing.
+-- `sponge::squeeze::squeezed` meets its contract: what is out and what the state still gives make the digest, and the permutations that are left lead to the last block. Assumes nothing.
 use mathlib.Core.Path.{refl, sym, ap}
 use Prim.Native.Nat.{ℕ, _-_, _*_}
 use native.Mathlib.Omega.{arith}
@@ -6,7 +6,7 @@ use Rattle.standard.specs.Variants.{variant}
 use Rattle.standard.proofs.Variants.{bounds}
 use Rattle.sponge.specs.Words.{stateInWords}
 use Rattle.sponge.proofs.WordSteps.{words-length}
-use Rattle.sponge.proofs.SqueezeLaws.{Squeezing, squeezing-start, squeezing-room, squeezing-more, squeezing-last}
+use Rattle.sponge.proofs.SqueezeLaws.{Squeezing, squeezing-start, squeezing-room, squeezing-more, squeezing-last, squeezing-end}
 use Rattle.sponge.proofs.squeeze.squeezed.Statement.{statement}
 use Rattle.sponge.proofs.squeeze.squeezed.Tie as tie
 
@@ -41,7 +41,11 @@ put-front-requires-2 c κs =
     ((squeezing-room _ _ _ _ _ _ _ u, omega arith, omega arith), u .kept)
 
 returns : tie.Need-returns Inv-loop μ-loop
-returns c = squeezing-last _ _ _ _ _ _ _ (c .before .before .before .before .before .before .before .loop .inv) _ (omega arith) (c .before .before .before .before .front-of2 .ensures) _ (omega arith) (c .before .put-front2 .ensures)
+returns c =
+    let u = c .before .before .before .before .before .before .before .loop .inv in (
+      squeezing-last _ _ _ _ _ _ _ u _ (omega arith) (c .before .before .before .before .front-of2 .ensures) _ (omega arith) (c .before .put-front2 .ensures),
+      squeezing-end _ _ _ _ _ _ _ u (omega arith),
+    )
 
 pub squeezed-spec : {M : Type 1} → statement M
 squeezed-spec =

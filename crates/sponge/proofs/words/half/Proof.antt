@@ -1,15 +1,12 @@
 -- `sponge::words::half` meets its contract. Assumes nothing.
 use native.Mathlib.Omega.{arith}
 use borrow.Author.Needs.{needs}
-use borrow.Author.Tests.{eq-eqb, ne-eqb}
+use Rattle.sponge.proofs.CellsOfBytes.{half-below}
 use Rattle.sponge.proofs.words.half.Statement.{statement}
 use Rattle.sponge.proofs.words.half.Tie as tie
 
 returns : tie.Need-returns
-returns c = (rw (eq-eqb _ _ (c .if1 .taken)), omega arith)
-
-returns-2 : tie.Need-returns-2
-returns-2 c = (rw (ne-eqb _ _ (c .if1 .left)), omega arith)
+returns c = (c .half-of .ensures, omega (arith, c .half-of .ensures, half-below (c .before .args .x) (c .before .args .n) (omega arith)))
 
 pub half-spec : {M : Type 1} → statement M
-half-spec = tie.close (tie.spec (λ c. search needs) returns (λ c. search needs) returns-2)
+half-spec = tie.close (tie.spec (λ c κs. search needs) (λ c. search needs) returns)

@@ -1,7 +1,7 @@
--- `sponge::blocks::half_of` meets its contract. Assumes nothing.
+-- `sponge::words::half_of` meets its contract. Assumes nothing.
 use borrow.Author.Tests.{eq-eqb, ne-eqb}
-use Rattle.sponge.proofs.blocks.half_of.Statement.{statement}
-use Rattle.sponge.proofs.blocks.half_of.Tie as tie
+use Rattle.sponge.proofs.words.half_of.Statement.{statement}
+use Rattle.sponge.proofs.words.half_of.Tie as tie
 
 pub half-of-spec : {M : Type 1} → statement M
 half-of-spec =
