@@ -7,11 +7,12 @@ use Prim.Native.Nat.{ℕ, _≤_}
 use lib.ListN.{length}
 use Rattle.standard.specs.Bits.{low-first, high-first, unpack, pack}
 use Rattle.standard.specs.Photon.{bitsOfMatrix}
+use Rattle.standard.specs.Spongent.{nibbles}
 use Rattle.standard.specs.Sponge.{Family, photon, spongent, Variant, squeezed}
 use Rattle.shares.specs.Columns.{matrixOfWords, placeOf}
 use Rattle.shares.specs.Tables.{Entries, Pairs}
 use Rattle.photon.specs.Parameters.{photonOf}
-use Rattle.spongent.specs.Words.{bytesIn, Spread}
+use Rattle.spongent.specs.Words.{bytesIn, LookUps}
 use Rattle.sponge.specs.Layout.{stateRoom, packedState}
 
 -- by family: PHOTON's matrix has a column in each word, SPONGENT's bytes stand in order, eight to a word
@@ -27,7 +28,7 @@ stateInWords H words = stateOfWords (H .family) words
 pub record TableOf (v : ℕ) (table : List ℕ) : Type 0 where
   pub pairs : v ≤ 4 → Pairs (photonOf v) table
   pub shares : v ≡ 5 → (length table ≡ 1552) × Entries 1552 (photonOf 5) table
-  pub spread : 6 ≤ v → (length table ≡ 2188) × Spread v table
+  pub spread : 6 ≤ v → (length table ≡ 2048) × LookUps nibbles table
 
 -- the digest that is squeezed out of a state, or the state itself, at the front of bytes that have room for either
 abbrev pub outcome : Variant → Bool → List Bool → List ℕ

@@ -83,8 +83,8 @@ fn outcome_spread(
     requires { ⌜ (6 ≤ v) × (v ≤ 10) × (p ≤ 2 * length (now held)) × (count ≤ 2 ^ 32) ⌝ }
     ensures { λ r. ⌜ r ≡ outcome (variant v) digest (run (variant v) (stateIn (variant v) s) (firstBlocks (variant v .r) count (withOne (heldThen (now (held .entry)) p (now (piece .entry)))))) ⌝ }
 {
-    let mut table = [0u64; 2188];
-    spongent::words::fill_table(v as usize, &mut table);
+    let mut table = [0u64; 2048];
+    spongent::words::fill_table(&mut table);
     outcome_with(v, s, held, p, piece, count, digest, &table)
 }
 

@@ -10,7 +10,7 @@ use lib.Bits.{bitXor}
 use lib.ListN.{length, getD, set, take, drop, replicate, length-set}
 use lib.Seq.{length-take-le, take-at, drop-at}
 use Rattle.standard.specs.Bits.{low-first, high-first, lowBits, lowValue, ordered, bitsOf, bitsIn, xorInto}
-use Rattle.standard.specs.Spongent.{cAddition, sBoxLayer}
+use Rattle.standard.specs.Spongent.{reversal, cAddition, sBoxLayer}
 use Rattle.standard.proofs.BitLaws.{length-lowBits, lowValue-lowBits, lowBits-lowValue, lowBits-add, lowValue-append, lowValue-of, bitsIn-append, bitsIn-take, bitsIn-drop, bitsIn-xor, xorInto-behind, xorInto-front, xorInto-append, xorInto-nil, length-xorInto, length-bitsOf, length-bitsIn, lowBits-byte, high-byte}
 use Rattle.standard.proofs.SpongentLaws.{length-sBoxLayer}
 use Rattle.arrays.proofs.Mapped.{mapped}
@@ -63,11 +63,11 @@ low-value : (v : ℕ) (bs : List Bool) → length bs ≡ 8 → v ≡ lowValue bs
 low-value v bs e h = low-is 8 v ∙ ap₂ lowBits (sym e) h ∙ lowBits-lowValue bs
 
 -- the counter into byte 0, and its reverse v into the last byte
-pub bytes-cAddition : (s : List ℕ) (n c v : ℕ) → 0 < n → n ≤ length s → c < 256 → v ≡ lowValue (bitsOf high-first 8 c) → (s′ : List ℕ)
+pub bytes-cAddition : (s : List ℕ) (n c v : ℕ) → 0 < n → n ≤ length s → c < 256 → v ≡ reversal 8 c → (s′ : List ℕ)
     → s′ ≡ set s 0 (bitXor (getD s 0 0) c)
     → bitsIn low-first (set s′ (n - 1) (bitXor (getD s′ (n - 1) 0) v))
     ≡ cAddition (8 * n) c (take (8 * n) (bitsIn low-first s)) ++ drop (8 * n) (bitsIn low-first s)
-unfolding cAddition
+unfolding cAddition reversal
 bytes-cAddition s n c v h0 hn hc ev s′ es =
     let t : ℕ = 8 * n in
     let k : ℕ = 8 * (n - 1) in

@@ -10,11 +10,12 @@ use native.Mathlib.Omega.{arith}
 use lib.Bits.{bitXor, xor-zero-l, xor-zero-r}
 use lib.ListN.{length, getD, set, take, drop, replicate, length-set}
 use lib.Seq.{length-take-le}
-use Rattle.standard.specs.Bits.{low-first, high-first, lowValue, bitsOf, bitsIn, unpack}
+use Rattle.standard.specs.Bits.{low-first, bitsIn, unpack}
 use Rattle.standard.specs.Rounds.{forward}
-use Rattle.standard.specs.Spongent.{nibbles, cAddition, sBoxLayer, pLayer, spongentRound}
-use Rattle.standard.proofs.BitLaws.{length-bitsIn, length-bitsOf, lowValue-lt}
+use Rattle.standard.specs.Spongent.{nibbles, reversal, cAddition, sBoxLayer, pLayer, spongentRound}
+use Rattle.standard.proofs.BitLaws.{length-bitsIn}
 use Rattle.standard.proofs.SpongentLaws.{length-sBoxLayer, length-cAddition}
+use Rattle.standard.proofs.Reversal.{reversal-lt}
 use Rattle.standard.proofs.Tests.{lt-or-le, bound-below}
 use Rattle.arrays.proofs.Mapped.{mapped, length-mapped}
 use Rattle.spongent.specs.Pairs.{pairOf}
@@ -22,7 +23,7 @@ use Rattle.spongent.specs.Words.{bytesIn, pairIn, boxed, spreadWord, lan
 use Rattle.spongent.proofs.Layers.{byteBy, byte-nibbles, mapped-bits, bytes-cAddition, first-bits}
 use Rattle.spongent.proofs.Places.{pair-lt, moved-bits, zeros-at}
 use Rattle.spongent.proofs.Shifts.{shifted-down, shifted-past, shifted-before}
-use Rattle.spongent.proofs.WordLaws.{length-bytesIn, bytesIn-at, bytesIn-lt, pairs-in-bytes, xoredWord, byte-xored, byte-shifted}
+use Rattle.spongent.proofs.WordLaws.{length-bytesIn, bytesIn-at, bytesIn-lt, pairs-in-bytes, xoredWord, byte-xored}
 use Rattle.spongent.proofs.SpreadLaws.{lane, row, row-lt, row-at, given, spread-lane}
 use Rattle.spongent.proofs.LanePlaces.{lanes-pair}
 
@@ -138,40 +139,33 @@ module _ (box : List ℕ) (n : ℕ) (least : 0 < n) (most : n ≤ 36) (w : List 
 
 -- ---- the round
 
-reverse-lt : (x : ℕ) → lowValue (bitsOf high-first 8 x) < 256
-reverse-lt x = rw (length-bitsOf high-first 8 x) at (lowValue-lt (bitsOf high-first 8 x))
+-- the words with x xored into the first, where the counter goes, and y into the one of the last of n bytes, where its reverse goes
+abbrev pub counted : List ℕ → ℕ → ℕ → ℕ → List ℕ
+counted w n x y = xoredWord (xoredWord w 0 x) ((n - 1) / 8) y
 
--- the words with a counter and its reverse, c, xored into the first and the last of n bytes
-abbrev pub counted : List ℕ → ℕ → ℕ → List ℕ
-counted w n c = xoredWord (xoredWord w 0 (c % 256)) ((n - 1) / 8) (c / 256 * 2 ^ (8 * ((n - 1) % 8)) % 2 ^ 64)
-
-module _ (w : List ℕ) (n c : ℕ) (lw : length w ≡ 8) (least : 0 < n) (most : n ≤ 36) (mirror : c / 256 ≡ lowValue (bitsOf high-first 8 (c % 256))) where
-  counted-bits : bitsIn low-first (bytesIn (counted w n c))
-      ≡ cAddition (8 * n) (c % 256) (take (8 * n) (bitsIn low-first (bytesIn w))) ++ drop (8 * n) (bitsIn low-first (bytesIn w))
+module _ (w : List ℕ) (n c r x y : ℕ) (lw : length w ≡ 8) (least : 0 < n) (most : n ≤ 36) (byte : c < 256) (mirror : r ≡ reversal 8 c)
+    (ex : x ≡ c) (ey : y ≡ r * 2 ^ (8 * ((n - 1) % 8))) where
+  counted-bits : bitsIn low-first (bytesIn (counted w n x y))
+      ≡ cAddition (8 * n) c (take (8 * n) (bitsIn low-first (bytesIn w))) ++ drop (8 * n) (bitsIn low-first (bytesIn w))
   counted-bits =
-      let x : ℕ = c % 256 in
-      let v : ℕ = c / 256 in
-      let hv : v < 256 = rw mirror (reverse-lt x) in
+      let hr : r < 256 = rw mirror (reversal-lt 8 c) in
       let one : List ℕ = xoredWord w 0 x in
       let lone : length one ≡ 8 = length-set w 0 (bitXor (getD w 0 0) x) ∙ lw in
-      let ex : x ≡ x * 1 = sym (mul-one x) in
-      let first : bytesIn one ≡ set (bytesIn w) 0 (bitXor (getD (bytesIn w) 0 0) x) =
-      ap (λ (y : ℕ). bytesIn (xoredWord w 0 y)) ex ∙ byte-xored w 0 x lw (omega arith) (omega arith) in
-      let last : bytesIn (counted w n c) ≡ set (bytesIn one) (n - 1) (bitXor (getD (bytesIn one) (n - 1) 0) v) =
-      ap (λ (y : ℕ). bytesIn (xoredWord one ((n - 1) / 8) y)) (byte-shifted v ((n - 1) % 8) (omega arith) (omega arith))
-      ∙ byte-xored one (n - 1) v lone (omega arith) (omega arith) in
-      ap (bitsIn low-first) last
-      ∙ bytes-cAddition (bytesIn w) n x v least (omega (arith, length-bytesIn w)) (omega arith) mirror (bytesIn one) first
+      let first : bytesIn one ≡ set (bytesIn w) 0 (bitXor (getD (bytesIn w) 0 0) c) =
+      ap (λ (z : ℕ). bytesIn (xoredWord w 0 z)) (ex ∙ sym (mul-one c)) ∙ byte-xored w 0 c lw (omega arith) byte in
+      let last : bytesIn (counted w n x y) ≡ set (bytesIn one) (n - 1) (bitXor (getD (bytesIn one) (n - 1) 0) r) =
+      ap (λ (z : ℕ). bytesIn (xoredWord one ((n - 1) / 8) z)) ey ∙ byte-xored one (n - 1) r lone (omega arith) hr in
+      ap (bitsIn low-first) last ∙ bytes-cAddition (bytesIn w) n c r least (omega (arith, length-bytesIn w)) byte mirror (bytesIn one) first
 
-  pub looked-round : (j : ℕ) (out : List ℕ) → n ≤ 8 * j → Looked nibbles n (counted w n c) j out
-      → unpack low-first (8 * n) (bytesIn out) ≡ spongentRound (8 * n) forward (unpack low-first (8 * n) (bytesIn w)) (c % 256)
+  pub looked-round : (j : ℕ) (out : List ℕ) → n ≤ 8 * j → Looked nibbles n (counted w n x y) j out
+      → unpack low-first (8 * n) (bytesIn out) ≡ spongentRound (8 * n) forward (unpack low-first (8 * n) (bytesIn w)) c
   unfolding unpack spongentRound
   looked-round j out all done =
       let t : ℕ = 8 * n in
-      let s : List ℕ = bytesIn (counted w n c) in
+      let s : List ℕ = bytesIn (counted w n x y) in
       let L : List Bool = bitsIn low-first (bytesIn w) in
-      let x : List Bool = cAddition t (c % 256) (take t L) in
-      let lx : length x ≡ t = length-cAddition t (c % 256) (take t L) ∙ length-take-le t L (omega (arith, length-bitsIn low-first (bytesIn w), length-bytesIn w)) in
-      look-up-round n least most nibbles (bound-below _ 16 16 tt) s out (length-bytesIn (counted w n c)) (bytesIn-lt (counted w n c))
+      let added : List Bool = cAddition t c (take t L) in
+      let la : length added ≡ t = length-cAddition t c (take t L) ∙ length-take-le t L (omega (arith, length-bitsIn low-first (bytesIn w), length-bytesIn w)) in
+      look-up-round n least most nibbles (bound-below _ 16 16 tt) s out (length-bytesIn (counted w n x y)) (bytesIn-lt (counted w n x y))
       (λ m h. done m h .0 (lt-of-lt-of-le (mod-lt m {m = n} least) all))
-      ∙ ap (λ (l : List Bool). pLayer t (t / 4) (sBoxLayer nibbles l)) (first-bits t (bitsIn low-first s) x (drop t L) lx counted-bits)
+      ∙ ap (λ (l : List Bool). pLayer t (t / 4) (sBoxLayer nibbles l)) (first-bits t (bitsIn low-first s) added (drop t L) la counted-bits)

@@ -1,13 +1,14 @@
 -- The state in eight words of 64 bits, and the table by which the code replaces and moves a byte of it at a time.
 -- Assumes nothing.
 use mathlib.Core.Path.{_≡_}
-use mathlib.Core.List.{List, map}
+use mathlib.Core.List.{List}
 use Prim.Native.Nat.{ℕ, zero, suc, _+_, _*_, _/_, _%_, _^_, _<_}
 use lib.Bits.{bitXor}
-use lib.ListN.{getD, take}
-use Rattle.standard.specs.Bits.{high-first, lowValue, bitsOf}
+use lib.ListN.{getD}
+use Rattle.standard.specs.Bits.{low-first, unpack}
+use Rattle.standard.specs.Rounds.{forward}
 use Rattle.standard.specs.Grid.{tab}
-use Rattle.standard.specs.Spongent.{nibbles, lCounters}
+use Rattle.standard.specs.Spongent.{spongentPermutation}
 use Rattle.spongent.specs.Pairs.{pairOf}
 use Rattle.spongent.specs.Parameters.{spongentOf}
 
@@ -41,27 +42,14 @@ unfoldable pub lanesInto : ℕ → ℕ → ℕ → ℕ → ℕ → ℕ → ℕ
 lanesInto lanes p n m zero x = x
 lanesInto lanes p n m (suc b) x = bitXor (lanesInto lanes p n m b x) (lanes / 2 ^ (16 * b) % 65536 * 2 ^ (p + b * (2 * n)) / 2 ^ (2 * m) % 4)
 
--- a counter for the first byte of the state, and behind it its reverse, for the last
-unfoldable pub withReverse : ℕ → ℕ
-withReverse c = c + 256 * lowValue (bitsOf high-first 8 c)
-
--- the first n entries of a table have the reverse of a counter behind it
-abbrev pub Mirrored : ℕ → List ℕ → Type 0
-Mirrored n table = (k : ℕ) → k < n → getD table k 0 / 256 ≡ lowValue (bitsOf high-first 8 (getD table k 0 % 256))
-
--- these counters
-unfoldable pub countersIn : ℕ → List ℕ → List ℕ
-countersIn n table = tab n (λ k. getD table k 0 % 256)
-
 -- a table of what each byte gives to the planes
 pub record SpreadTable (box table : List ℕ) : Type 0 where
   pub entry : (x : ℕ) → x < 256 → getD table x 0 ≡ spreadOf (boxed box x)
 
--- from the entry 140 on, such tables for each of the eight bytes of a word
+-- such tables for each of the eight bytes of a word, one after the other
 pub record LookUps (box table : List ℕ) : Type 0 where
-  pub entry : (k x : ℕ) → k < 8 → x < 256 → getD table (140 + 256 * k + x) 0 ≡ lookUp box k x
+  pub entry : (k x : ℕ) → k < 8 → x < 256 → getD table (256 * k + x) 0 ≡ lookUp box k x
 
--- the table of the variant v: the counters of its rounds, and the look-ups
-pub record Spread (v : ℕ) (table : List ℕ) : Type 0 where
-  pub counters : take (spongentOf v .R) table ≡ map withReverse (lCounters (spongentOf v))
-  pub bytes : LookUps nibbles table
+-- the state of the variant v in one row of bytes, permuted, is that in another
+abbrev pub Permuted : ℕ → List ℕ → List ℕ → Type 0
+Permuted v before after = unpack low-first (spongentOf v .t) after ≡ spongentPermutation (spongentOf v) forward (unpack low-first (spongentOf v .t) before)

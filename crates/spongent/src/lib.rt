@@ -1,12 +1,12 @@
 // The internal permutation of SPONGENT (5.3.4) and its inverse, on 36 bytes: the t bits of the state first, the lowest bit of each byte first, and zeros behind them.
 ghost use mathlib.Core.Path.{_≡_};
 ghost use mathlib.Core.Bool.{false};
-ghost use mathlib.Core.List.{List, _++_};
-ghost use Prim.Native.Nat.{ℕ, _+_, _-_, _*_, _/_, _%_, _<_, _≤_};
-ghost use lib.ListN.{length, getD, take, drop, replicate};
-ghost use Rattle.standard.specs.Bits.{low-first, high-first, bitsIn, bitsOf, lowBits, lowValue, pack, unpack};
-ghost use Rattle.standard.specs.Rounds.{direction, inTurn, rounds};
-ghost use Rattle.standard.specs.Spongent.{sBoxLayer, pLayer, cAddition, nextCounter, counters, spongentRound, spongentPermutation};
+ghost use mathlib.Core.List.{_++_};
+ghost use Prim.Native.Nat.{ℕ, _+_, _-_, _*_, _/_, _%_, _^_, _<_, _≤_};
+ghost use lib.ListN.{getD, take, drop, replicate};
+ghost use Rattle.standard.specs.Bits.{low-first, bitsIn, lowBits, lowValue, pack, unpack};
+ghost use Rattle.standard.specs.Rounds.{direction};
+ghost use Rattle.standard.specs.Spongent.{sBoxLayer, pLayer, cAddition, nextCounter, previousCounter, reversal, nextReversed, previousReversed, steppedCounter, steppedReversed, counterIn, spongentRound, spongentPermutation};
 ghost use Rattle.spongent.specs.Parameters.{spongentOf, tapsOf};
 ghost use Rattle.spongent.specs.Pairs.{Joined, pairAt, pairOf};
 
@@ -14,8 +14,8 @@ mod spread;
 pub mod words;
 
 // The byte with its bits in the reverse order.
-fn reversed(b: u8) -> u8
-    ensures { λ r. ⌜ r ≡ lowValue (bitsOf high-first 8 b) ⌝ }
+pub fn in_reverse(b: u8) -> u8
+    ensures { λ r. ⌜ r ≡ reversal 8 b ⌝ }
 {
     b % 2 * 128
         + b / 2 % 2 * 64
@@ -26,6 +26,9 @@ fn reversed(b: u8) -> u8
         + b / 64 % 2 * 2
         + b / 128 % 2
 }
+
+// lCounter has w bits, in the first byte of the state. retnuoCl is the same in reverse, from the top bit of the state down, so it has the w upper bits of the last byte. From round
+// to round each steps from its own bits alone: lCounter shifts left and retnuoCl right, and in the inverse the other way.
 
 // The counter of w bits after c.
 fn next_counter(w: usize, c: u8) -> u8
@@ -41,31 +44,79 @@ fn next_counter(w: usize, c: u8) -> u8
     c % 128 * 2 + (c / 128 ^ (c / 8 ^ (c / 4 ^ c / 2))) % 2
 }
 
-// The counters of n rounds, the first round's first. The inverse needs the last first, and no counter runs backward.
-fn counters_of(w: usize, first: u8, n: usize) -> [u8; 140]
-    requires { ⌜ (6 ≤ w) × ((w ≤ 8) × (n ≤ 140)) ⌝ }
-    ensures { λ r. ⌜ take n r ≡ counters w (tapsOf w) first n ⌝ }
+// The counter of w bits before c.
+fn previous_counter(w: usize, c: u8) -> u8
+    requires { ⌜ (6 ≤ w) × ((w ≤ 8) × (c < 2 ^ w)) ⌝ }
+    ensures { λ r. ⌜ r ≡ previousCounter w (tapsOf w) c ⌝ }
 {
-    let mut out = [0u8; 140];
-    let mut c = first;
-    let mut k: usize = 0;
-    while k < n {
-        out[k] = c;
-        c = next_counter(w, c);
-        k += 1;
+    if w == 6 {
+        return (c ^ c / 32) % 2 * 32 + c / 2;
     }
-    out
+    if w == 7 {
+        return (c ^ c / 64) % 2 * 64 + c / 2;
+    }
+    (c ^ (c / 16 ^ (c / 8 ^ c / 4))) % 2 * 128 + c / 2
+}
+
+// The reversed counter of w bits after d.
+fn next_reversed(w: usize, d: u8) -> u8
+    requires { ⌜ (6 ≤ w) × (w ≤ 8) ⌝ }
+    ensures { λ r. ⌜ r ≡ nextReversed 8 w (tapsOf w) d ⌝ }
+{
+    if w == 6 {
+        return (d / 4 ^ d / 8) % 2 * 128 + d / 8 * 4;
+    }
+    if w == 7 {
+        return (d / 2 ^ d / 4) % 2 * 128 + d / 4 * 2;
+    }
+    (d ^ (d / 16 ^ (d / 32 ^ d / 64))) % 2 * 128 + d / 2
+}
+
+// The reversed counter of w bits before d.
+fn previous_reversed(w: usize, d: u8) -> u8
+    requires { ⌜ (6 ≤ w) × ((w ≤ 8) × (d % 2 ^ (8 - w) ≡ 0)) ⌝ }
+    ensures { λ r. ⌜ r ≡ previousReversed 8 w (tapsOf w) d ⌝ }
+{
+    if w == 6 {
+        return d % 128 * 2 + (d / 128 ^ d / 4) % 2 * 4;
+    }
+    if w == 7 {
+        return d % 128 * 2 + (d / 128 ^ d / 2) % 2 * 2;
+    }
+    d % 128 * 2 + (d / 128 ^ (d / 8 ^ (d / 16 ^ d / 32))) % 2
+}
+
+// The counter of the round after the one with c.
+pub fn stepped_counter(w: usize, c: u8, back: bool) -> u8
+    requires { ⌜ (6 ≤ w) × ((w ≤ 8) × (c < 2 ^ w)) ⌝ }
+    ensures { λ r. ⌜ r ≡ steppedCounter (direction back) w (tapsOf w) c ⌝ }
+{
+    if back {
+        return previous_counter(w, c);
+    }
+    next_counter(w, c)
+}
+
+// The reversed counter of the round after the one with d.
+pub fn stepped_reversed(w: usize, d: u8, back: bool) -> u8
+    requires { ⌜ (6 ≤ w) × ((w ≤ 8) × (d % 2 ^ (8 - w) ≡ 0)) ⌝ }
+    ensures { λ r. ⌜ r ≡ steppedReversed (direction back) 8 w (tapsOf w) d ⌝ }
+{
+    if back {
+        return previous_reversed(w, d);
+    }
+    next_reversed(w, d)
 }
 
 // cAddition on the first n bytes. The counter fits a byte, so its reverse lies in the last byte.
-fn with_counter(s: [u8; 36], n: usize, c: u8) -> [u8; 36]
-    requires { ⌜ (0 < n) × (n ≤ 36) ⌝ }
-    ensures { λ r. ⌜ bitsIn low-first r ≡ cAddition (8 * n) c (take (8 * n) (bitsIn low-first s)) ++ drop (8 * n) (bitsIn low-first s) ⌝ }
+pub fn with_counter(s: [u8; 36], n: usize, counter: u8, reversed: u8) -> [u8; 36]
+    requires { ⌜ (0 < n) × ((n ≤ 36) × (reversed ≡ reversal 8 counter)) ⌝ }
+    ensures { λ r. ⌜ bitsIn low-first r ≡ cAddition (8 * n) counter (take (8 * n) (bitsIn low-first s)) ++ drop (8 * n) (bitsIn low-first s) ⌝ }
 {
     let mut out = s;
-    out[0] = out[0] ^ c;
+    out[0] = out[0] ^ counter;
     let last = n - 1;
-    out[last] = out[last] ^ reversed(c);
+    out[last] = out[last] ^ reversed;
     out
 }
 
@@ -78,7 +129,7 @@ fn substituted_byte(b: u8, table: &[u8; 16]) -> u8
 }
 
 // sBoxLayer on the first n bytes, by a table of nibbles.
-fn substituted(s: [u8; 36], n: usize, table: &[u8; 16]) -> [u8; 36]
+pub fn substituted(s: [u8; 36], n: usize, table: &[u8; 16]) -> [u8; 36]
     requires { ⌜ (n ≤ 36) × ((x : ℕ) → x < 16 → getD (now table) x 0 < 16) ⌝ }
     ensures { λ r. ⌜ bitsIn low-first r ≡ sBoxLayer (now (table .entry)) (take (8 * n) (bitsIn low-first s)) ++ drop (8 * n) (bitsIn low-first s) ⌝ }
 {
@@ -171,7 +222,7 @@ fn all_joined(pairs: [u8; 144], n: usize) -> [u8; 36]
 }
 
 // pLayer on the first t bits, with zeros behind them.
-fn moved(s: [u8; 36], t: usize) -> [u8; 36]
+pub fn moved(s: [u8; 36], t: usize) -> [u8; 36]
     requires { ⌜ (8 ≤ t) × ((t ≤ 288) × (t % 8 ≡ 0)) ⌝ }
     ensures { λ r. ⌜ bitsIn low-first r ≡ pLayer t (t / 4) (take t (bitsIn low-first s)) ++ replicate (288 - t) false ⌝ }
 {
@@ -222,7 +273,7 @@ fn all_gathered(pairs: [u8; 144], n: usize) -> [u8; 36]
 }
 
 // The inverse of pLayer on the first t bits, with zeros behind them.
-fn moved_back(s: [u8; 36], t: usize) -> [u8; 36]
+pub fn moved_back(s: [u8; 36], t: usize) -> [u8; 36]
     requires { ⌜ (8 ≤ t) × ((t ≤ 288) × (t % 8 ≡ 0)) ⌝ }
     ensures { λ r. ⌜ bitsIn low-first r ≡ pLayer t 4 (take t (bitsIn low-first s)) ++ replicate (288 - t) false ⌝ }
 {
@@ -231,61 +282,51 @@ fn moved_back(s: [u8; 36], t: usize) -> [u8; 36]
     all_gathered(pairs, n)
 }
 
-const NIBBLES: [u8; 16] = [14, 13, 11, 0, 2, 1, 4, 15, 7, 10, 8, 5, 9, 12, 3, 6];
+pub const NIBBLES: [u8; 16] = [14, 13, 11, 0, 2, 1, 4, 15, 7, 10, 8, 5, 9, 12, 3, 6];
 
-const UNNIBBLES: [u8; 16] = [3, 5, 4, 14, 6, 11, 15, 8, 10, 12, 9, 2, 13, 1, 0, 7];
+pub const UNNIBBLES: [u8; 16] = [3, 5, 4, 14, 6, 11, 15, 8, 10, 12, 9, 2, 13, 1, 0, 7];
 
-// One round with the counter c, or that round taken back.
-fn round(s: [u8; 36], t: usize, c: u8, back: bool) -> [u8; 36]
+// One round with a counter and its reverse, or that round taken back.
+fn round(s: [u8; 36], t: usize, counter: u8, reversed: u8, back: bool) -> [u8; 36]
     requires { ⌜ (8 ≤ t) × ((t ≤ 288) × (t % 8 ≡ 0)) ⌝ }
+    requires { ⌜ reversed ≡ reversal 8 counter ⌝ }
     requires { ⌜ drop t (bitsIn low-first s) ≡ replicate (288 - t) false ⌝ }
-    ensures { λ r. ⌜ bitsIn low-first r ≡ spongentRound t (direction back) (take t (bitsIn low-first s)) c ++ replicate (288 - t) false ⌝ }
+    ensures { λ r. ⌜ bitsIn low-first r ≡ spongentRound t (direction back) (take t (bitsIn low-first s)) counter ++ replicate (288 - t) false ⌝ }
 {
     let n = t / 8;
     if back {
         let put = moved_back(s, t);
         let replaced = substituted(put, n, &UNNIBBLES);
-        return with_counter(replaced, n, c);
+        return with_counter(replaced, n, counter, reversed);
     }
-    let added = with_counter(s, n, c);
+    let added = with_counter(s, n, counter, reversed);
     let replaced = substituted(added, n, &NIBBLES);
     moved(replaced, t)
 }
 
-// Which of n constants the round k uses: the inverse begins with the last.
-fn turn(k: usize, n: usize, back: bool) -> usize
-    requires { ⌜ k < n ⌝ }
-    ensures { λ r. ⌜ (r < n) × ((cs : List ℕ) → length cs ≡ n → getD cs r 0 ≡ getD (inTurn (direction back) cs) k 0) ⌝ }
-{
-    if back { n - 1 - k } else { k }
-}
-
-// n rounds with the first n of the constants.
-fn all_rounds(s: [u8; 36], t: usize, cs: [u8; 140], n: usize, back: bool) -> [u8; 36]
-    requires { ⌜ (8 ≤ t) × ((t ≤ 288) × (t % 8 ≡ 0)) ⌝ }
-    requires { ⌜ n ≤ 140 ⌝ }
-    requires { ⌜ drop t (bitsIn low-first s) ≡ replicate (288 - t) false ⌝ }
-    ensures { λ r. ⌜ bitsIn low-first r ≡ rounds (spongentRound t) (direction back) (take n cs) (take t (bitsIn low-first s)) ++ replicate (288 - t) false ⌝ }
-{
-    let mut out = s;
-    let mut k: usize = 0;
-    while k < n {
-        let i = turn(k, n, back);
-        let after = round(out, t, cs[i], back);
-        out = after;
-        k += 1;
-    }
-    out
-}
-
 // Table 9, the variants 6 to 10 in order.
-const STATE_BITS: [usize; 5] = [88, 136, 176, 240, 272];
+pub const STATE_BITS: [usize; 5] = [88, 136, 176, 240, 272];
 
 const ROUND_COUNTS: [usize; 5] = [45, 70, 90, 120, 140];
 
-const COUNTER_WIDTHS: [usize; 5] = [6, 7, 7, 7, 8];
+pub const COUNTER_WIDTHS: [usize; 5] = [6, 7, 7, 7, 8];
 
 const FIRST_COUNTERS: [u8; 5] = [0x05, 0x7A, 0x45, 0x01, 0x9E];
+
+// The counters of the last rounds, with which the inverses begin.
+const LAST_COUNTERS: [u8; 5] = [0x1F, 0x3F, 0x3F, 0x3F, 0x7F];
+
+// The counter of the first round of the permutation of the variant v, or of its inverse.
+pub fn start_counter(v: usize, back: bool) -> u8
+    requires { ⌜ (6 ≤ v) × (v ≤ 10) ⌝ }
+    ensures { λ r. ⌜ r ≡ counterIn (spongentOf v) (direction back) 0 ⌝ }
+{
+    let i = v - 6;
+    if back {
+        return LAST_COUNTERS[i];
+    }
+    FIRST_COUNTERS[i]
+}
 
 // The permutation of the variant v on an image, or its inverse.
 pub fn permuted(v: usize, s: [u8; 36], back: bool) -> [u8; 36]
@@ -294,7 +335,19 @@ pub fn permuted(v: usize, s: [u8; 36], back: bool) -> [u8; 36]
     ensures { λ r. ⌜ r ≡ pack low-first 36 (spongentPermutation (spongentOf v) (direction back) (unpack low-first (spongentOf v .t) s)) ⌝ }
 {
     let i = v - 6;
+    let t = STATE_BITS[i];
+    let w = COUNTER_WIDTHS[i];
     let n = ROUND_COUNTS[i];
-    let cs = counters_of(COUNTER_WIDTHS[i], FIRST_COUNTERS[i], n);
-    all_rounds(s, STATE_BITS[i], cs, n, back)
+    let mut out = s;
+    let mut counter = start_counter(v, back);
+    let mut reversed = in_reverse(counter);
+    let mut k: usize = 0;
+    while k < n {
+        let after = round(out, t, counter, reversed, back);
+        out = after;
+        counter = stepped_counter(w, counter, back);
+        reversed = stepped_reversed(w, reversed, back);
+        k += 1;
+    }
+    out
 }

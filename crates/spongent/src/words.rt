@@ -1,16 +1,16 @@
 // The permutation of SPONGENT on a state in eight words, for hashing, which needs no inverse. A table look-up replaces the nibbles of a byte and moves its bits at once.
 // What lies in the words past the state is never read.
 ghost use mathlib.Core.Path.{_≡_};
-ghost use mathlib.Core.List.{_++_, map};
+ghost use mathlib.Core.List.{_++_};
 ghost use Prim.Native.Nat.{ℕ, min, _+_, _-_, _*_, _/_, _%_, _^_, _<_, _≤_};
 ghost use lib.Bits.{bitXor};
 ghost use lib.ListN.{length, getD, set, take, drop, replicate};
-ghost use Rattle.standard.specs.Bits.{low-first, high-first, bitsOf, lowValue, bitsIn, unpack, xorInto};
-ghost use Rattle.standard.specs.Rounds.{forward, rounds as roundsOf};
-ghost use Rattle.standard.specs.Spongent.{nibbles, counters, spongentRound, spongentPermutation};
+ghost use Rattle.standard.specs.Bits.{low-first, bitsIn, unpack, xorInto};
+ghost use Rattle.standard.specs.Rounds.{forward};
+ghost use Rattle.standard.specs.Spongent.{nibbles, reversal, spongentRound, spongentPermutation};
 ghost use Rattle.standard.specs.Variants.{variant};
-ghost use Rattle.spongent.specs.Parameters.{spongentOf, tapsOf};
-ghost use Rattle.spongent.specs.Words.{bytesIn, pairIn, spreadWord, lanesInto, withReverse, Mirrored, countersIn, SpreadTable, LookUps, Spread};
+ghost use Rattle.spongent.specs.Parameters.{spongentOf};
+ghost use Rattle.spongent.specs.Words.{bytesIn, pairIn, spreadWord, lanesInto, SpreadTable, LookUps, Permuted};
 use crate::spread::SPREAD;
 
 // Byte k of a word.
@@ -64,63 +64,35 @@ pub fn image(w: &[u64; 8], n: usize) -> [u8; 36]
     out
 }
 
-// A counter, and its reverse in the next byte.
-fn with_reverse(c: u8) -> u64
-    ensures { λ r. ⌜ r ≡ withReverse c ⌝ }
-{
-    crate::wide64(c) + 256 * crate::wide64(crate::reversed(c))
-}
-
-// The counters of n rounds, each with its reverse, at the front of the table.
-fn put_counters(out: &mut [u64], w: usize, first: u8, n: usize)
-    requires { ⌜ (6 ≤ w) × ((w ≤ 8) × (n ≤ length (now out))) ⌝ }
-    ensures { λ _. ⌜ take n (now (out .exit)) ≡ map withReverse (counters w (tapsOf w) first n) ⌝ }
-{
-    let mut c = first;
-    let mut k: usize = 0;
-    while k < n {
-        out[k] = with_reverse(c);
-        c = crate::next_counter(w, c);
-        k += 1;
-    }
-}
-
-// The look-ups of each of the eight bytes of a word, behind the counters: shifted here, once, and not at each look-up.
+// The look-ups of each of the eight bytes of a word: shifted here, once, and not at each look-up.
 fn put_copies(out: &mut [u64], table: &[u64; 256])
-    requires { ⌜ (length (now out) ≡ 2188) × SpreadTable nibbles (now table) ⌝ }
-    ensures { λ _. ⌜ LookUps nibbles (now (out .exit)) × (take 140 (now (out .exit)) ≡ take 140 (now (out .entry))) ⌝ }
+    requires { ⌜ (length (now out) ≡ 2048) × SpreadTable nibbles (now table) ⌝ }
+    ensures { λ _. ⌜ (length (now (out .exit)) ≡ 2048) × LookUps nibbles (now (out .exit)) ⌝ }
 {
     let mut i: usize = 0;
     while i < 2048 {
-        out[140 + i] = table[i % 256] << (2 * (i / 256));
+        out[i] = table[i % 256] << (2 * (i / 256));
         i += 1;
     }
 }
 
-// The table of the variant v, for `step`. A caller makes it once for a message.
-pub fn fill_table(v: usize, out: &mut [u64])
-    requires { ⌜ (6 ≤ v) × ((v ≤ 10) × (length (now out) ≡ 2188)) ⌝ }
-    ensures { λ _. ⌜ Spread v (now (out .exit)) × (length (now (out .exit)) ≡ 2188) ⌝ }
+// The table for `step`, the same for every variant. A caller makes it once for a message.
+pub fn fill_table(out: &mut [u64])
+    requires { ⌜ length (now out) ≡ 2048 ⌝ }
+    ensures { λ _. ⌜ (length (now (out .exit)) ≡ 2048) × LookUps nibbles (now (out .exit)) ⌝ }
 {
-    let i = v - 6;
-    put_counters(
-        out,
-        crate::COUNTER_WIDTHS[i],
-        crate::FIRST_COUNTERS[i],
-        crate::ROUND_COUNTS[i],
-    );
     put_copies(out, &SPREAD);
 }
 
 // The first n bytes of a word looked up.
 fn spread_word(w: u64, n: usize, table: &[u64]) -> u64
-    requires { ⌜ (n ≤ 8) × ((length (now table) ≡ 2188) × LookUps nibbles (now table)) ⌝ }
+    requires { ⌜ (n ≤ 8) × ((length (now table) ≡ 2048) × LookUps nibbles (now table)) ⌝ }
     ensures { λ r. ⌜ r ≡ spreadWord nibbles n w ⌝ }
 {
     let mut sum: u64 = 0;
     let mut k: usize = 0;
     while k < n {
-        sum = sum ^ table[140 + 256 * k + byte_of(w, k)];
+        sum = sum ^ table[256 * k + byte_of(w, k)];
         k += 1;
     }
     sum
@@ -150,15 +122,15 @@ fn put_lanes(out: &mut [u64; 8], lanes: u64, at: usize, n: usize)
 }
 
 // One round on the first n bytes, with a counter and its reverse: the words are looked up one after the other, and what they give is written into zeros.
-fn round(w: &mut [u64; 8], n: usize, c: u64, table: &[u64])
+fn round(w: &mut [u64; 8], n: usize, counter: u8, reversed: u8, table: &[u64])
     requires { ⌜ (length (now w) ≡ 8) × ((0 < n) × (n ≤ 36)) ⌝ }
-    requires { ⌜ c / 256 ≡ lowValue (bitsOf high-first 8 (c % 256)) ⌝ }
-    requires { ⌜ (length (now table) ≡ 2188) × LookUps nibbles (now table) ⌝ }
+    requires { ⌜ reversed ≡ reversal 8 counter ⌝ }
+    requires { ⌜ (length (now table) ≡ 2048) × LookUps nibbles (now table) ⌝ }
     ensures { λ _. ⌜ length (now (w .exit)) ≡ 8 ⌝ }
-    ensures { λ _. ⌜ unpack low-first (8 * n) (bytesIn (now (w .exit))) ≡ spongentRound (8 * n) forward (unpack low-first (8 * n) (bytesIn (now (w .entry)))) (c % 256) ⌝ }
+    ensures { λ _. ⌜ unpack low-first (8 * n) (bytesIn (now (w .exit))) ≡ spongentRound (8 * n) forward (unpack low-first (8 * n) (bytesIn (now (w .entry)))) counter ⌝ }
 {
-    w[0] = w[0] ^ (c % 256);
-    w[(n - 1) / 8] = w[(n - 1) / 8] ^ ((c / 256) << (8 * ((n - 1) % 8)));
+    w[0] = w[0] ^ crate::wide64(counter);
+    w[(n - 1) / 8] = w[(n - 1) / 8] ^ byte_at(reversed, (n - 1) % 8);
     let mut out = [0u64; 8];
     let mut j: usize = 0;
     while 8 * j < n {
@@ -173,16 +145,86 @@ fn round(w: &mut [u64; 8], n: usize, c: u64, table: &[u64])
     *w = out;
 }
 
-// The rounds of the first `count` counters of the table.
-fn rounds(w: &mut [u64; 8], n: usize, count: usize, table: &[u64])
-    requires { ⌜ (length (now w) ≡ 8) × ((0 < n) × ((n ≤ 36) × (count ≤ 140))) ⌝ }
-    requires { ⌜ (length (now table) ≡ 2188) × (Mirrored count (now table) × LookUps nibbles (now table)) ⌝ }
-    ensures { λ _. ⌜ unpack low-first (8 * n) (bytesIn (now (w .exit))) ≡ roundsOf (spongentRound (8 * n)) forward (countersIn count (now (table .entry))) (unpack low-first (8 * n) (bytesIn (now (w .entry)))) ⌝ }
+// The rounds of each variant, with its row of Table 9 written out. A function for all of them, with the row as its arguments, is past the compiler's limit for inlining, and hashing
+// then takes four times as long.
+
+fn rounds_88(w: &mut [u64; 8], table: &[u64])
+    requires { ⌜ length (now w) ≡ 8 ⌝ }
+    requires { ⌜ (length (now table) ≡ 2048) × LookUps nibbles (now table) ⌝ }
+    ensures { λ _. ⌜ Permuted 6 (bytesIn (now (w .entry))) (bytesIn (now (w .exit))) ⌝ }
 {
-    let mut r: usize = 0;
-    while r < count {
-        round(w, n, table[r], table);
-        r += 1;
+    let mut counter: u8 = 0x05;
+    let mut reversed: u8 = 0xA0;
+    let mut k: usize = 0;
+    while k < 45 {
+        round(w, 11, counter, reversed, table);
+        counter = crate::next_counter(6, counter);
+        reversed = crate::next_reversed(6, reversed);
+        k += 1;
+    }
+}
+
+fn rounds_136(w: &mut [u64; 8], table: &[u64])
+    requires { ⌜ length (now w) ≡ 8 ⌝ }
+    requires { ⌜ (length (now table) ≡ 2048) × LookUps nibbles (now table) ⌝ }
+    ensures { λ _. ⌜ Permuted 7 (bytesIn (now (w .entry))) (bytesIn (now (w .exit))) ⌝ }
+{
+    let mut counter: u8 = 0x7A;
+    let mut reversed: u8 = 0x5E;
+    let mut k: usize = 0;
+    while k < 70 {
+        round(w, 17, counter, reversed, table);
+        counter = crate::next_counter(7, counter);
+        reversed = crate::next_reversed(7, reversed);
+        k += 1;
+    }
+}
+
+fn rounds_176(w: &mut [u64; 8], table: &[u64])
+    requires { ⌜ length (now w) ≡ 8 ⌝ }
+    requires { ⌜ (length (now table) ≡ 2048) × LookUps nibbles (now table) ⌝ }
+    ensures { λ _. ⌜ Permuted 8 (bytesIn (now (w .entry))) (bytesIn (now (w .exit))) ⌝ }
+{
+    let mut counter: u8 = 0x45;
+    let mut reversed: u8 = 0xA2;
+    let mut k: usize = 0;
+    while k < 90 {
+        round(w, 22, counter, reversed, table);
+        counter = crate::next_counter(7, counter);
+        reversed = crate::next_reversed(7, reversed);
+        k += 1;
+    }
+}
+
+fn rounds_240(w: &mut [u64; 8], table: &[u64])
+    requires { ⌜ length (now w) ≡ 8 ⌝ }
+    requires { ⌜ (length (now table) ≡ 2048) × LookUps nibbles (now table) ⌝ }
+    ensures { λ _. ⌜ Permuted 9 (bytesIn (now (w .entry))) (bytesIn (now (w .exit))) ⌝ }
+{
+    let mut counter: u8 = 0x01;
+    let mut reversed: u8 = 0x80;
+    let mut k: usize = 0;
+    while k < 120 {
+        round(w, 30, counter, reversed, table);
+        counter = crate::next_counter(7, counter);
+        reversed = crate::next_reversed(7, reversed);
+        k += 1;
+    }
+}
+
+fn rounds_272(w: &mut [u64; 8], table: &[u64])
+    requires { ⌜ length (now w) ≡ 8 ⌝ }
+    requires { ⌜ (length (now table) ≡ 2048) × LookUps nibbles (now table) ⌝ }
+    ensures { λ _. ⌜ Permuted 10 (bytesIn (now (w .entry))) (bytesIn (now (w .exit))) ⌝ }
+{
+    let mut counter: u8 = 0x9E;
+    let mut reversed: u8 = 0x79;
+    let mut k: usize = 0;
+    while k < 140 {
+        round(w, 34, counter, reversed, table);
+        counter = crate::next_counter(8, counter);
+        reversed = crate::next_reversed(8, reversed);
+        k += 1;
     }
 }
 
@@ -196,34 +238,33 @@ fn with_first(w: [u64; 8], x: u8) -> [u64; 8]
 }
 
 // A block of the variant v, which begins at a place of the bytes, xored into the front of the state, and the permutation.
-// The sizes are written out: the compiler then makes a copy of the rounds for each variant.
 pub fn step(v: usize, w: &mut [u64; 8], bytes: &[u8], at: usize, table: &[u64])
     requires { ⌜ (6 ≤ v) × ((v ≤ 10) × (at + variant v .r / 8 ≤ length (now bytes))) ⌝ }
-    requires { ⌜ Spread v (now table) × (length (now table) ≡ 2188) ⌝ }
+    requires { ⌜ (length (now table) ≡ 2048) × LookUps nibbles (now table) ⌝ }
     ensures { λ _. ⌜ unpack low-first (spongentOf v .t) (bytesIn (now (w .exit))) ≡ spongentPermutation (spongentOf v) forward (xorInto (unpack low-first (spongentOf v .t) (bytesIn (now (w .entry)))) (bitsIn low-first (take (variant v .r / 8) (drop at (now (bytes .entry)))))) ⌝ }
 {
     let mut s = with_first(*w, bytes[at]);
     if v == 6 {
-        rounds(&mut s, 11, 45, table);
+        rounds_88(&mut s, table);
         *w = s;
         return;
     }
     if v == 7 {
-        rounds(&mut s, 17, 70, table);
+        rounds_136(&mut s, table);
         *w = s;
         return;
     }
     s[0] = s[0] ^ byte_at(bytes[at + 1], 1);
     if v == 8 {
-        rounds(&mut s, 22, 90, table);
+        rounds_176(&mut s, table);
         *w = s;
         return;
     }
     if v == 9 {
-        rounds(&mut s, 30, 120, table);
+        rounds_240(&mut s, table);
         *w = s;
         return;
     }
-    rounds(&mut s, 34, 140, table);
+    rounds_272(&mut s, table);
     *w = s;
 }

@@ -190,7 +190,7 @@ length-xorInto [] b = refl
 length-xorInto (x ∷ a) [] = refl
 length-xorInto (x ∷ a) (y ∷ b) = ap suc (length-xorInto a b)
 
-xor-xor : (a b : Bool) → xor (xor a b) b ≡ a
+pub xor-xor : (a b : Bool) → xor (xor a b) b ≡ a
 unfolding xor
 xor-xor true true = refl
 xor-xor true false = refl
@@ -201,6 +201,11 @@ pub xor-false : (a : Bool) → xor a false ≡ a
 unfolding xor
 xor-false true = refl
 xor-false false = refl
+
+pub false-xor : (a : Bool) → xor false a ≡ a
+unfolding xor
+false-xor true = refl
+false-xor false = refl
 
 pub xorInto-twice : (a b : List Bool) → xorInto (xorInto a b) b ≡ a
 unfolding xorInto
@@ -333,20 +338,6 @@ lowBits-byte n c h = rw (lowBits-add, div-eq-of-lt h, zeros-of)
 pub high-byte : (n c : ℕ) → c < 256 → bitsOf high-first (8 + n) c ≡ replicate n false ++ bitsOf high-first 8 c
 unfolding bitsOf ordered
 high-byte n c h = rw (lowBits-byte n c h, reverse-append, reverse-replicate)
-
-horner : (a b c d e f g h : ℕ)
-    → a * 128 + b * 64 + c * 32 + d * 16 + e * 8 + f * 4 + g * 2 + h
-    ≡ (((((((0 * 2 + a) * 2 + b) * 2 + c) * 2 + d) * 2 + e) * 2 + f) * 2 + g) * 2 + h
-horner a b c d e f g h = omega arith
-
--- the sum of the bits of a byte at the mirrored places
-pub mirrored : (b : ℕ)
-    → b % 2 * 128 + b / 2 % 2 * 64 + b / 4 % 2 * 32 + b / 8 % 2 * 16 + b / 16 % 2 * 8 + b / 32 % 2 * 4 + b / 64 % 2 * 2 + b / 128 % 2
-    ≡ lowValue (bitsOf high-first 8 b)
-unfolding bitsOf ordered lowBits lowValue
-mirrored b =
-    simp (digit-bit, div-div-eq-div-mul)
-    (horner (b % 2) (b / 2 % 2) (b / 4 % 2) (b / 8 % 2) (b / 16 % 2) (b / 32 % 2) (b / 64 % 2) (b / 128 % 2))
 
 -- ---- an array as the packed image of bits
 

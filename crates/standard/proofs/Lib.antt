@@ -12,6 +12,9 @@ pub mod PhotonLaws
 pub mod PhotonVariants
 pub mod MatrixLaws
 pub mod SpongentLaws
+pub mod Reversal
+pub mod CounterSteps
+pub mod CounterRounds
 pub mod Streaming
 pub mod Sponge
 pub mod OneBlock

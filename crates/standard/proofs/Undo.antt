@@ -40,19 +40,19 @@ module _ {A B : Type 0} where
   map-undo f f′ z (x ∷ xs) h = rw (h 0 (zero-lt-suc (length xs)), map-undo f f′ z xs (λ k l. h (suc k) (suc-le-suc l)))
 
 module _ {A : Type 0} where
+  pub iterate-out : (f : A → A) (n : ℕ) (x : A) → iterate n f (f x) ≡ f (iterate n f x)
+  iterate-out f zero x = refl
+  iterate-out f (suc n) x = iterate-out f n (f x)
+
   -- f keeps P, and f′ undoes it on P
   module _ (P : A → Type 0) (f : A → A) (keeps : (x : A) → P x → P (f x)) where
     pub iterate-keeps : (n : ℕ) (x : A) → P x → P (iterate n f x)
     iterate-keeps zero x p = p
     iterate-keeps (suc n) x p = iterate-keeps n (f x) (keeps x p)
 
-    iterate-out : (n : ℕ) (x : A) → iterate n f (f x) ≡ f (iterate n f x)
-    iterate-out zero x = refl
-    iterate-out (suc n) x = iterate-out n (f x)
-
     pub iterate-undo : (f′ : A → A) → ((x : A) → P x → f′ (f x) ≡ x) → (n : ℕ) (x : A) → P x → iterate n f′ (iterate n f x) ≡ x
     iterate-undo f′ undo zero x p = refl
-    iterate-undo f′ undo (suc n) x p = rw (iterate-out n x, undo (iterate n f x) (iterate-keeps n x p)) (iterate-undo f′ undo n x p)
+    iterate-undo f′ undo (suc n) x p = rw (iterate-out f n x, undo (iterate n f x) (iterate-keeps n x p)) (iterate-undo f′ undo n x p)
 
   -- Rounds in either direction. Where each round keeps P and is undone by its opposite, so is the whole, over any constants that satisfy Q.
   module _ (P : A → Type 0) (Q : ℕ → Type 0) (f : Direction → A → ℕ → A)

@@ -30,7 +30,7 @@ returns c =
     let lp : length p ≡ t = length-pLayer t 4 x in
     let eq = layer-after t _ p z lp (c .before .before .before .moved-back .ensures) (sBoxLayer unnibbles) (t / 8) _ en (c .before .substituted .ensures) in
     let lq : length (sBoxLayer unnibbles p) ≡ t = length-sBoxLayer unnibbles p ∙ lp in
-    let er = layer-after t _ (sBoxLayer unnibbles p) z lq eq (cAddition (8 * (t / 8)) (a .c)) (t / 8) _ en (c .with-counter .ensures) in
+    let er = layer-after t _ (sBoxLayer unnibbles p) z lq eq (cAddition (8 * (t / 8)) (a .counter)) (t / 8) _ en (c .with-counter .ensures) in
     rw (c .before .before .before .before .if1 .taken) (rw en at er)
 
 returns-2 : tie.Need-returns-2
@@ -43,20 +43,20 @@ returns-2 c =
     let z : List Bool = replicate (288 - t) false in
     let L : List Bool = bitsIn low-first (a .s) in
     let x : List Bool = take t L in
-    let p : List Bool = cAddition t (a .c) x in
+    let p : List Bool = cAddition t (a .counter) x in
     let q : List Bool = sBoxLayer nibbles p in
     let P : List Bool = bitsIn low-first (c .before .before .before .with-counter2 .result) in
     let Q : List Bool = bitsIn low-first (c .before .substituted2 .result) in
     let lx : length x ≡ t = length-take-le t L (omega (arith, length-bitsIn low-first (a .s))) in
-    let ex : L ≡ x ++ z = sym (take-append-drop t L) ∙ ap (λ (l : List Bool). x ++ l) (c .before .before .before .before .before .pre .1) in
-    let lp : length p ≡ t = length-cAddition t (a .c) x ∙ lx in
+    let ex : L ≡ x ++ z = sym (take-append-drop t L) ∙ ap (λ (l : List Bool). x ++ l) (c .before .before .before .before .before .pre .1 .1) in
+    let lp : length p ≡ t = length-cAddition t (a .counter) x ∙ lx in
     let ep : P ≡ p ++ z =
-    layer-after t L x z lx ex (cAddition (8 * n) (a .c)) n P en (c .before .before .before .with-counter2 .ensures)
-    ∙ ap (λ (m : ℕ). cAddition m (a .c) x ++ z) en in
+    layer-after t L x z lx ex (cAddition (8 * n) (a .counter)) n P en (c .before .before .before .with-counter2 .ensures)
+    ∙ ap (λ (m : ℕ). cAddition m (a .counter) x ++ z) en in
     let eq : Q ≡ q ++ z = layer-after t P p z lp ep (sBoxLayer nibbles) n Q en (c .before .substituted2 .ensures) in
     c .moved .ensures
     ∙ ap (λ (l : List Bool). pLayer t (t / 4) l ++ z) (first-bits t Q q z (length-sBoxLayer nibbles p ∙ lp) eq)
-    ∙ ap (λ (b : Bool). spongentRound t (direction b) x (a .c) ++ z) (sym (c .before .before .before .before .if1 .left))
+    ∙ ap (λ (b : Bool). spongentRound t (direction b) x (a .counter) ++ z) (sym (c .before .before .before .before .if1 .left))
 
 pub round-spec : {M : Type 1} → statement M
 round-spec =

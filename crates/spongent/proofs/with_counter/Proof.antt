@@ -9,8 +9,8 @@ use Rattle.spongent.proofs.with_counter.Tie as tie
 
 returns : tie.Need-returns
 returns c =
-    let a = c .before .args in
-    bytes-cAddition (a .s) (a .n) (a .c) (c .reversed .result) (omega arith) (omega arith) (omega arith) (c .reversed .ensures) _ refl
+    let a = c .args in
+    bytes-cAddition (a .s) (a .n) (a .counter) (a .reversed) (omega arith) (omega arith) (omega arith) (c .pre .1 .1) _ refl
 
 pub with-counter-spec : {M : Type 1} → statement M
 with-counter-spec =
@@ -20,6 +20,5 @@ with-counter-spec =
     (λ c. search needs)
     (λ c. search needs)
     (λ c. search needs)
-    (λ c κs. search needs)
     (λ c. search needs)
     returns)

@@ -14,8 +14,7 @@ photon-step-requires c κs =
 step-requires : tie.Need-step-requires
 step-requires c κs =
     let s = c .before .before .before .before in
-    let t = s .pre .1 .spread (omega arith) in
-    ((omega arith, (known-high (s .args .v) (s .pre .0 .0), omega (arith, s .pre .0 .1, s .pre .0 .2 (whole-rate (s .args .v) (omega arith) (known-high (s .args .v) (s .pre .0 .0)))))), (t .1, t .0))
+    ((omega arith, (known-high (s .args .v) (s .pre .0 .0), omega (arith, s .pre .0 .1, s .pre .0 .2 (whole-rate (s .args .v) (omega arith) (known-high (s .args .v) (s .pre .0 .0)))))), s .pre .1 .spread (omega arith))
 
 returns-2 : tie.Need-returns-2
 returns-2 c =

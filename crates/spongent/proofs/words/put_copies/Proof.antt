@@ -1,4 +1,4 @@
--- `put_copies` writes the look-ups of each byte of a word behind the counters. The loop's invariant: the first i of them are written.
+-- `put_copies` writes the look-ups of each byte of a word. The loop's invariant: the first i of them are written.
 -- Assumes nothing.
 use Prim.Native.Nat.{_-_, _≤_}
 use native.Mathlib.Omega.{arith}
@@ -9,7 +9,7 @@ use Rattle.spongent.proofs.words.put_copies.Statement.{statement}
 use Rattle.spongent.proofs.words.put_copies.Tie as tie
 
 abbrev Inv-loop : tie.InvT-loop
-Inv-loop out₀ table i₀ out i = (i ≤ 2048) × Copied nibbles i out₀ out
+Inv-loop out₀ table i₀ out i = (i ≤ 2048) × Copied nibbles i out
 
 abbrev μ-loop : tie.MeasureT-loop
 μ-loop out₀ table i₀ out i = 2048 - i
@@ -24,7 +24,7 @@ returns : tie.Need-returns Inv-loop μ-loop
 returns c =
     let l = c .before .loop in
     let e : l .i ≡ 2048 = omega arith in
-    (copied-all (l .out) (rw e at (l .inv .1)), l .inv .1 .front)
+    (l .inv .1 .size, copied-all (l .out) (rw e at (l .inv .1)))
 
 pub put-copies-spec : {M : Type 1} → statement M
 put-copies-spec =
@@ -32,8 +32,7 @@ put-copies-spec =
     (tie.spec
     Inv-loop
     μ-loop
-    (λ c. (omega arith, copied-none (omega arith)))
-    (λ c. omega arith)
+    (λ c. (omega arith, copied-none _ (omega arith)))
     (λ c. omega arith)
     (λ c. omega arith)
     (λ c. omega arith)

@@ -1,15 +1,15 @@
--- `reversed` is the byte whose bits are those of b in the reverse order.
+-- `in_reverse` is the byte whose bits are those of b in the reverse order.
 -- Assumes nothing.
 use borrow.Author.Needs.{needs}
-use Rattle.standard.proofs.BitLaws.{mirrored}
-use Rattle.spongent.proofs.reversed.Statement.{statement}
-use Rattle.spongent.proofs.reversed.Tie as tie
+use Rattle.standard.proofs.Reversal.{reversal-byte}
+use Rattle.spongent.proofs.in_reverse.Statement.{statement}
+use Rattle.spongent.proofs.in_reverse.Tie as tie
 
 returns : tie.Need-returns
-returns c = mirrored (c .args .b)
+returns c = reversal-byte (c .args .b)
 
-pub reversed-spec : {M : Type 1} → statement M
-reversed-spec =
+pub in-reverse-spec : {M : Type 1} → statement M
+in-reverse-spec =
     tie.close
     (tie.spec
     (λ c. search needs)

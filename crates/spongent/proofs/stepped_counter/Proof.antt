@@ -1,0 +1,18 @@
+-- `stepped_counter` steps either way.
+-- Assumes nothing.
+use mathlib.Core.Path.{_∙_}
+use Rattle.standard.specs.Spongent.{steppedCounter}
+use borrow.Author.Needs.{needs}
+use Rattle.spongent.proofs.stepped_counter.Statement.{statement}
+use Rattle.spongent.proofs.stepped_counter.Tie as tie
+
+returns : tie.Need-returns
+unfolding steppedCounter
+returns c = c .previous-counter .ensures ∙ rw (c .before .if1 .taken)
+
+returns-2 : tie.Need-returns-2
+unfolding steppedCounter
+returns-2 c = c .next-counter .ensures ∙ rw (c .before .if1 .left)
+
+pub stepped-counter-spec : {M : Type 1} → statement M
+stepped-counter-spec = tie.close (tie.spec (λ c κs. search needs) returns (λ c κs. search needs) returns-2)

@@ -1,0 +1,18 @@
+-- `stepped_reversed` steps either way.
+-- Assumes nothing.
+use mathlib.Core.Path.{_∙_}
+use Rattle.standard.specs.Spongent.{steppedReversed}
+use borrow.Author.Needs.{needs}
+use Rattle.spongent.proofs.stepped_reversed.Statement.{statement}
+use Rattle.spongent.proofs.stepped_reversed.Tie as tie
+
+returns : tie.Need-returns
+unfolding steppedReversed
+returns c = c .previous-reversed .ensures ∙ rw (c .before .if1 .taken)
+
+returns-2 : tie.Need-returns-2
+unfolding steppedReversed
+returns-2 c = c .next-reversed .ensures ∙ rw (c .before .if1 .left)
+
+pub stepped-reversed-spec : {M : Type 1} → statement M
+stepped-reversed-spec = tie.close (tie.spec (λ c κs. search needs) returns (λ c κs. search needs) returns-2)
