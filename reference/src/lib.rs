@@ -8,7 +8,7 @@
 //!
 //! Variants go by the numbers 1 to 10 of [`VARIANTS`]. A call that is
 //! refused gives its refusal number and leaves the caller's bytes as they
-//! were.
+//! were. [`spongent::Spongent::trace`] tells SPONGENT's rounds layer by layer.
 //!
 //! ```
 //! use wickslate_reference::{digest, permute};
@@ -42,7 +42,7 @@ pub mod spongent;
 pub mod variants;
 
 pub use padding::Padding;
-pub use printed::{padding_table, vector_lines};
+pub use printed::{padding_table, rounds_page, vector_lines};
 pub use variants::{variant, Family, Variant, VARIANTS};
 
 /// The number of a call that was not refused.

@@ -4,6 +4,7 @@
 use std::iter::successors;
 use std::sync::OnceLock;
 
+use crate::bits::{unpack, Order};
 use crate::lookup;
 use crate::sbox;
 
@@ -57,6 +58,32 @@ pub struct Spongent {
     returned: BitMoves,
 }
 
+/// Which way the rounds run.
+#[derive(Clone, Copy, Debug, PartialEq, Eq)]
+pub enum Direction {
+    /// The permutation.
+    Forward,
+    /// Its inverse.
+    Back,
+}
+
+/// One round, or its inverse, as it is met in a debugger. States are images:
+/// bit 0 of the state is the lowest bit of the first byte.
+#[derive(Clone, Debug, PartialEq, Eq)]
+pub struct Round {
+    /// Which round of the permutation it is, or takes back, from 1.
+    pub number: usize,
+    /// What cAddition adds to the first byte: lCounter.
+    pub counter: u8,
+    /// What cAddition adds to the last byte: the 8 top bits of retnuoCl.
+    pub reversed: u8,
+    /// The state before the round.
+    pub before: Vec<u8>,
+    /// The states after the three layers, in the order in which they are
+    /// applied: cAddition, sBoxLayer and pLayer, or from pLayer back.
+    pub layers: [Vec<u8>; 3],
+}
+
 /// The permutation of states with this many bits. Panics if there is none.
 pub fn of_size(state_bits: usize) -> &'static Spongent {
     static ALL: OnceLock<Vec<Spongent>> = OnceLock::new();
@@ -88,9 +115,7 @@ impl Spongent {
     pub fn permute(&self, state: &mut [bool]) {
         let mut wide = wide_of(state);
         for constant in &self.constants {
-            wide = sum(&wide, constant);
-            wide = substitute(&wide, &self.substituted);
-            wide = self.moved.apply(&wide);
+            [_, _, wide] = self.layers(Direction::Forward, constant, &wide);
         }
         write_wide(&wide, state);
     }
@@ -99,11 +124,56 @@ impl Spongent {
     pub fn unpermute(&self, state: &mut [bool]) {
         let mut wide = wide_of(state);
         for constant in self.constants.iter().rev() {
-            wide = self.returned.apply(&wide);
-            wide = substitute(&wide, &self.restored);
-            wide = sum(&wide, constant);
+            [_, _, wide] = self.layers(Direction::Back, constant, &wide);
         }
         write_wide(&wide, state);
+    }
+
+    /// The first rounds from the state with this image, as many as asked
+    /// for, or all if there are fewer. The inverse begins with the last.
+    pub fn trace(&self, direction: Direction, rounds: usize, image: &[u8]) -> Vec<Round> {
+        let mut numbered: Vec<(usize, &Wide)> = (1..).zip(&self.constants).collect();
+        if direction == Direction::Back {
+            numbered.reverse();
+        }
+        let mut wide = wide_of(&unpack(Order::LowestFirst, image));
+        let mut traced = Vec::new();
+        for (number, constant) in numbered.into_iter().take(rounds) {
+            let layers = self.layers(direction, constant, &wide);
+            let added = self.image_of(constant);
+            traced.push(Round {
+                number,
+                counter: added[0],
+                reversed: added[added.len() - 1],
+                before: self.image_of(&wide),
+                layers: layers.map(|layer| self.image_of(&layer)),
+            });
+            [_, _, wide] = layers;
+        }
+        traced
+    }
+
+    /// One round, or its inverse: the states after its three layers, in the
+    /// order in which they are applied.
+    fn layers(&self, direction: Direction, constant: &Wide, wide: &Wide) -> [Wide; 3] {
+        match direction {
+            Direction::Forward => {
+                let added = sum(wide, constant);
+                let replaced = substitute(&added, &self.substituted);
+                [added, replaced, self.moved.apply(&replaced)]
+            }
+            Direction::Back => {
+                let returned = self.returned.apply(wide);
+                let restored = substitute(&returned, &self.restored);
+                [returned, restored, sum(&restored, constant)]
+            }
+        }
+    }
+
+    /// The image of a state: its bytes, without the bits past t.
+    fn image_of(&self, wide: &Wide) -> Vec<u8> {
+        let bytes = wide.map(u64::to_le_bytes);
+        bytes.as_flattened()[..self.state_bits / 8].to_vec()
     }
 }
 
@@ -237,6 +307,60 @@ mod tests {
             .filter(|place| constant(0x05, 88)[place / 64] >> (place % 64) & 1 == 1)
             .collect();
         assert_eq!(set, [0, 2, 85, 87]);
+    }
+
+    /// What the taps of a row read in a reversed counter: the tap at bit k of
+    /// the counter reads bit 7 - k of the byte.
+    fn mirrored_taps(row: &Parameters, reversed: u8) -> u8 {
+        let taps = row.polynomial.iter().filter(|&&exponent| exponent > 0);
+        taps.fold(0, |sum, exponent| sum ^ reversed >> (8 - exponent) & 1)
+    }
+
+    /// The reversed counter after this one, from its own bits alone. Its bits
+    /// are the upper ones of the byte, from bit 8 - w. They shift right, the
+    /// lowest falls out, and the taps give the new top bit.
+    fn next_reversed(row: &Parameters, reversed: u8) -> u8 {
+        let lowest = 8 - row.polynomial[0];
+        let kept = reversed >> 1 >> lowest << lowest;
+        mirrored_taps(row, reversed) << 7 | kept
+    }
+
+    /// The reversed counter before this one, from its own bits alone. They
+    /// shift left, and the new lowest bit is the one with which the taps give
+    /// the bit that falls out at the top.
+    fn previous_reversed(row: &Parameters, reversed: u8) -> u8 {
+        let lowest = 8 - row.polynomial[0];
+        let fallen = reversed >> 7;
+        [0, 1 << lowest]
+            .map(|entering| reversed << 1 | entering)
+            .into_iter()
+            .find(|&before| mirrored_taps(row, before) == fallen)
+            .expect("a tap reads the lowest bit")
+    }
+
+    /// Stepped so, a reversed counter is in each round what reversing the
+    /// counter gives, both ways through all rounds.
+    #[test]
+    fn reversed_counters_step_from_their_own_bits() {
+        type Step = fn(&Parameters, u8) -> u8;
+        let ways: [(Direction, Step); 2] = [
+            (Direction::Forward, next_reversed),
+            (Direction::Back, previous_reversed),
+        ];
+        for row in &TABLE_9 {
+            let zero = vec![0; row.state_bits / 8];
+            for (direction, step) in ways {
+                let rounds = of_size(row.state_bits).trace(direction, row.rounds, &zero);
+                assert_eq!(rounds.len(), row.rounds, "{} bits", row.state_bits);
+                let mut stepped = rounds[0].reversed;
+                for round in rounds {
+                    let place = format!("{direction:?}, {} bits, {round:?}", row.state_bits);
+                    assert_eq!(round.reversed, round.counter.reverse_bits(), "{place}");
+                    assert_eq!(round.reversed, stepped, "{place}");
+                    stepped = step(row, stepped);
+                }
+            }
+        }
     }
 
     #[test]

@@ -86,9 +86,11 @@ fn every_answer_has_a_line() {
             words[0] == operation && number == Some(refusal.to_string().as_str())
         })
     };
-    let answers: [(&str, &[u8]); 15] = [
+    let answers: [(&str, &[u8]); 17] = [
         ("permute", &[0, 1, 6]),
         ("unpermute", &[0, 1, 6]),
+        ("round", &[0]),
+        ("unround", &[0]),
         ("digest", &[0, 1, 5]),
         ("end-state", &[0, 1, 5]),
         ("pieces", &[0]),

@@ -4,12 +4,14 @@ mod lists;
 mod lost;
 mod permutations;
 mod reports;
+mod rounds;
 mod running;
 mod show;
 mod whole;
 
 fn main() {
     permutations::all();
+    rounds::all();
     whole::all();
     running::all();
     lists::all();

@@ -31,7 +31,7 @@ fn both_ways(v: u32, image: &mut [u8]) {
 }
 
 // The state that Annex B permutes: PHOTON's start state, with a block of zeros; SPONGENT's, with the first block of its message.
-fn example(v: u8) -> [u8; 36] {
+pub fn example(v: u8) -> [u8; 36] {
     let begun = hasher::start(v as u32);
     let mut s = begun.hasher.state;
     if 6 <= v {

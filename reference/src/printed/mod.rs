@@ -5,6 +5,7 @@ mod lists;
 mod lost;
 mod permutations;
 mod reports;
+mod rounds;
 mod running;
 mod whole;
 
@@ -14,6 +15,8 @@ use crate::digest_with;
 use crate::padding::Padding;
 use crate::segments::Refusal;
 use crate::variants::{variant, Family, Variant, VARIANTS};
+
+pub use rounds::rounds_page;
 
 /// The message of the examples of Annex B.1.
 const PHOTON_MESSAGE: &[u8] = b"The PHOTON Lightweight Hash Functions Family";
@@ -25,6 +28,7 @@ const SPONGENT_MESSAGE: &[u8] = b"Sponge + Present = Spongent";
 pub fn vector_lines() -> String {
     let mut lines = String::new();
     permutations::add(&mut lines);
+    rounds::add(&mut lines);
     whole::add(&mut lines);
     running::add(&mut lines);
     lists::add(&mut lines);
@@ -36,8 +40,7 @@ pub fn vector_lines() -> String {
 /// For each SPONGENT example of Annex B.2, the digest with either padding.
 pub fn padding_table() -> String {
     let mut table = String::from("clause  variant       byte  digest\n");
-    let spongent = VARIANTS.iter().filter(|v| v.family == Family::Spongent);
-    for (variant, clause) in spongent.zip(2..) {
+    for (variant, clause) in spongent_variants().zip(2..) {
         for (byte, padding) in [("80", Padding::NextBit), ("01", Padding::LowestFreeBit)] {
             let digest = digest_with(variant.number, padding, SPONGENT_MESSAGE)
                 .expect("the variant exists and the message is short");
@@ -47,6 +50,13 @@ pub fn padding_table() -> String {
         }
     }
     table
+}
+
+/// The variants of SPONGENT, in the order of their numbers.
+fn spongent_variants() -> impl Iterator<Item = &'static Variant> {
+    VARIANTS
+        .iter()
+        .filter(|variant| variant.family == Family::Spongent)
 }
 
 /// The message of the variant's example in Annex B.

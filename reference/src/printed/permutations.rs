@@ -29,7 +29,7 @@ pub fn add(lines: &mut String) {
 
 /// The image that Annex B permutes once: the start state with the example's
 /// block, which is zero for PHOTON and begins the message for SPONGENT.
-fn annex_b_image(variant: &Variant) -> Vec<u8> {
+pub fn annex_b_image(variant: &Variant) -> Vec<u8> {
     let mut state = sponge::start_state(variant);
     if variant.family == Family::Spongent {
         let bits = unpack(Order::HighestFirst, SPONGENT_MESSAGE);
