@@ -230,7 +230,7 @@ WICKSLATE_CALL uint32_t wickslate_start(wickslate_hasher *h, uint32_t variant);
  *
  * Refusals: 2; 3 if closed; 4 if the total would pass 16,777,215.
  * Writes:   `h`, if done. `piece` is only read.
- * Stack:    22,528 bytes.
+ * Stack:    21,504 bytes.
  *
  *     uint32_t answer = wickslate_update(&h, buffer, received);
  *     if (answer == WICKSLATE_TOO_LONG)
@@ -244,7 +244,7 @@ WICKSLATE_CALL uint32_t wickslate_update(wickslate_hasher *h, const uint8_t *pie
  *
  * Refusals: 2; 3 if closed already.
  * Writes:   `h`, if done.
- * Stack:    22,528 bytes.
+ * Stack:    21,504 bytes.
  *
  *     if (wickslate_finish(&h) != WICKSLATE_DONE)
  *         return -1;
@@ -275,7 +275,7 @@ WICKSLATE_CALL uint32_t wickslate_end_state(const wickslate_hasher *h, uint8_t *
  * Refusals: 2; 3 if still open; 5.
  * Writes:   the variant's digest bytes, if done. What lies behind them in
  *           `out` stays, and so does `h`.
- * Stack:    22,528 bytes.
+ * Stack:    21,504 bytes.
  *
  *     uint8_t digest[WICKSLATE_PHOTON_256_DIGEST_BYTES] = {0};
  *     if (wickslate_digest(&h, digest, sizeof digest) == WICKSLATE_DONE)
@@ -290,7 +290,7 @@ WICKSLATE_CALL uint32_t wickslate_digest(const wickslate_hasher *h, uint8_t *out
  * Refusals: 1; 4; 5.
  * Writes:   the result over the front of `out`, if done. What lies behind it
  *           stays. `message` is only read.
- * Stack:    22,528 bytes.
+ * Stack:    21,504 bytes.
  *
  *     uint8_t image[WICKSLATE_MOST_IMAGE_BYTES] = {0};
  *     uint32_t answer = wickslate_whole(WICKSLATE_SPONGENT_176, table, table_length,
@@ -306,7 +306,7 @@ WICKSLATE_CALL uint32_t wickslate_whole(uint32_t variant, const uint8_t *message
  *
  * Refusals: 1; 6.
  * Writes:   the whole of `image`, if done.
- * Stack:    2,368 bytes.
+ * Stack:    2,240 bytes.
  *
  *     uint8_t image[WICKSLATE_SPONGENT_88_IMAGE_BYTES] = {0};
  *     if (wickslate_permute(WICKSLATE_SPONGENT_88, image, sizeof image) != WICKSLATE_DONE)
@@ -320,7 +320,7 @@ WICKSLATE_CALL uint32_t wickslate_permute(uint32_t variant, uint8_t *image, size
  *
  * Refusals: 1; 6.
  * Writes:   the whole of `image`, if done.
- * Stack:    2,560 bytes.
+ * Stack:    2,432 bytes.
  *
  *     uint8_t image[WICKSLATE_SPONGENT_88_IMAGE_BYTES] = {0};
  *     if (wickslate_unpermute(WICKSLATE_SPONGENT_88, image, sizeof image) != WICKSLATE_DONE)
@@ -339,7 +339,7 @@ WICKSLATE_CALL uint32_t wickslate_unpermute(uint32_t variant, uint8_t *image, si
  *           no block leads to that state.
  * Writes:   the variant's block bytes over the front of `out`, if done. What
  *           lies behind them stays. `message` and `image` are only read.
- * Stack:    22,528 bytes.
+ * Stack:    21,504 bytes.
  *
  *     uint8_t block[WICKSLATE_MOST_BLOCK_BYTES] = {0};
  *     uint32_t answer = wickslate_recover(WICKSLATE_PHOTON_256, table, table_length, 7,
@@ -417,7 +417,7 @@ WICKSLATE_CALL uint32_t wickslate_check_entry(const uint8_t *list, size_t list_l
  *           and the list among it; 5.
  * Writes:   the result over the front of `out`, if done. What lies behind it
  *           stays. `list` and `buffer` are only read.
- * Stack:    22,528 bytes.
+ * Stack:    21,504 bytes.
  *
  *     uint8_t image[WICKSLATE_PHOTON_144_IMAGE_BYTES] = {0};
  *     uint32_t answer = wickslate_digest_list(WICKSLATE_PHOTON_144, list, list_length, buffer, buffer_length,

@@ -20,8 +20,9 @@ const EFFORT: Effort = Effort {
 /// The bytes of the message, and how many times as fast as the Rust version
 /// the archive is at the least.
 ///
-/// Measured on an Intel Xeon, with rustc 1.95.0: by look-ups PHOTON has ratios
-/// of 17 to 26, and SPONGENT of 6.4 to 6.9. With the inlining held back they
+/// Measured with rustc 1.95.0: by look-ups PHOTON has ratios of 17 to 26 on an
+/// Intel Xeon and of 15 to 24 on an AMD EPYC, and SPONGENT of 6.4 to 6.9 and,
+/// with its counters stepped, of 6.1 to 8.7. With the inlining held back they
 /// were 2.8 to 3.6 (PHOTON-288 did not need it) and 1.4 to 1.7, and by plain
 /// steps 1.4 to 2.4 and 1.3 to 2.0. The limits lie between, a factor of two or
 /// more below the first. A Rust version that is made faster asks for others.
