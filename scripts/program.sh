@@ -15,20 +15,33 @@ has_input() {
     { : 3<&0; } 2>/dev/null
 }
 
-# Proves and builds the program unless that was done after the last change of a source. The stamp is as old as the beginning of the proof, so that
-# a source which changes meanwhile is proved next time. Scripts that are called at once each have a stamp of their own until it is put in its place.
+# Tells whether the program was proved and built after the last change of a source.
+is_current() {
+    [[ -x $program && -f $checked && -z $(find "$root/crates" "$root/crates.txt" -newer "$checked" -print -quit) ]]
+}
+
+# Proves and builds the program where it is not current. The stamp is as old as the beginning of the proof, so that a source which changes meanwhile is
+# proved next time. Scripts that are called at once prove one after the other, for rt works in one folder: of three that ran together one was seen to fail
+# after it had proved again what was proved. Where there is no flock they are not held apart.
 prepare() {
-    local checked=$root/target/$name.checked log stamp
-    if [[ -x $program && -f $checked && -z $(find "$root/crates" "$root/crates.txt" -newer "$checked" -print -quit) ]]; then
+    local checked=$root/target/$name.checked log stamp turn
+    if is_current; then
         return
     fi
     command -v rt >/dev/null || fail 2 "the program is not built yet, and the Rattle kit's command rt is not found"
     echo "$name: proving and building the program, which may take some minutes .." >&2
-    mkdir -p "$root/target" && stamp=$(mktemp "$checked.XXXXXX") || fail 2 "$root/target cannot be written"
-    if ! log=$(cd "$root" && rt check "$name" 2>&1 </dev/null); then
-        rm -f -- "$stamp"
-        printf '%s\n' "$log" >&2
-        fail 2 "the program could not be proved and built"
+    mkdir -p "$root/target" && { exec {turn}>"$root/target/proving"; } 2>/dev/null || fail 2 "$root/target cannot be written"
+    if command -v flock >/dev/null; then
+        flock "$turn"
     fi
-    mv -f -- "$stamp" "$checked" || fail 2 "$root/target cannot be written"
+    if ! is_current; then
+        stamp=$(mktemp "$checked.XXXXXX") || fail 2 "$root/target cannot be written"
+        if ! log=$(cd "$root" && rt check "$name" 2>&1 </dev/null {turn}>&-); then
+            rm -f -- "$stamp"
+            printf '%s\n' "$log" >&2
+            fail 2 "the program could not be proved and built"
+        fi
+        mv -f -- "$stamp" "$checked" || fail 2 "$root/target cannot be written"
+    fi
+    exec {turn}>&-
 }
