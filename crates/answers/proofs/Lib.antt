@@ -2,6 +2,7 @@
 pub mod Statuses
 pub mod Rows
 pub mod NumberLaws
+pub mod ByteLaws
 pub mod WrittenAt
 pub mod DecimalLaws
 pub mod DecimalWriting

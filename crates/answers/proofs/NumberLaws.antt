@@ -8,7 +8,7 @@ use native.Mathlib.Numerals.{add-one}
 use native.Mathlib.Omega.{arith}
 use lib.ListN.{length, getD, take, drop, length-append}
 use lib.Seq.{take-suc, take-length, drop-cons}
-use Rattle.answers.specs.Numbers.{bigEndian, inBytes}
+use Rattle.answers.specs.Numbers.{Bytes, bigEndian, inBytes}
 
 bigEndian-none : bigEndian [] ≡ 0
 unfolding bigEndian
@@ -30,8 +30,8 @@ bigEndian-inBytes zero n h = bigEndian-none ∙ omega (arith, pow-zero 256)
 bigEndian-inBytes (suc w) n h =
     rw (bigEndian-snoc, bigEndian-inBytes w (n / 256) (omega (arith, pow-suc 256 w))) (omega arith)
 
--- bytes of which each is below 256
-inBytes-front : (w : ℕ) (bytes : List ℕ) → ((i : ℕ) → getD bytes i 0 < 256) → w ≤ length bytes → inBytes w (bigEndian (take w bytes)) ≡ take w bytes
+-- bytes, the first w of them and all
+inBytes-front : (w : ℕ) (bytes : List ℕ) → Bytes bytes → w ≤ length bytes → inBytes w (bigEndian (take w bytes)) ≡ take w bytes
 unfolding inBytes
 inBytes-front zero bytes hb h = refl
 inBytes-front (suc w) bytes hb h =
@@ -40,7 +40,7 @@ inBytes-front (suc w) bytes hb h =
     let low : bigEndian (take (suc w) bytes) % 256 ≡ getD bytes w 0 = omega (arith, hb w) in
     rw (high, low, inBytes-front w bytes hb (omega arith), take-suc bytes w 0)
 
-pub inBytes-bigEndian : (bytes : List ℕ) → ((i : ℕ) → getD bytes i 0 < 256) → inBytes (length bytes) (bigEndian bytes) ≡ bytes
+pub inBytes-bigEndian : (bytes : List ℕ) → Bytes bytes → inBytes (length bytes) (bigEndian bytes) ≡ bytes
 inBytes-bigEndian bytes hb = rw take-length at (inBytes-front (length bytes) bytes hb (omega arith))
 
 drop-at : (xs : List ℕ) (k : ℕ) → k < length xs → drop k xs ≡ getD xs k 0 ∷ drop (k + 1) xs

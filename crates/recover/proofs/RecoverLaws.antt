@@ -16,6 +16,7 @@ use Rattle.answers.specs.Checks.{when, firstRefusal}
 use Rattle.answers.specs.Outputs.{written, most}
 use Rattle.answers.proofs.Statuses.{kept}
 use Rattle.answers.proofs.Rows.{passing-says, row-first, row-second}
+use Rattle.answers.proofs.ByteLaws.{take-bytes}
 use Rattle.standard.specs.Bits.{high-first, bitsIn, pack, unpack}
 use Rattle.standard.specs.Sponge.{Variant, order, stateIn}
 use Rattle.standard.specs.Chain.{messageBits, blocksOf}
@@ -68,12 +69,6 @@ take-replicate : (n k : ℕ) → n ≤ k → take n (replicate k false) ≡ repl
 take-replicate zero k h = refl
 take-replicate (suc n) zero h = absurd (not-suc-le-zero h)
 take-replicate (suc n) (suc k) h = ap (λ (l : List Bool). false ∷ l) (take-replicate n k (le-of-suc-le-suc h))
-
-getD-take-lt : (n : ℕ) (l : List ℕ) (i : ℕ) → ((k : ℕ) → getD l k 0 < 256) → getD (take n l) i 0 < 256
-getD-take-lt zero l i h = omega arith
-getD-take-lt (suc n) [] i h = omega arith
-getD-take-lt (suc n) (x ∷ l) zero h = h 0
-getD-take-lt (suc n) (x ∷ l) (suc i) h = getD-take-lt n l i (λ k. h (suc k))
 
 module _ (v : ℕ) (k : known v ≡ true) (X : List Bool) (lX : length X ≡ variant v .t) (x : List ℕ) (ex : x ≡ packedState (variant v) X) where
   abbrev H : Variant
@@ -135,7 +130,7 @@ module _ (v : ℕ) (k : known v ≡ true) (X : List Bool) (lX : length X ≡ var
       ∙ ap (pack high-first n) (sym block)
     where
       taken-bytes : (n i : ℕ) → getD (take n (pack (order (variant v)) 36 X)) i 0 < 256
-      taken-bytes n i = getD-take-lt n (pack (order (variant v)) 36 X) i (pack-bytes (order (variant v)) 36 X)
+      taken-bytes n i = take-bytes n (pack (order (variant v)) 36 X) (pack-bytes (order (variant v)) 36 X) i
 
 -- ---- the operation
 

@@ -1,17 +1,18 @@
 -- Two lists whose messages differ in one block are told apart by their end states. So are two buffers that differ only in a value that one entry names: their messages differ only in it, where the message has it, and it may lie in one block.
 -- Assumes nothing.
 use mathlib.Core.Path.{_≡_, refl, sym, ap, ap₂, _∙_, subst}
-use mathlib.Core.List.{List, [], _∷_, _++_, append-assoc, flatMap}
+use mathlib.Core.List.{List, _++_, append-assoc, flatMap}
 use mathlib.Core.Logic.{⊎-elim}
 use Prim.Native.Nat.{ℕ, zero, suc, _+_, _-_, _≤_, _<_, _*_}
 use native.Mathlib.Nat.{not-suc-le-zero, le-of-suc-le-suc, eq-or-lt-of-le}
 use native.Mathlib.Omega.{arith}
-use lib.ListN.{length, take, drop, getD, length-append, length-take, length-drop}
-use lib.Seq.{drop-append-add, take-add, drop-drop, getD-drop, take-at, drop-at}
+use lib.ListN.{length, take, drop, length-append, length-take, length-drop}
+use lib.Seq.{drop-append-add, take-add, drop-drop, take-at, drop-at}
 use mathlib.Core.Bool.{true}
 use Rattle.answers.specs.declared.Status.the-variants.{Done}
-use Rattle.answers.specs.Numbers.{inBytes}
+use Rattle.answers.specs.Numbers.{Bytes, inBytes}
 use Rattle.answers.proofs.Rows.{done-each}
+use Rattle.answers.proofs.ByteLaws.{take-bytes, drop-bytes, append-bytes, number-bytes}
 use Rattle.standard.specs.Values.{DifferWithin, inOneBlock}
 use Rattle.standard.proofs.CutLaws.{take-drop-take}
 use Rattle.standard.proofs.OneValue.{differ-part, differ-append, differ-behind, one-changed-row}
@@ -29,26 +30,10 @@ use Rattle.segments.proofs.DigestLaws.{Accepted, accepted, list-whole-i
 
 -- ---- a message is of bytes, if the list and the buffer are
 
-abbrev Bytes : List ℕ → Type 0
-Bytes xs = (i : ℕ) → getD xs i 0 < 256
-
-take-bytes : (n : ℕ) (xs : List ℕ) → Bytes xs → Bytes (take n xs)
-take-bytes zero xs h i = omega arith
-take-bytes (suc n) [] h i = omega arith
-take-bytes (suc n) (x ∷ xs) h zero = h 0
-take-bytes (suc n) (x ∷ xs) h (suc i) = take-bytes n xs (λ j. h (suc j)) i
-
-append-bytes : (xs ys : List ℕ) → Bytes xs → Bytes ys → Bytes (xs ++ ys)
-append-bytes [] ys hx hy i = hy i
-append-bytes (x ∷ xs) ys hx hy zero = hx 0
-append-bytes (x ∷ xs) ys hx hy (suc i) = append-bytes xs ys (λ j. hx (suc j)) hy i
-
 -- those of the header
 header-bytes : (list : List ℕ) → Bytes list → Bytes (headerOf list)
-unfolding headerOf inBytes
-header-bytes list h zero = omega arith
-header-bytes list h (suc zero) = omega arith
-header-bytes list h (suc (suc i)) = h i
+unfolding headerOf
+header-bytes list h = append-bytes (inBytes 2 (count list)) list (number-bytes 2 (count list)) h
 
 module _ (list buffer : List ℕ) (hl : Bytes list) (h : Bytes buffer) where
   up-to-bytes : (k : ℕ) → Bytes (segmentsUpTo list buffer k)
@@ -57,7 +42,7 @@ module _ (list buffer : List ℕ) (hl : Bytes list) (h : Bytes buffer) where
   up-to-bytes (suc k) =
       subst Bytes (sym (segments-suc list buffer k))
       (append-bytes (segmentsUpTo list buffer k) (segmentIn list buffer k) (up-to-bytes k)
-      (take-bytes (lengthOf list k) (drop (offsetOf list k) buffer) (λ i. rw getD-drop (h _))))
+      (take-bytes (lengthOf list k) (drop (offsetOf list k) buffer) (drop-bytes (offsetOf list k) buffer h)))
 
   pub message-bytes : Bytes (messageOf list buffer)
   unfolding messageOf segmentsOf
@@ -227,7 +212,7 @@ module _ (v : ℕ) (list x out list′ y out′ : List ℕ) (dx : listStatus v l
 
 -- Two buffers that differ only in a value that one entry of a list names, and that lies in one block of the message.
 pub list-value-told : (v : ℕ) (list x out y out′ : List ℕ) → listStatus v list x EndState (length out) ≡ Done → listStatus v list y EndState (length out′) ≡ Done
-    → ((i : ℕ) → getD list i 0 < 256) → ((i : ℕ) → getD x i 0 < 256) → ((i : ℕ) → getD y i 0 < 256) → (p n : ℕ) → DifferWithin p n x y
+    → Bytes list → Bytes x → Bytes y → (p n : ℕ) → DifferWithin p n x y
     → (k : ℕ) → Names list k p n → inOneBlock (variant v) (length (headerOf list) + placeOf list k p) n ≡ true
     → Differ (imageSize (variant v)) (listInto v list x EndState out) (listInto v list y EndState out′)
 list-value-told v list x out y out′ dx dy hl hx hy p n d k w o =
