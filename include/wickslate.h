@@ -83,6 +83,7 @@
 #define WICKSLATE_PAST_END 11        /* an entry ends past the buffer */
 #define WICKSLATE_BAD_MANIFEST 12    /* not whole records, or more than 512 */
 #define WICKSLATE_BAD_RECORD 13      /* no such variant, or filler not zero */
+#define WICKSLATE_NOT_RISING 14      /* axis number not above the one before */
 
 /* ---- Sizes in bytes ---------------------------------------------------- */
 
@@ -434,13 +435,16 @@ WICKSLATE_CALL uint32_t wickslate_digest_list(uint32_t variant, const uint8_t *l
  * A manifest says which table each axis of an installation should hold. Each
  * record has 35 bytes: an axis number of two bytes, the high byte first; a
  * variant of one; and the digest of the axis's table, filled to 32 bytes with
- * zeros. They may stand in any order; of several with one number the first is used.
+ * zeros. Axis numbers go up from record to record, and none comes twice, so
+ * that an installation has just one manifest: two sound ones hold the same
+ * exactly if their bytes are equal.
  *
  * Tells whether a manifest is sound. The program `report` compares tables with
  * one that is.
  *
- * Refusals: 12; 13 if the variant of a record is not 1 to 10, or a byte behind
- *           its digest is not zero, also in a record that does not count.
+ * Refusals: 12; then record by record 13 if its variant is not 1 to 10 or a byte
+ *           behind its digest is not zero, and 14 if its axis number is that of
+ *           the record before it or a lower one.
  * Writes:   nothing.
  * Stack:    320 bytes.
  *

@@ -9,12 +9,16 @@ use wickslate_reference::{end_state, Variant, MESSAGE_LIMIT};
 
 use crate::compare::at;
 use crate::make::{
-    block_bytes, image, list, record, result_bytes, spare_held, spare_state, well_formed, Entry,
+    block_bytes, filled_manifest, image, list, result_bytes, spare_held, spare_state, well_formed,
+    Entry,
 };
 use crate::random::Random;
 use crate::wickslate::Hasher;
 
 const MESSAGE: &[u8] = b"Bar 14, 6.20 m, 0.4 m/s";
+
+/// The axis of the first record; both bytes of its number count.
+const AXIS: u16 = 258;
 
 /// A message with a byte too many.
 pub static LONG: LazyLock<Vec<u8>> = LazyLock::new(|| vec![0x31; MESSAGE_LIMIT + 1]);
@@ -38,7 +42,7 @@ pub struct Call {
     pub cut: usize,
     /// The number of one of the entries.
     pub entry: usize,
-    /// A manifest of two records.
+    /// A manifest of two records, with room for axis numbers below theirs.
     pub manifest: Vec<u8>,
     /// The bytes of the output.
     pub out: usize,
@@ -63,7 +67,7 @@ impl Call {
             entries: vec![(0, 2), (3, 2)],
             cut: 0,
             entry: 1,
-            manifest: two_records(variant),
+            manifest: filled_manifest(variant, AXIS..AXIS + 2),
             out: 36,
         }
     }
@@ -86,12 +90,6 @@ impl Call {
     pub fn output(&self) -> Vec<u8> {
         vec![0x5e; self.out]
     }
-}
-
-/// Records of one axis, filled up.
-fn two_records(variant: &Variant) -> Vec<u8> {
-    let digest = vec![0xff; variant.digest_bytes()];
-    record(7, variant.number as u8, &digest).repeat(2)
 }
 
 /// A closed running hash holds no bits.
@@ -229,19 +227,18 @@ fn past_end() -> Vec<Fault<'static>> {
 }
 
 /// A byte too few, one too many, and a record too many.
-fn bad_manifest() -> Vec<Fault<'static>> {
-    let most = RECORD_LIMIT * RECORD_BYTES;
+fn bad_manifest(variant: &Variant) -> Vec<Fault<'_>> {
     vec![
         fault(12, |call| call.manifest.truncate(2 * RECORD_BYTES - 1)),
         fault(12, |call| call.manifest.push(0)),
-        fault(12, move |call| {
-            call.manifest = call.manifest.repeat(RECORD_LIMIT);
-            call.manifest.truncate(most + RECORD_BYTES);
+        fault(12, |call| {
+            let behind = AXIS + 2..AXIS + RECORD_LIMIT as u16 + 1;
+            call.manifest.extend(filled_manifest(variant, behind));
         }),
     ]
 }
 
-/// In the second record, which does not count.
+/// In the second record, as in [`not_rising`].
 fn bad_record(variant: &Variant) -> Vec<Fault<'_>> {
     let (number, digest) = (RECORD_BYTES + 2, RECORD_BYTES + 3);
     let mut faults: Vec<_> = [0, 11, 255]
@@ -253,6 +250,18 @@ fn bad_record(variant: &Variant) -> Vec<Fault<'_>> {
         }
     }
     faults
+}
+
+/// The number of the first record again, the one below it, one whose low byte
+/// is above it, and the least.
+fn not_rising() -> Vec<Fault<'static>> {
+    [AXIS, AXIS - 1, 255, 0]
+        .map(|axis| {
+            fault(14, move |call| {
+                call.manifest[RECORD_BYTES..][..2].copy_from_slice(&axis.to_be_bytes());
+            })
+        })
+        .into()
 }
 
 /// The faults of `start`.
@@ -323,7 +332,7 @@ pub fn of_digest_list(variant: &Variant, wanted: u32) -> Vec<Fault<'_>> {
 
 /// The faults of `check_manifest`.
 pub fn of_check_manifest(variant: &Variant) -> Vec<Fault<'_>> {
-    row([bad_manifest(), bad_record(variant)])
+    row([bad_manifest(variant), bad_record(variant), not_rising()])
 }
 
 fn row<'a, const N: usize>(checks: [Vec<Fault<'a>>; N]) -> Vec<Fault<'a>> {

@@ -1,6 +1,9 @@
 //! Inputs for the tests: running hashes, images, segment lists, manifests and
 //! tables, sound or damaged in one place.
 
+use std::collections::BTreeMap;
+use std::ops::Range;
+
 use wickslate_reference::manifest::RECORD_BYTES;
 use wickslate_reference::running::Running;
 use wickslate_reference::{digest, Family, Variant, MESSAGE_LIMIT, VARIANTS};
@@ -178,17 +181,27 @@ pub fn table(axis: u16, contents: &[u8]) -> Vec<u8> {
     [&header(axis, contents.len() as u32), contents].concat()
 }
 
-/// A manifest of sound records for some axes and what their tables should be;
-/// some axes have a second record, of other bytes.
+/// A manifest of sound records for some axes, and what their tables should be.
+/// Many axes have a number beside that of another.
 pub fn manifest(random: &mut Random, most: usize) -> (Vec<u8>, Vec<(u16, Vec<u8>)>) {
-    let (mut list, mut tables) = (Vec::new(), Vec::new());
+    let mut tables = BTreeMap::new();
     for _ in 0..random.below(most + 1) {
+        let near = random.below(600) as u16;
         let any = u16::from_be_bytes(random.array());
-        let axis = random.pick(&[0, 1, 255, 256, 257, 65_535, any]);
+        let axis = random.pick(&[0, 1, 255, 256, 257, 65_535, near, near, any, any]);
         let bytes = random.below(40);
-        let contents = random.bytes(bytes);
-        list.extend(record_of(axis, variant(random), &contents));
-        tables.push((axis, contents));
+        tables.insert(axis, random.bytes(bytes));
     }
-    (list, tables)
+    let mut list = Vec::new();
+    for (&axis, contents) in &tables {
+        list.extend(record_of(axis, variant(random), contents));
+    }
+    (list, tables.into_iter().collect())
+}
+
+/// A manifest of the axes in a range, with digests that have all bits set.
+pub fn filled_manifest(variant: &Variant, axes: Range<u16>) -> Vec<u8> {
+    let digest = vec![0xff; variant.digest_bytes()];
+    axes.flat_map(|axis| record(axis, variant.number as u8, &digest))
+        .collect()
 }

@@ -291,7 +291,7 @@ pub fn digest_list(
     }
 }
 
-/// Whether a manifest is sound: refusals 12, 13.
+/// Whether a manifest is sound: refusals 12, 13, 14.
 pub fn check_manifest(list: &[u8]) -> Answer {
     // SAFETY: see above.
     unsafe { archive::wickslate_check_manifest(list.as_ptr(), list.len()) }

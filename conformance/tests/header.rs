@@ -67,6 +67,7 @@ fn constants() -> Vec<(String, usize)> {
         ("PAST_END", reference::PAST_END),
         ("BAD_MANIFEST", reference::BAD_MANIFEST),
         ("BAD_RECORD", reference::BAD_RECORD),
+        ("NOT_RISING", reference::NOT_RISING),
     ] {
         constants.push((name.into(), number.into()));
     }

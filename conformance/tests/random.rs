@@ -8,6 +8,7 @@ use wickslate_conformance::make::{self, Entry};
 use wickslate_conformance::random::Random;
 use wickslate_conformance::wickslate::{self, Answer, Hasher};
 use wickslate_conformance::{compare, settings};
+use wickslate_reference::manifest::RECORD_BYTES;
 use wickslate_reference::padding::block_count;
 use wickslate_reference::{digest, Variant, MESSAGE_LIMIT};
 
@@ -24,7 +25,7 @@ const CALLS: [Call; 7] = [
 #[test]
 fn random_calls() {
     let mut random = Random::of_test("random_calls");
-    let mut seen = [0; 14];
+    let mut seen = [0; 15];
     match settings::minutes() {
         None => {
             for _ in 0..settings::amount(30_000, 6000) {
@@ -39,7 +40,7 @@ fn random_calls() {
             }
         }
     }
-    println!("answers 0 to 13: {seen:?}");
+    println!("answers 0 to 14: {seen:?}");
     assert!(!seen.contains(&0), "an answer did not come up: {seen:?}");
 }
 
@@ -181,15 +182,17 @@ fn lost_block(random: &mut Random) -> u32 {
     compare::recover(number, &message, place, &image, &out).0
 }
 
-/// A manifest or, in one of two cases, one with a byte changed or lost.
+/// A manifest or, in one of two cases, one with a byte changed or lost, or with
+/// its first record behind the others.
 fn records(random: &mut Random) -> u32 {
     let (mut list, _) = make::manifest(random, 4);
     match random.below(8) {
         0 => list.truncate(list.len().saturating_sub(1)),
-        1..=3 if !list.is_empty() => {
+        1..=2 if !list.is_empty() => {
             let place = random.below(list.len());
             list[place] ^= 1 << random.below(8);
         }
+        3 if !list.is_empty() => list.rotate_left(RECORD_BYTES),
         _ => {}
     }
     compare::check_manifest(&list)

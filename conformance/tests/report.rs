@@ -102,14 +102,23 @@ fn counted(counts: [usize; 6]) -> String {
 const HOLD: &[u8] = b"Bar 7 hold.";
 const LIFT: &[u8] = b"Bar 14, 6.20 m, 0.4 m/s";
 
-/// Axes 7, 258 and 0, each by another variant. The last table has no bytes.
+/// Axes 0, 7 and 258, each by another variant. The first table has no bytes.
 fn three() -> Vec<u8> {
     [
+        record_of(0, FAST, b""),
         record_of(7, &VARIANTS[0], HOLD),
         record_of(258, &VARIANTS[5], LIFT),
-        record_of(0, FAST, b""),
     ]
     .concat()
+}
+
+/// A manifest of each kind that is refused, with the line that tells it.
+fn refused() -> [(Vec<u8>, &'static str); 3] {
+    [
+        (vec![1; 34], "refused 12\n"),
+        (record(7, 11, b""), "refused 13\n"),
+        (record(7, 1, b"").repeat(2), "refused 14\n"),
+    ]
 }
 
 #[test]
@@ -212,13 +221,16 @@ fn sound_lists_and_streams() {
 fn damaged_lists_and_streams() {
     let place = Place::of_test("damaged lists and streams");
     let mut random = Random::of_test("damaged_lists_and_streams");
-    let mut seen = [0; 3];
-    for _ in 0..amount(200, 20) {
+    let mut seen = [0; 4];
+    for _ in 0..amount(300, 60) {
         let (mut list, tables) = manifest(&mut random, 5);
         let mut stream = stream(&mut random, &tables);
-        match random.below(3) {
+        match random.below(5) {
             0 => damage(&mut random, &mut list),
             1 => damage(&mut random, &mut stream),
+            2 if !list.is_empty() => list.rotate_left(35),
+            // Filler, for most variants.
+            3 if !list.is_empty() => *list.last_mut().expect("a byte") ^= 1,
             _ => {
                 let bytes = random.below(300);
                 stream = random.bytes(bytes);
@@ -227,7 +239,8 @@ fn damaged_lists_and_streams() {
         match place.expect_same(&list, &stream).as_str() {
             "refused 12\n" => seen[0] += 1,
             "refused 13\n" => seen[1] += 1,
-            _ => seen[2] += 1,
+            "refused 14\n" => seen[2] += 1,
+            _ => seen[3] += 1,
         }
     }
     assert!(!seen.contains(&0), "an answer did not come up: {seen:?}");
@@ -259,18 +272,32 @@ fn a_stream_cut_at_every_byte() {
     }
 }
 
-/// A program that looks a byte too far in the list would see wrong records.
+/// Whole records or none, and what a third record is refused for.
 #[test]
 fn lists_of_every_length() {
     let place = Place::of_test("lists of every length");
-    let wrong = record(7, 11, b"");
-    let sound = record_of(7, FAST, HOLD);
-    let list = [&sound[..], &sound, &wrong].concat();
-    for bytes in 0..=72 {
+    let [first, second, wrong, again] = [
+        record_of(7, FAST, HOLD),
+        record_of(8, FAST, HOLD),
+        record(9, 11, b""),
+        record(8, 11, b""),
+    ];
+    let list = [&first[..], &second, &wrong].concat();
+    for bytes in 0..=list.len() {
         let lines = place.expect_same(&list[..bytes], &table(7, HOLD));
-        assert_eq!(lines == "refused 12\n", bytes % 35 != 0, "{bytes} bytes");
+        let expected = match bytes {
+            0 => counted([0, 1, 0, 0, 0, 1]),
+            35 => counted([1, 1, 1, 0, 0, 0]),
+            70 => counted([2, 1, 1, 0, 1, 0]),
+            105 => String::from("refused 13\n"),
+            _ => String::from("refused 12\n"),
+        };
+        assert_eq!(lines, expected, "{bytes} bytes");
     }
-    assert_eq!(place.expect_same(&list, b""), "refused 13\n");
+    for (third, refusal) in [(again, "refused 13\n"), (second.clone(), "refused 14\n")] {
+        let list = [&first[..], &second, &third].concat();
+        assert_eq!(place.expect_same(&list, b""), refusal);
+    }
 }
 
 #[test]
@@ -295,40 +322,89 @@ fn as_many_records_as_can_be() {
         assert_eq!(place.expect_same(&many[..bytes], &last), "refused 12\n");
     }
     // The last record of the longest list, and what comes first in a longer one.
-    let mut wrong = records(513);
-    wrong[17_920 - 35 + 2] = 0;
-    assert_eq!(place.expect_same(&wrong[..17_920], b""), "refused 13\n");
-    assert_eq!(place.expect_same(&wrong, b""), "refused 12\n");
+    for (axis, variant, refusal) in [
+        (511, 0, "refused 13\n"),
+        (510, 1, "refused 14\n"),
+        (510, 0, "refused 13\n"),
+    ] {
+        let mut wrong = many.clone();
+        wrong[17_920 - 35..17_920].copy_from_slice(&record(axis, variant, b""));
+        assert_eq!(place.expect_same(&wrong[..17_920], b""), refusal);
+        assert_eq!(place.expect_same(&wrong, b""), "refused 12\n");
+    }
 }
 
-/// The first record of an axis counts, once, and the others have to be sound.
+/// Neither an axis with two records, the same or not, nor one behind a greater
+/// one has a report, whatever the tables are. What is wrong with an earlier
+/// record is told before.
 #[test]
-fn axes_with_more_than_one_record() {
-    let place = Place::of_test("axes with more than one record");
-    let first = record_of(7, &VARIANTS[5], HOLD);
-    let second = record_of(7, &VARIANTS[1], LIFT);
-    let other = record_of(8, FAST, LIFT);
-    let list = [first.clone(), other, second].concat();
-    let [hold, lift] = [table(7, HOLD), table(7, LIFT)];
-    for (stream, expected) in [
-        (hold.clone(), [2, 1, 1, 0, 1, 0]),
-        (lift.clone(), [2, 1, 0, 1, 1, 0]),
-        ([hold, lift].concat(), [2, 2, 1, 1, 1, 0]),
+fn axes_that_do_not_rise() {
+    let place = Place::of_test("axes that do not rise");
+    let [hold, lift, other] = [
+        record_of(7, &VARIANTS[5], HOLD),
+        record_of(7, &VARIANTS[1], LIFT),
+        record_of(8, FAST, LIFT),
+    ];
+    let wrong = record(7, 11, b"");
+    for (records, refusal) in [
+        ([&hold, &hold, &other], "refused 14\n"),
+        ([&hold, &lift, &other], "refused 14\n"),
+        ([&hold, &other, &lift], "refused 14\n"),
+        ([&hold, &other, &other], "refused 14\n"),
+        ([&other, &hold, &wrong], "refused 14\n"),
+        ([&hold, &wrong, &hold], "refused 13\n"),
+        ([&wrong, &other, &hold], "refused 13\n"),
     ] {
-        assert_eq!(place.expect_same(&list, &stream), counted(expected));
+        let list = records.map(Vec::as_slice).concat();
+        for stream in [Vec::new(), table(7, HOLD), table(8, LIFT)] {
+            assert_eq!(place.expect_same(&list, &stream), refusal);
+        }
     }
-    let unsound = [first, record(7, 10, &[1; 32]), record(7, 1, &[1; 11])].concat();
-    assert_eq!(
-        place.expect_same(&unsound[..70], b""),
-        counted([1, 0, 0, 0, 1, 0])
-    );
-    assert_eq!(place.expect_same(&unsound, b""), "refused 13\n");
     let same = record(65_535, 6, b"").repeat(512);
-    let twice = table(65_535, b"").repeat(2);
-    assert_eq!(
-        place.expect_same(&same, &twice),
-        counted([1, 2, 0, 2, 0, 0])
-    );
+    assert_eq!(place.expect_same(&same, b""), "refused 14\n");
+}
+
+/// Lists of no record up to as many as can be, with two numbers between every two
+/// axes: each listed axis is looked for, and each number beside it. Every number
+/// has a table of its own, so that none passes by another's record.
+#[test]
+fn every_axis_is_looked_for() {
+    let place = Place::of_test("every axis is looked for");
+    let axis = |k: usize| 3 * k as u16 + 1;
+    let own = |axis: u16| axis.to_be_bytes();
+    let longest: Vec<u8> = (0..512)
+        .flat_map(|k| record_of(axis(k), FAST, &own(axis(k))))
+        .collect();
+    for count in (0..18).chain([63, 64, 65, 255, 256, 257, 511, 512]) {
+        let list = &longest[..35 * count];
+        let all: Vec<u8> = (0..=axis(count) + 2)
+            .flat_map(|axis| table(axis, &own(axis)))
+            .collect();
+        let others = 2 * count + 4;
+        let expected = counted([count, count + others, count, 0, 0, others]);
+        assert_eq!(place.expect_same(list, &all), expected);
+        // Wrong ones for every second axis, from the last to the first.
+        let told: Vec<usize> = (0..count).rev().step_by(2).collect();
+        let (some, untold) = (told.len(), count - told.len());
+        let stream: Vec<u8> = told.iter().flat_map(|&k| table(axis(k), HOLD)).collect();
+        let expected = counted([count, some, 0, some, untold, 0]);
+        assert_eq!(place.expect_same(list, &stream), expected);
+    }
+}
+
+/// The longest list over all numbers, from the least to the greatest: every
+/// number but one has an empty table.
+#[test]
+fn every_axis_number() {
+    let place = Place::of_test("every axis number");
+    for (first, numbers) in [(0, 0..=65_534), (127, 1..=65_535)] {
+        let list: Vec<u8> = (0..512)
+            .flat_map(|k| record_of(128 * k + first, FAST, b""))
+            .collect();
+        let stream: Vec<u8> = numbers.flat_map(|axis| header(axis, 0)).collect();
+        let expected = counted([512, 65_535, 512, 0, 0, 65_535 - 512]);
+        assert_eq!(place.expect_same(&list, &stream), expected);
+    }
 }
 
 /// One table fewer, as many, and one more than are looked at: the last of them
@@ -382,11 +458,8 @@ fn nothing_is_waited_for_behind_the_last_table() {
 #[test]
 fn nothing_is_waited_for_with_a_refused_list() {
     let place = Place::of_test("nothing is waited for with a refused list");
-    for (list, line) in [
-        (&[1; 34][..], "refused 12\n"),
-        (&[1, 1, 11].repeat(35)[..35], "refused 13\n"),
-    ] {
-        let (child, pipe) = started(place.program(list));
+    for (list, line) in refused() {
+        let (child, pipe) = started(place.program(&list));
         expect(&ended(child), 0, line, "");
         drop(pipe);
     }
@@ -401,9 +474,9 @@ const OF_LONGEST: &str = "439942cae5995486622ae4e0916178391b821ef95305819181da1f
 fn tables_at_the_limit() {
     let place = Place::of_test("tables at the limit");
     let list = [
+        record_of(0, FAST, HOLD),
         record(7, FAST.number as u8, &bytes(OF_LONGEST)),
         record(258, 6, b""),
-        record_of(0, FAST, HOLD),
     ]
     .concat();
     let limit = MESSAGE_LIMIT as u32;
@@ -585,12 +658,9 @@ fn without_input(command: &Command) -> Command {
 #[test]
 fn input_that_cannot_be_read() {
     let place = Place::of_test("input that cannot be read");
-    for (list, out, err) in [
-        (three(), "", UNREADABLE),
-        (Vec::new(), "", UNREADABLE),
-        (vec![1; 34], "refused 12\n", ""),
-        (record(7, 11, b""), "refused 13\n", ""),
-    ] {
+    let unreadable = [three(), Vec::new()].map(|list| (list, "", UNREADABLE));
+    let refused = refused().map(|(list, line)| (list, line, ""));
+    for (list, out, err) in unreadable.into_iter().chain(refused) {
         let folder = File::open(root()).expect("a folder");
         let output = place.program(&list).stdin(folder).output();
         expect(&output.expect("an end"), 0, out, err);
@@ -672,10 +742,7 @@ fn the_script_tells_a_refusal() {
     let path = place.0.to_str().expect("a plain name");
     let output = fed(script(&[path]), vec![table(7, HOLD)]);
     expect(&output, 1, "refused 12\n", "");
-    for (list, line) in [
-        (vec![1; 34], "refused 12\n"),
-        (record(7, 11, b""), "refused 13\n"),
-    ] {
+    for (list, line) in refused() {
         fs::write(place.0.join("rig"), list).expect("a file to write");
         for stream in [Vec::new(), vec![0x31; 1_000_000]] {
             expect(&fed(script(&[path]), vec![stream]), 1, line, "");
@@ -732,12 +799,13 @@ fn the_script_explains_itself() {
     }
 }
 
-/// The commands of README.md, and what it says that they print.
+/// The commands of README.md, and what it says that they print. One of them
+/// builds the example that writes manifests.
 #[test]
 fn the_example_of_the_readme() {
     let place = folder("the example of the readme");
     let root = root().canonicalize().expect("a folder");
-    for name in ["digest", "report"] {
+    for name in ["digest", "report", "examples", "target"] {
         symlink(root.join(name), place.join(name)).expect("a link");
     }
     let readme = fs::read_to_string(root.join("README.md")).expect("README.md");
@@ -757,8 +825,9 @@ fn the_example_of_the_readme() {
         .current_dir(&place)
         .output()
         .expect("an end");
-    assert_eq!(String::from_utf8_lossy(&output.stdout), printed);
-    assert!(output.status.success());
+    let [out, err] = [&output.stdout, &output.stderr].map(|text| String::from_utf8_lossy(text));
+    assert_eq!(out, printed, "{err}");
+    assert!(output.status.success(), "{err}");
 }
 
 /// A list that comes from another program, through a pipe with a name.

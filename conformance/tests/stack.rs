@@ -8,7 +8,7 @@ use std::path::Path;
 use std::sync::LazyLock;
 
 use wickslate_conformance::faults::{self, Call, Fault, LONG};
-use wickslate_conformance::make::well_formed;
+use wickslate_conformance::make::{filled_manifest, well_formed};
 use wickslate_conformance::random::Random;
 use wickslate_conformance::settings;
 use wickslate_conformance::stack::{depth, Function};
@@ -220,7 +220,7 @@ impl Most {
         assert_eq!(self.entry(call), 0);
         assert_eq!(self.advance(call), 0);
         assert_eq!(self.check_entry(call), 0);
-        call.manifest = call.manifest.repeat(256);
+        call.manifest = filled_manifest(variant, 0..512);
         assert_eq!(self.check_manifest(call), 0);
     }
 

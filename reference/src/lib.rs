@@ -75,6 +75,8 @@ pub const BAD_MANIFEST: u8 = 12;
 /// Refusal: a record's variant is not 1 to 10, or a byte behind its digest is
 /// not zero.
 pub const BAD_RECORD: u8 = 13;
+/// Refusal: a record's axis number is not above that of the record before it.
+pub const NOT_RISING: u8 = 14;
 
 /// The greatest number of message bytes.
 pub const MESSAGE_LIMIT: usize = 16_777_215;

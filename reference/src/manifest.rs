@@ -1,14 +1,15 @@
 //! Manifests: which table each axis of an installation should hold, in
-//! records of 35 bytes. The report reads the tables that it does hold from a
-//! stream, each led by its axis number and its length.
+//! records of 35 bytes that rise by axis number, so that an installation has
+//! one list. The report reads the tables that it does hold from a stream, each
+//! led by its axis number and its length.
 
 use std::collections::{BTreeMap, BTreeSet};
 use std::fmt::{self, Display, Formatter};
 use std::io::{self, ErrorKind, Read};
 
 use crate::running::start;
-use crate::variants::variant;
-use crate::{BAD_MANIFEST, BAD_RECORD, DONE, MESSAGE_LIMIT};
+use crate::variants::{variant, Variant};
+use crate::{BAD_MANIFEST, BAD_RECORD, DONE, MESSAGE_LIMIT, NOT_RISING};
 
 /// The bytes of a record: two of axis number, one of variant, and 32 of a
 /// digest with zeros behind it.
@@ -61,9 +62,12 @@ impl Display for Counts {
 }
 
 /// What an axis's table should be.
-struct Record {
-    variant: u32,
-    digest: Vec<u8>,
+#[derive(Clone, Debug, PartialEq, Eq)]
+pub struct Record {
+    /// How the table is hashed.
+    pub variant: &'static Variant,
+    /// What comes of it, in as many bytes as the variant's digests have.
+    pub digest: Vec<u8>,
 }
 
 /// How a table stands.
@@ -79,16 +83,50 @@ struct Told {
     verdict: Verdict,
 }
 
-/// Whether a report can be made of the list: refusals 12 and 13.
+/// Whether a report can be made of the list: refusals 12, 13 and 14.
 pub fn check(list: &[u8]) -> Result<(), u8> {
-    records(list).map(drop)
+    held(list).map(drop)
 }
 
-/// The counts of the tables in a stream, or the refusal number 12 or 13. Fails
-/// if the stream cannot be read. No more is kept than the records, and nothing
-/// is read behind the last table.
+/// The one list of an installation with these axes. If they are at most
+/// [`RECORD_LIMIT`], it passes, and [`held`] gives them back. Panics if a digest
+/// has not the bytes of its variant.
+pub fn list_of(records: &BTreeMap<u16, Record>) -> Vec<u8> {
+    let mut list = Vec::new();
+    // A map gives its axes in rising order.
+    for (axis, Record { variant, digest }) in records {
+        assert_eq!(digest.len(), variant.digest_bytes(), "axis {axis}");
+        list.extend(axis.to_be_bytes());
+        list.push(variant.number as u8);
+        list.extend(digest);
+        list.resize(list.len().next_multiple_of(RECORD_BYTES), 0);
+    }
+    list
+}
+
+/// What a list holds, or the refusal number 12, 13 or 14.
+pub fn held(list: &[u8]) -> Result<BTreeMap<u16, Record>, u8> {
+    if !list.len().is_multiple_of(RECORD_BYTES) || list.len() / RECORD_BYTES > RECORD_LIMIT {
+        return Err(BAD_MANIFEST);
+    }
+    let mut records = BTreeMap::new();
+    for bytes in list.chunks(RECORD_BYTES) {
+        let (axis, record) = record(bytes).ok_or(BAD_RECORD)?;
+        // They have risen so far: the greatest is the one before.
+        let before = records.last_key_value();
+        if before.is_some_and(|(&before, _)| axis <= before) {
+            return Err(NOT_RISING);
+        }
+        records.insert(axis, record);
+    }
+    Ok(records)
+}
+
+/// The counts of the tables in a stream, or the refusal number 12, 13 or 14.
+/// Fails if the stream cannot be read. No more is kept than the records, and
+/// nothing is read behind the last table.
 pub fn report(list: &[u8], mut stream: impl Read) -> io::Result<Result<Counts, u8>> {
-    let records = match records(list) {
+    let records = match held(list) {
         Ok(records) => records,
         Err(refusal) => return Ok(Err(refusal)),
     };
@@ -113,19 +151,6 @@ pub fn report(list: &[u8], mut stream: impl Read) -> io::Result<Result<Counts, u
     Ok(Ok(counts))
 }
 
-/// For each axis its first record, or refusal 12 or 13.
-fn records(list: &[u8]) -> Result<BTreeMap<u16, Record>, u8> {
-    if !list.len().is_multiple_of(RECORD_BYTES) || list.len() / RECORD_BYTES > RECORD_LIMIT {
-        return Err(BAD_MANIFEST);
-    }
-    let mut records = BTreeMap::new();
-    for bytes in list.chunks(RECORD_BYTES) {
-        let (axis, record) = record(bytes).ok_or(BAD_RECORD)?;
-        records.entry(axis).or_insert(record);
-    }
-    Ok(records)
-}
-
 /// A record and its axis; none if there is no such variant or a byte behind
 /// the digest is not zero.
 fn record(bytes: &[u8]) -> Option<(u16, Record)> {
@@ -133,7 +158,7 @@ fn record(bytes: &[u8]) -> Option<(u16, Record)> {
     let variant = variant(bytes[2].into())?;
     let (digest, filler) = bytes[3..].split_at(variant.digest_bytes());
     let record = Record {
-        variant: variant.number,
+        variant,
         digest: digest.to_vec(),
     };
     filler
@@ -165,8 +190,8 @@ fn table(records: &BTreeMap<u16, Record>, stream: &mut impl Read) -> io::Result<
 }
 
 /// The digest of all that a reader gives.
-fn digest(number: u32, contents: &mut impl Read) -> io::Result<Vec<u8>> {
-    let (mut status, mut running) = start(number);
+fn digest(variant: &Variant, contents: &mut impl Read) -> io::Result<Vec<u8>> {
+    let (mut status, mut running) = start(variant.number);
     let mut piece = [0; PIECE_BYTES];
     loop {
         assert_eq!(status, DONE, "a known variant and a short table");
@@ -179,8 +204,7 @@ fn digest(number: u32, contents: &mut impl Read) -> io::Result<Vec<u8>> {
         }
         (status, running) = running.update(&piece[..bytes]);
     }
-    let bytes = variant(number).map_or(0, |variant| variant.digest_bytes());
-    let mut digest = vec![0; bytes];
+    let mut digest = vec![0; variant.digest_bytes()];
     assert_eq!(running.finish().1.read(false, &mut digest), DONE);
     Ok(digest)
 }

@@ -3,10 +3,11 @@
 
 mod hexadecimal;
 
+use std::collections::BTreeMap;
 use std::io::{self, Read};
 
 use hexadecimal::bytes;
-use wickslate_reference::manifest::{check, report, Counts};
+use wickslate_reference::manifest::{check, held, list_of, report, Counts, Record};
 use wickslate_reference::VARIANTS;
 
 const PHOTON: &[u8] = b"The PHOTON Lightweight Hash Functions Family";
@@ -46,19 +47,25 @@ fn counts(list: &[u8], stream: impl Read) -> [usize; 6] {
     [listed, tables, equal, unequal, untold, unlisted]
 }
 
-/// Axis 7 by PHOTON-100, axis 258 by SPONGENT-88 and axis 0 by PHOTON-144.
+/// Axis 0 by PHOTON-144, axis 7 by PHOTON-100 and axis 258 by SPONGENT-88.
 fn three() -> Vec<u8> {
     [
+        record(0, 2, PHOTON_144),
         record(7, 1, PHOTON_100),
         record(258, 6, SPONGENT_88),
-        record(0, 2, PHOTON_144),
     ]
     .concat()
 }
 
+/// Records of these axes, in this order.
+fn of_axes(axes: impl IntoIterator<Item = u16>) -> Vec<u8> {
+    let sound = |axis| record(axis, 1, PHOTON_100);
+    axes.into_iter().flat_map(sound).collect()
+}
+
 #[test]
 fn lists_in_whole_records_pass() {
-    let many = record(7, 1, PHOTON_100).repeat(514);
+    let many = of_axes(0..514);
     for length in 0..=many.len() {
         let whole = length % 35 == 0 && length <= 17_920;
         let expected = if whole { Ok(()) } else { Err(12) };
@@ -89,23 +96,131 @@ fn every_byte_behind_a_digest() {
 }
 
 /// A list that is too short by a byte, or has a record too many, and in which
-/// every record is wrong too.
+/// every record is wrong too, or none rises.
 #[test]
 fn whole_records_come_first() {
-    let wrong = record(7, 11, "").repeat(513);
-    assert_eq!(check(&wrong), Err(12));
-    assert_eq!(check(&wrong[..17_919]), Err(12));
-    assert_eq!(check(&wrong[..17_920]), Err(13));
+    for (record, refusal) in [(record(7, 11, ""), 13), (record(7, 1, ""), 14)] {
+        let wrong = record.repeat(513);
+        assert_eq!(check(&wrong), Err(12));
+        assert_eq!(check(&wrong[..17_919]), Err(12));
+        assert_eq!(check(&wrong[..17_920]), Err(refusal));
+    }
 }
 
-/// The second record of an axis counts for nothing, and still has to be sound.
+/// By the whole number, of which the first byte weighs more, and up to the
+/// greatest.
 #[test]
-fn a_record_that_counts_for_nothing_is_looked_at() {
-    let first = record(7, 1, PHOTON_100);
-    for second in [record(7, 0, ""), record(7, 1, &"FF".repeat(11))] {
-        assert_eq!(check(&[&first[..], &second].concat()), Err(13));
-        let refused = report(&[first.clone(), second].concat(), &b""[..]);
-        assert_eq!(refused.expect("a sound stream"), Err(13));
+fn axis_numbers_rise() {
+    for (low, high) in [
+        (0, 1),
+        (6, 7),
+        (7, 258),
+        (258, 513),
+        (0x00ff, 0x0100),
+        (0x01ff, 0x0200),
+        (0x7fff, 0x8000),
+        (0, 65_535),
+        (65_534, 65_535),
+    ] {
+        assert_eq!(check(&of_axes([low, high])), Ok(()), "{low} {high}");
+        assert_eq!(check(&of_axes([high, low])), Err(14), "{high} {low}");
+        assert_eq!(check(&of_axes([low, low])), Err(14), "{low} twice");
+        assert_eq!(check(&of_axes([high, high])), Err(14), "{high} twice");
+    }
+}
+
+/// Nothing stands before the first record, so that 0 will do there.
+#[test]
+fn any_axis_can_be_the_first() {
+    for axis in [0, 1, 255, 256, 65_535] {
+        assert_eq!(check(&of_axes([axis])), Ok(()), "{axis}");
+    }
+}
+
+/// Each is held against the one before it, wherever it stands.
+#[test]
+fn every_record_rises() {
+    for axes in [[3, 1, 2], [1, 3, 2], [2, 1, 3], [1, 2, 2], [1, 2, 1]] {
+        assert_eq!(check(&of_axes(axes)), Err(14), "{axes:?}");
+    }
+    let longest: Vec<u16> = (0..512).map(|k| 3 * k).collect();
+    assert_eq!(check(&of_axes(longest.clone())), Ok(()));
+    for k in 1..512 {
+        let mut axes = longest.clone();
+        axes[k] = axes[k - 1];
+        assert_eq!(check(&of_axes(axes)), Err(14), "record {k}");
+    }
+}
+
+/// What is wrong with a record is told before what is wrong with a later one,
+/// and its variant and filler before its axis number.
+#[test]
+fn records_are_looked_at_in_turn() {
+    let sound = |axis| record(axis, 1, PHOTON_100);
+    for wrong in [
+        |axis| record(axis, 0, ""),
+        |axis| record(axis, 1, &"FF".repeat(11)),
+    ] {
+        for (records, refusal) in [
+            (vec![sound(7), wrong(7)], 13),
+            (vec![sound(7), wrong(6)], 13),
+            (vec![wrong(7), sound(7)], 13),
+            (vec![wrong(7), sound(8), sound(8)], 13),
+            (vec![sound(7), sound(7), wrong(8)], 14),
+            (vec![sound(7), sound(6), wrong(5)], 14),
+            (vec![sound(7), wrong(8), sound(8), wrong(9)], 13),
+        ] {
+            let list = records.concat();
+            assert_eq!(check(&list), Err(refusal));
+            // The stream is not even looked at.
+            let refused = report(&list, Broken).expect("no stream is read");
+            assert_eq!(refused, Err(refusal));
+        }
+    }
+}
+
+/// The axes of [`three`], put in from the last to the first.
+fn installation() -> BTreeMap<u16, Record> {
+    let axis = |axis, number: usize, digest| {
+        let variant = &VARIANTS[number - 1];
+        let digest = bytes(digest);
+        (axis, Record { variant, digest })
+    };
+    BTreeMap::from([
+        axis(258, 6, SPONGENT_88),
+        axis(7, 1, PHOTON_100),
+        axis(0, 2, PHOTON_144),
+    ])
+}
+
+#[test]
+fn one_list_for_one_installation() {
+    assert_eq!(list_of(&installation()), three());
+    assert_eq!(held(&three()), Ok(installation()));
+    assert_eq!(list_of(&BTreeMap::new()), b"");
+    assert_eq!(held(b""), Ok(BTreeMap::new()));
+    let rising = three();
+    let record = |k: usize| &rising[35 * k..35 * (k + 1)];
+    for order in [[0, 2, 1], [1, 0, 2], [1, 2, 0], [2, 0, 1], [2, 1, 0]] {
+        assert_eq!(held(&order.map(record).concat()), Err(14), "{order:?}");
+    }
+}
+
+/// No axis is left out, and 513 are too many.
+#[test]
+fn installations_of_many_axes() {
+    for variant in &VARIANTS {
+        let digest = vec![0xff; variant.digest_bytes()];
+        let mut axes = BTreeMap::new();
+        for axis in (0..512).map(|k| 128 * k + 127) {
+            let digest = digest.clone();
+            axes.insert(axis, Record { variant, digest });
+        }
+        let list = list_of(&axes);
+        assert_eq!(list.len(), 17_920);
+        assert_eq!(held(&list), Ok(axes.clone()), "{}", variant.name);
+        axes.insert(0, Record { variant, digest });
+        assert_eq!(held(&list_of(&axes)), Err(12), "{}", variant.name);
     }
 }
 
@@ -135,21 +250,6 @@ fn tables_are_told_apart() {
 fn a_table_that_comes_twice() {
     let twice = table(258, SPONGENT).repeat(2);
     assert_eq!(counts(&three(), &twice[..]), [3, 2, 2, 0, 2, 0]);
-}
-
-/// Under the first record the first table is right, under the second the other.
-#[test]
-fn the_first_record_counts() {
-    let records = [record(7, 1, PHOTON_100), record(7, 6, SPONGENT_88)];
-    let [photon, spongent] = [table(7, PHOTON), table(7, SPONGENT)];
-    for (list, table, equal, unequal) in [
-        (records.concat(), &photon, 1, 0),
-        (records.concat(), &spongent, 0, 1),
-        ([&records[1][..], &records[0]].concat(), &photon, 0, 1),
-        ([&records[1][..], &records[0]].concat(), &spongent, 1, 0),
-    ] {
-        assert_eq!(counts(&list, &table[..]), [1, 1, equal, unequal, 0, 0]);
-    }
 }
 
 /// The right digest under another variant of equally many bytes.

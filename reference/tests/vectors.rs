@@ -86,7 +86,7 @@ fn every_answer_has_a_line() {
             words[0] == operation && number == Some(refusal.to_string().as_str())
         })
     };
-    let answers: [(&str, &[u8]); 17] = [
+    let answers: [(&str, &[u8]); 18] = [
         ("permute", &[0, 1, 6]),
         ("unpermute", &[0, 1, 6]),
         ("round", &[0]),
@@ -102,8 +102,9 @@ fn every_answer_has_a_line() {
         ("segment", &[0, 9, 7, 10, 11]),
         ("list-digest", &[0, 1, 9, 10, 11, 5]),
         ("recover", &[0, 1, 7, 6, 5, 8]),
-        ("check-manifest", &[0, 12, 13]),
-        ("report", &[0, 12]),
+        ("check-manifest", &[0, 12, 13, 14]),
+        ("report", &[0, 12, 14]),
+        ("report-strayed", &[0]),
     ];
     for (operation, refusals) in answers {
         for &refusal in refusals {

@@ -6,7 +6,7 @@ use std::env;
 use std::ffi::{c_int, c_long};
 use std::fs;
 use std::io::{Read, Write};
-use std::process::{exit, Child, ChildStdin, Command};
+use std::process::{exit, Child, Command};
 use std::time::Duration;
 
 use wickslate_conformance::chains::hexadecimal;
@@ -14,23 +14,27 @@ use wickslate_conformance::make::{header, record};
 use wickslate_conformance::programs::{peak, program, root, started};
 use wickslate_conformance::rows::{machine, print_head, print_row};
 use wickslate_conformance::wickslate;
+use wickslate_reference::manifest::TABLE_LIMIT;
 use wickslate_reference::{Variant, MESSAGE_LIMIT, VARIANTS};
 
 const USAGE: &str = "\
 usage: report_bench [--markdown] [--repetitions N]
 
 Prints for `report` over 64 MiB of listed tables, over 256 MiB of others and over
-65,534 empty ones: its time, how that compares with the time of `digest` and of
-`cat` over as many bytes (above 1: report takes longer), and the most memory that
-it had. Times are the processor's, with what the system does for the program, and
-the best of N repetitions, 3 if not given. A repetition takes about a minute.";
+65,535 empty ones of either kind: its time, how that compares with the time of
+`digest` and of `cat` over as many bytes (above 1: report takes longer), and the
+most memory that it had. Times are the processor's, with what the system does for
+the program, and the best of N repetitions, 3 if not given. A repetition takes
+some seconds.";
 
 /// The variant that takes the least time for a byte.
 const FAST: &Variant = &VARIANTS[4];
 
-/// Two axes that are listed, behind all others, and one that is not.
-const LONG: u16 = 510;
-const SHORT: u16 = 511;
+/// Three axes that are listed, behind all others, and one that is not. The table
+/// of one of them has no bytes.
+const LONG: u16 = 509;
+const SHORT: u16 = 510;
+const EMPTY: u16 = 511;
 const OTHER: u16 = 512;
 
 /// The bytes of a short table.
@@ -46,7 +50,7 @@ struct Row {
     beside: Option<usize>,
 }
 
-const ROWS: [Row; 7] = [
+const ROWS: [Row; 8] = [
     Row {
         name: "digest",
         run: digest,
@@ -96,10 +100,18 @@ const ROWS: [Row; 7] = [
         beside: Some(3),
     },
     Row {
+        name: "report, listed",
+        run: report,
+        axis: EMPTY,
+        count: TABLE_LIMIT,
+        bytes: 0,
+        beside: None,
+    },
+    Row {
         name: "report, other",
         run: report,
         axis: OTHER,
-        count: 65_534,
+        count: TABLE_LIMIT,
         bytes: 0,
         beside: None,
     },
@@ -182,18 +194,15 @@ fn print(markdown: bool, best: &[(Duration, usize)]) {
     }
 }
 
-/// 512 records; each axis is looked for among all of them.
+/// 512 records, among which an axis is looked for by bisection.
 fn write_manifest(contents: &[u8]) {
-    let listed = |axis| {
-        let bytes = if axis == LONG {
-            MESSAGE_LIMIT
-        } else {
-            SHORT_BYTES
-        };
-        record(axis, FAST.number as u8, &digest_of(&contents[..bytes]))
+    let listed = |(axis, bytes): (u16, usize)| {
+        let digest = digest_of(&contents[..bytes]);
+        record(axis, FAST.number as u8, &digest)
     };
     let others = (0..LONG).flat_map(|axis| record(axis, 1, b""));
-    let list: Vec<u8> = others.chain(listed(LONG)).chain(listed(SHORT)).collect();
+    let tables = [(LONG, MESSAGE_LIMIT), (SHORT, SHORT_BYTES), (EMPTY, 0)];
+    let list: Vec<u8> = others.chain(tables.into_iter().flat_map(listed)).collect();
     let folder = root().join("target/report_bench");
     fs::create_dir_all(&folder).expect("a folder to make");
     fs::write(folder.join("rig"), list).expect("a file to write");
@@ -209,7 +218,7 @@ fn digest_of(contents: &[u8]) -> Vec<u8> {
 fn report(row: &Row, contents: &[u8]) -> Run {
     let mut command = program("report");
     command.current_dir(root().join("target/report_bench"));
-    let run = measured(command, |pipe| write_tables(pipe, row, contents));
+    let run = over_tables(command, row, contents);
     let Row { axis, count, .. } = row;
     let expected = match *axis {
         OTHER => format!("\ntables {count}\nequal 0\nunequal 0\nuntold 512\nunlisted {count}\n"),
@@ -224,27 +233,19 @@ fn report(row: &Row, contents: &[u8]) -> Run {
 fn cat(row: &Row, contents: &[u8]) -> Run {
     let mut command = Command::new("sh");
     command.args(["-c", "exec cat > /dev/null"]);
-    measured(command, |pipe| write_tables(pipe, row, contents))
+    over_tables(command, row, contents)
 }
 
-fn write_tables(pipe: &mut ChildStdin, row: &Row, contents: &[u8]) {
+fn over_tables(command: Command, row: &Row, contents: &[u8]) -> Run {
     let header = header(row.axis, contents.len() as u32);
-    for _ in 0..row.count {
-        for bytes in [&header, contents] {
-            pipe.write_all(bytes).expect("a program that reads");
-        }
-    }
+    measured(command, row.count, [&header, contents])
 }
 
 /// One message after the other, each by a program of its own.
 fn digest(row: &Row, contents: &[u8]) -> Run {
     let line = format!("{}\n", hexadecimal(&digest_of(contents)));
     let runs = (0..row.count).map(|_| {
-        let run = measured(program("digest"), |pipe| {
-            for bytes in [&[FAST.number as u8], contents] {
-                pipe.write_all(bytes).expect("a program that reads");
-            }
-        });
+        let run = measured(program("digest"), 1, [&[FAST.number as u8], contents]);
         assert_eq!(run.printed, line);
         run
     });
@@ -256,12 +257,21 @@ fn digest(row: &Row, contents: &[u8]) -> Run {
     .expect("a message")
 }
 
-/// Runs a command and feeds it. Its memory is looked at when it has read all but
-/// what the pipe still holds.
-fn measured(command: Command, feed: impl FnOnce(&mut ChildStdin)) -> Run {
+/// Runs a command and feeds it these two pieces so many times. Its memory is
+/// looked at when it has read all but what the pipe still holds and the last
+/// byte, which it waits for: a report ends by itself behind the last table that
+/// it looks at.
+fn measured(command: Command, count: usize, pieces: [&[u8]; 2]) -> Run {
     let (mut child, mut pipe) = started(command);
-    feed(&mut pipe);
+    let mut write = |bytes: &[u8]| pipe.write_all(bytes).expect("a program that reads");
+    for _ in 1..count {
+        pieces.into_iter().for_each(&mut write);
+    }
+    let once = pieces.concat();
+    let (front, last) = once.split_at(once.len() - 1);
+    write(front);
     let peak = peak(&child);
+    write(last);
     drop(pipe);
     let mut printed = String::new();
     let mut out = child.stdout.take().expect("a pipe");

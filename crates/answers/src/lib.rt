@@ -25,6 +25,7 @@ pub enum Refusal {
     PastEnd(u16),
     BadManifest,
     BadRecord,
+    NotRising,
 }
 
 pub enum Status {
@@ -50,6 +51,7 @@ pub fn number_of(r: Refusal) -> u8
         Refusal::PastEnd(_) => 11,
         Refusal::BadManifest => 12,
         Refusal::BadRecord => 13,
+        Refusal::NotRising => 14,
     }
 }
 
@@ -71,6 +73,7 @@ pub fn entry_of(r: Refusal) -> u16
         Refusal::PastEnd(k) => k,
         Refusal::BadManifest => 0,
         Refusal::BadRecord => 0,
+        Refusal::NotRising => 0,
     }
 }
 

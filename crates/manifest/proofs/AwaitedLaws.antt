@@ -1,7 +1,6 @@
--- The axes that a report awaits at its beginning, as the code finds them.
+-- The axes that a report awaits at its beginning, as the code sets them.
 -- Assumes nothing.
 use mathlib.Core.Path.{_≡_, sym, ap, _∙_}
-use mathlib.Core.Bool.{Bool, _&&_}
 use mathlib.Core.List.{List}
 use mathlib.Core.Logic.{⊎-elim}
 use Prim.Native.Nat.{ℕ}
@@ -13,21 +12,18 @@ use Rattle.arrays.proofs.Upto.{Upto}
 use Rattle.standard.proofs.Tab.{tab-self, tab-cong}
 use Rattle.standard.proofs.Tests.{lt-or-le}
 use Rattle.manifest.specs.Records.{recordCount}
-use Rattle.manifest.specs.Progress.{countsAt, bit, awaitedAll}
+use Rattle.manifest.specs.Progress.{bit, awaitedAll}
 
-module _ (list : List ℕ) where
-  -- after k records
-  abbrev pub Awaited : ℕ → List ℕ → Type 0
-  Awaited k out = Upto 0 (λ j y. y ≡ bit (countsAt list j)) 512 k (replicate 512 0) out
+-- after k records
+abbrev pub Awaited : ℕ → List ℕ → Type 0
+Awaited k out = Upto 0 (λ j y. y ≡ 1) 512 k (replicate 512 0) out
 
-  pub all-awaited : (n : ℕ) → n ≡ recordCount list → (out : List ℕ) → Awaited n out → out ≡ awaitedAll list
-  unfolding awaitedAll
-  all-awaited n e out u =
-      sym (tab-self 512 out 0 (u .len))
-      ∙ tab-cong 512 (λ k. getD out k 0) (λ k. bit (ltb k (recordCount list) && countsAt list k))
-      (λ k h. ⊎-elim
-      (λ l. u .done k (omega arith) ∙ ap (λ (b : Bool). bit (b && countsAt list k)) (sym (lt-ltb k (recordCount list) l)))
-      (λ l.
-      u .rest k (omega arith) ∙ getD-replicate 512 k 0 0 h
-      ∙ ap (λ (b : Bool). bit (b && countsAt list k)) (sym (le-ltb k (recordCount list) l)))
-      (lt-or-le k (recordCount list)))
+pub all-awaited : (list : List ℕ) (n : ℕ) → n ≡ recordCount list → (out : List ℕ) → Awaited n out → out ≡ awaitedAll list
+unfolding awaitedAll
+all-awaited list n e out u =
+    sym (tab-self 512 out 0 (u .len))
+    ∙ tab-cong 512 (λ k. getD out k 0) (λ k. bit (ltb k (recordCount list)))
+    (λ k h. ⊎-elim
+    (λ l. u .done k (omega arith) ∙ ap bit (sym (lt-ltb k (recordCount list) l)))
+    (λ l. u .rest k (omega arith) ∙ getD-replicate 512 k 0 0 h ∙ ap bit (sym (le-ltb k (recordCount list) l)))
+    (lt-or-le k (recordCount list)))

@@ -27,11 +27,6 @@ pub and-no : (b : Bool) → (b && false) ≡ false
 and-no true = refl
 and-no false = refl
 
--- what has to be so only where the first condition holds
-pub and-where : (a b c : Bool) → (a ≡ true → b ≡ c) → (a && b) ≡ (a && c)
-and-where true b c e = e refl
-and-where false b c e = refl
-
 pub and-assoc : (a b c : Bool) → (a && (b && c)) ≡ (a && b && c)
 and-assoc true b c = refl
 and-assoc false b c = refl
@@ -94,14 +89,28 @@ module _ {A : Type 0} where
 abbrev pub countBelow : (ℕ → Bool) → ℕ → ℕ
 countBelow p n = howMany p (tab n (λ k. k))
 
+-- what f gives for each of them
+pub count-tab : {A : Type 0} (p : A → Bool) (n : ℕ) (f : ℕ → A) → howMany p (tab n f) ≡ countBelow (λ k. p (f k)) n
+count-tab p zero f = refl
+count-tab p (suc n) f =
+    ap (howMany p) (tab-snoc n f)
+    ∙ count-snoc p (tab n f) (f n)
+    ∙ ap (λ (c : ℕ). c + bit (p (f n))) (count-tab p n f)
+    ∙ sym (count-snoc (λ k. p (f k)) (tab n (λ k. k)) n)
+    ∙ sym (ap (howMany (λ k. p (f k))) (tab-snoc n (λ k. k)))
+
 -- one number more
 pub count-suc : (p : ℕ → Bool) (n : ℕ) → countBelow p (suc n) ≡ countBelow p n + bit (p n)
 count-suc p n = ap (howMany p) (tab-snoc n (λ k. k)) ∙ count-snoc p (tab n (λ k. k)) n
 
--- the first number apart
-pub count-first : (p : ℕ → Bool) (n : ℕ) → countBelow p (suc n) ≡ bit (p 0) + countBelow (λ k. p (suc k)) n
-count-first p zero = count-cons p 0 []
-count-first p (suc n) = omega (arith, count-suc p (suc n), count-first p n, count-suc (λ k. p (suc k)) n)
+-- below a higher number as many or more, and more where a number between has the property
+pub count-mono : (p : ℕ → Bool) (m n : ℕ) → m ≤ n → countBelow p m ≤ countBelow p n
+count-mono p m zero h = let e : m ≡ 0 = omega arith in rw e (omega arith)
+count-mono p m (suc n) h =
+    ⊎-elim (λ (e : m ≡ suc n). rw e (omega arith)) (λ (l : m < suc n). omega (arith, count-suc p n, count-mono p m n (omega arith))) (eq-or-lt-of-le h)
+
+pub count-more : (p : ℕ → Bool) (m n : ℕ) → m < n → p m ≡ true → countBelow p m < countBelow p n
+count-more p m n h e = omega (arith, count-suc p m, ap bit e, count-mono p (suc m) n h)
 
 -- properties that agree below n
 pub count-same : (p q : ℕ → Bool) (n : ℕ) → ((k : ℕ) → k < n → p k ≡ q k) → countBelow p n ≡ countBelow q n

@@ -18,12 +18,13 @@ use Rattle.hasher.specs.Pieces.{joined, withByte}
 use Rattle.hasher.specs.Running.{started}
 use Rattle.manifest.specs.declared.tally.Tally.{Tally}
 use Rattle.manifest.specs.declared.report.Report.{Report}
-use Rattle.manifest.specs.Records.{isManifest, manifestStatus, recordFor, isListed}
+use Rattle.manifest.specs.Records.{manifestStatus, recordFor, isListed}
+use Rattle.manifest.specs.Places.{isOrdered}
 use Rattle.manifest.specs.Tables.{Table, axisIn, spanOf, isWhole, firstTable, tablesUpTo, mostTables, tablesIn}
 use Rattle.manifest.specs.Counts.{agrees, tables, equal, unequal, unlisted, countsOf}
 use Rattle.manifest.specs.Progress.{unread, hashedUnder, onward, isComplete, tallied, matches, withTable, settled, byteTaken, taken, fresh, empty, begun, countsSoFar, reported}
-use Rattle.manifest.proofs.Counting.{and-no}
-use Rattle.manifest.proofs.DistinctAxes.{untold-records}
+use Rattle.manifest.proofs.AxisLaws.{untold-records}
+use Rattle.manifest.proofs.OrderLaws.{Rising, passing-rises, passing-ordered}
 use Rattle.manifest.proofs.Sums.{told-add-up, tables-at-most, untold-at-most}
 use Rattle.manifest.proofs.StrideLaws.{reportWith, full-stays}
 use Rattle.manifest.proofs.TableLaws.{nothing-whole, none-whole, contents-left, tables-behind, ends-exactly}
@@ -44,7 +45,7 @@ header-axis s = ap bigEndian (take-take 2 6 s (omega arith))
 -- a report of nothing takes nothing
 nothing-taken : (list p : List ℕ) → taken list empty p ≡ empty
 unfolding taken
-nothing-taken list p = rw (and-no (isManifest list))
+nothing-taken list p = refl
 
 -- a byte leaves it so that the next is read
 passed-byte : (list : List ℕ) (r : Report) (b : ℕ) → r .passed ≡ true → byteTaken list r b .passed ≡ true
@@ -59,6 +60,9 @@ passed-byte list r b e = by (ltb (tallied (r .tally)) mostTables) (isComplete (o
     by false c = e
 
 module _ (list : List ℕ) (passes : manifestStatus list ≡ Done) where
+  rising : Rising list
+  rising = passing-rises list passes
+
   -- ---- a table's last byte
 
   module _ (ts : List Table) (s : List ℕ) (whole : isWhole s ≡ true) (ends : length s ≡ spanOf s) where
@@ -77,8 +81,8 @@ module _ (list : List ℕ) (passes : manifestStatus list ≡ Done) where
     table-told =
         ap (withTable list (tallyOf list ts)) (whole-read list s whole)
         ∙ ⊎-elim
-        (λ (is : isListed list (axisIn s) ≡ true). rw (header-axis s, is, judged is) (listed-told list ts (firstTable s) is (manifest-few list (passing-manifest list passes))))
-        (λ (is : isListed list (axisIn s) ≡ false). rw (header-axis s, is) (unlisted-told list ts (firstTable s) is))
+        (λ (is : isListed list (axisIn s) ≡ true). rw (header-axis s, is, judged is) (listed-told list rising ts (firstTable s) is (manifest-few list (passing-manifest list passes))))
+        (λ (is : isListed list (axisIn s) ≡ false). rw (header-axis s, is) (unlisted-told list rising ts (firstTable s) is))
         (either (isListed list (axisIn s)))
 
   -- ---- a byte
@@ -137,7 +141,7 @@ module _ (list : List ℕ) (passes : manifestStatus list ≡ Done) where
   unfolding taken joined
   joined-bytes [] r e = refl
   joined-bytes (p ∷ ps) r e =
-      ap (λ (t : Bool). foldl (taken list) (cond t (foldl (byteTaken list) r p) r) ps) {x = isManifest list && r .passed} {y = true} (rw (passing-manifest list passes) e)
+      ap (λ (t : Bool). foldl (taken list) (cond t (foldl (byteTaken list) r p) r) ps) {x = r .passed && isOrdered list} {y = true} (rw e (passing-ordered list passes))
       ∙ joined-bytes ps (foldl (byteTaken list) r p) (passed-on p r e)
       ∙ sym (foldl-append (byteTaken list) r p (joined ps))
 

@@ -1,12 +1,16 @@
 -- Laws about manifests, tables in a stream and reports.
-pub mod RecordLaws
-pub mod CompareLaws
 pub mod Counting
+pub mod RecordLaws
+pub mod OrderLaws
+pub mod RecordBytes
+pub mod ListWritten
+pub mod OneList
+pub mod KnownLists
+pub mod CompareLaws
 pub mod AwaitedLaws
 pub mod StrideLaws
 pub mod Sums
-pub mod FirstRecord
-pub mod DistinctAxes
+pub mod AxisLaws
 pub mod TableLaws
 pub mod ReadSoFar
 pub mod Verdicts

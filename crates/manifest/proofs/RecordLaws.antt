@@ -1,9 +1,11 @@
--- What the checks of a manifest and the look for an axis's record come to, as the code does them.
+-- Manifests: how many records they have, zeros from a byte on, and what holds of every number below n or of the least one.
 -- Assumes nothing.
-use mathlib.Core.Path.{_≡_, refl, ap}
-use mathlib.Core.Bool.{Bool, true, false}
+use mathlib.Core.Path.{_≡_, refl, ap, _∙_}
+use mathlib.Core.Bool.{Bool, true, false, _&&_}
 use mathlib.Core.List.{List}
-use Prim.Native.Nat.{ℕ, zero, suc, _+_, _*_, _-_, _%_, _≤_, _<_}
+use mathlib.Core.Logic.{⊎-elim}
+use Prim.Native.Nat.{ℕ, zero, suc, _+_, _*_, _%_, _≤_, _<_}
+use native.Mathlib.Nat.{le-of-suc-le-suc, not-suc-le-zero}
 use native.Mathlib.Numerals.{add-one}
 use native.Mathlib.Omega.{arith}
 use lib.Dec.{eqb, leb}
@@ -12,8 +14,10 @@ use lib.Seq.{drop-cons, length-take-le}
 use borrow.Author.Tests.{leb-true, eq-eqb, ne-eqb, lt-ltb, le-ltb}
 use Rattle.answers.specs.declared.Status.the-variants.{Done}
 use Rattle.answers.proofs.Rows.{passing-says}
-use Rattle.standard.proofs.Tests.{and-true}
-use Rattle.manifest.specs.Records.{isManifest, recordCount, axisAt, filledAt, zeros, manifestChecks, manifestStatus, firstBelow, recordFor, isListed}
+use Rattle.standard.proofs.Tests.{and-true, either}
+use Rattle.manifest.specs.Records.{isManifest, recordCount, filledAt, zeros, manifestChecks, manifestStatus, leastBelow, recordFor, isListed}
+use Rattle.manifest.specs.Places.{everyBelow}
+use Rattle.manifest.proofs.Counting.{and-no}
 
 -- a manifest has no more than 512 records
 pub manifest-few : (list : List ℕ) → isManifest list ≡ true → recordCount list ≤ 512
@@ -42,26 +46,52 @@ module _ (bytes : List ℕ) (i : ℕ) where
   pub zeros-past : length bytes ≤ i → zeros (drop i bytes) ≡ true
   zeros-past h = ap zeros (drop-of-length-le bytes h)
 
--- ---- the first number of which a test holds
+-- ---- every number below n, and the least one
+
+pub everyBelow-at : (n : ℕ) (p : ℕ → Bool) → everyBelow n p ≡ true → (k : ℕ) → k < n → p k ≡ true
+everyBelow-at zero p e k h = absurd (omega arith)
+everyBelow-at (suc n) p e zero h = and-true (p 0) (everyBelow n (λ j. p (suc j))) e .0
+everyBelow-at (suc n) p e (suc k) h = everyBelow-at n (λ j. p (suc j)) (and-true (p 0) (everyBelow n (λ j. p (suc j))) e .1) k (omega arith)
+
+pub everyBelow-all : (n : ℕ) (p : ℕ → Bool) → ((k : ℕ) → k < n → p k ≡ true) → everyBelow n p ≡ true
+everyBelow-all zero p h = refl
+everyBelow-all (suc n) p h = rw (h 0 (omega arith)) (everyBelow-all n (λ j. p (suc j)) (λ k l. h (suc k) (omega arith)))
+
+pub everyBelow-not : (n : ℕ) (p : ℕ → Bool) (k : ℕ) → k < n → p k ≡ false → everyBelow n p ≡ false
+everyBelow-not zero p k h e = absurd (omega arith)
+everyBelow-not (suc n) p zero h e = rw e
+everyBelow-not (suc n) p (suc k) h e = ap (λ (b : Bool). p 0 && b) (everyBelow-not n (λ j. p (suc j)) k (omega arith) e) ∙ and-no (p 0)
 
 -- the test holds of k and of none before it
-pub first-at : (n : ℕ) (p : ℕ → Bool) (k : ℕ) → k < n → ((j : ℕ) → j < k → p j ≡ false) → p k ≡ true → firstBelow n p ≡ k
-first-at zero p k h none e = absurd (omega arith)
-first-at (suc n) p zero h none e = rw e
-first-at (suc n) p (suc k) h none e =
-    rw (none 0 (omega arith)) (ap suc (first-at n (λ (j : ℕ). p (suc j)) k (omega arith) (λ j l. none (suc j) (omega arith)) e))
+pub least-at : (n : ℕ) (p : ℕ → Bool) (k : ℕ) → k < n → ((j : ℕ) → j < k → p j ≡ false) → p k ≡ true → leastBelow n p ≡ k
+least-at zero p k h none e = absurd (omega arith)
+least-at (suc n) p zero h none e = rw e
+least-at (suc n) p (suc k) h none e =
+    rw (none 0 (omega arith)) (ap suc (least-at n (λ (j : ℕ). p (suc j)) k (omega arith) (λ j l. none (suc j) (omega arith)) e))
 
 -- it holds of none
-pub first-none : (n : ℕ) (p : ℕ → Bool) → ((j : ℕ) → j < n → p j ≡ false) → firstBelow n p ≡ n
-first-none zero p none = refl
-first-none (suc n) p none = rw (none 0 (omega arith)) (ap suc (first-none n (λ (j : ℕ). p (suc j)) (λ j l. none (suc j) (omega arith))))
+pub least-none : (n : ℕ) (p : ℕ → Bool) → ((j : ℕ) → j < n → p j ≡ false) → leastBelow n p ≡ n
+least-none zero p none = refl
+least-none (suc n) p none = rw (none 0 (omega arith)) (ap suc (least-none n (λ (j : ℕ). p (suc j)) (λ j l. none (suc j) (omega arith))))
 
+-- it holds of that one
+pub least-holds : (n : ℕ) (p : ℕ → Bool) → leastBelow n p < n → p (leastBelow n p) ≡ true
+least-holds zero p h = absurd (not-suc-le-zero h)
+least-holds (suc n) p h =
+    ⊎-elim (λ e. rw e e) (λ e. rw e (least-holds n (λ k. p (suc k)) (le-of-suc-le-suc (rw e at h)))) (either (p 0))
+
+-- and none that has it comes before
+pub least-first : (n : ℕ) (p : ℕ → Bool) (k : ℕ) → k < n → p k ≡ true → leastBelow n p ≤ k
+least-first zero p k h e = absurd (not-suc-le-zero h)
+least-first (suc n) p zero h e = rw e (omega arith)
+least-first (suc n) p (suc k) h e =
+    ⊎-elim
+    (λ (t : p 0 ≡ true). rw t (omega arith))
+    (λ (t : p 0 ≡ false). rw t (omega (arith, least-first n (λ j. p (suc j)) k (le-of-suc-le-suc h) e)))
+    (either (p 0))
+
+-- whether there is one, as the code asks it
 module _ (list : List ℕ) (axis : ℕ) where
-  -- record k has the axis
-  abbrev pub Has : ℕ → Bool
-  Has k = eqb (axisAt list k) axis
-
-  -- whether a record was found, as the code asks it
   pub found-listed : (k : ℕ) → k ≡ recordFor list axis → k < recordCount list → isListed list axis ≡ true
   unfolding isListed
   found-listed k e h = rw (← e, lt-ltb k (recordCount list) h)

@@ -10,21 +10,21 @@ use lib.Dec.{eqb, ltb}
 use lib.ListN.{length, getD, set}
 use borrow.Author.Tests.{lt-ltb, ltb-true, ltb-false, eq-eqb, ne-eqb}
 use Rattle.standard.specs.Grid.{tab}
-use Rattle.standard.proofs.Tab.{getD-tab, tab-cong}
+use Rattle.standard.proofs.Tab.{length-tab, getD-tab, tab-cong}
 use Rattle.standard.proofs.Tests.{either}
 use Rattle.manifest.specs.declared.tally.Tally.{Tally}
 use Rattle.manifest.specs.Records.{recordCount, axisAt, recordFor, isListed}
 use Rattle.manifest.specs.Tables.{Table}
 use Rattle.manifest.specs.Counts.{howMany, agrees, isEqual, isUnequal, isUnlisted, isTold, listed}
-use Rattle.manifest.specs.Progress.{countsAt, bit, tallied, withListed, withUnlisted, awaitedAll, fresh}
-use Rattle.manifest.proofs.Counting.{and-yes, and-no, and-where, and-assoc, countBelow, count-snoc, count-same, count-without}
+use Rattle.manifest.specs.Progress.{bit, tallied, withListed, withUnlisted, awaitedAll, fresh}
+use Rattle.manifest.proofs.Counting.{and-yes, and-no, countBelow, count-snoc, count-all, count-same, count-without}
 use Rattle.manifest.proofs.Sums.{each-counts-once}
-use Rattle.manifest.proofs.DistinctAxes.{listed-records}
-use Rattle.manifest.proofs.FirstRecord.{counting-record}
+use Rattle.manifest.proofs.OrderLaws.{Rising, record-is}
+use Rattle.manifest.proofs.AxisLaws.{listed-records}
 
--- record k counts for its axis, and no table of that axis has come
+-- no table of record k's axis has come
 abbrev pub awaits : List ℕ → List Table → ℕ → Bool
-awaits list ts k = countsAt list k && not (isTold ts (axisAt list k))
+awaits list ts k = not (isTold ts (axisAt list k))
 
 -- the same as the report keeps it
 abbrev pub awaitedBy : List ℕ → (ℕ → Bool) → List ℕ
@@ -79,9 +79,6 @@ told-snoc ts t a =
     ap (λ (n : ℕ). not (ltb 0 n)) (count-snoc (λ (u : Table). eqb (u .axis) a) ts t)
     ∙ told-more (howMany (λ (u : Table). eqb (u .axis) a) ts) (eqb (t .axis) a)
 
-and-but : (c x y z : Bool) → (c ≡ true → y ≡ z) → (c && (x && not y)) ≡ (c && x && not z)
-and-but c x y z h = and-where c (x && not y) (x && not z) (λ e. ap (λ (b : Bool). x && not b) (h e)) ∙ and-assoc c x (not z)
-
 -- one place of a row set
 set-tab : {A : Type 0} (n : ℕ) (f g : ℕ → A) (i : ℕ) (a : A) → g i ≡ a → ((k : ℕ) → (k ≡ i → ⊥) → g k ≡ f k) → set (tab n f) i a ≡ tab n g
 set-tab zero f g i a e h = refl
@@ -90,16 +87,15 @@ set-tab (suc n) f g (suc i) a e h = ap₂ _∷_ (sym (h 0 (λ q. omega arith))) 
 
 -- ---- a table more
 
-module _ (list : List ℕ) (ts : List Table) (t : Table) where
-  -- the record that counts for its axis
+module _ (list : List ℕ) (rising : Rising list) (ts : List Table) (t : Table) where
+  -- the record of its axis
   abbrev k : ℕ
   k = recordFor list (t .axis)
 
   -- a record awaits a table: as before, and it is not the one for this axis
   awaits-snoc : (i : ℕ) → i < recordCount list → awaits list (ts ++ t ∷ []) i ≡ (awaits list ts i && not (eqb i (recordFor list (t .axis))))
   awaits-snoc i h =
-      ap (λ (b : Bool). countsAt list i && b) (told-snoc ts t (axisAt list i))
-      ∙ and-but (countsAt list i) (not (isTold ts (axisAt list i))) (eqb (t .axis) (axisAt list i)) (eqb i k) (counting-record list (t .axis) i h)
+      told-snoc ts t (axisAt list i) ∙ ap (λ (b : Bool). awaits list ts i && not b) (record-is list (t .axis) rising i h)
 
   -- every other record awaits as before
   awaits-other : (i : ℕ) → i < recordCount list → (i ≡ recordFor list (t .axis) → ⊥) → awaits list (ts ++ t ∷ []) i ≡ awaits list ts i
@@ -165,6 +161,6 @@ pub none-told : (list : List ℕ) → fresh list .tally ≡ tallyOf list []
 unfolding tallyOf fresh awaitedAll isTold
 none-told list =
     parts-same list
-    (listed-records list ∙ count-same (countsAt list) (awaits list []) (recordCount list) (λ k h. sym (and-yes (countsAt list k))))
+    (listed-records list ∙ sym (length-tab (recordCount list) (λ k. k)) ∙ sym (count-all (tab (recordCount list) (λ k. k))))
     refl refl refl
-    (tab-cong 512 _ _ (λ k _. kept-alike list (countsAt list) (awaits list []) k (λ h. sym (and-yes (countsAt list k)))))
+    (tab-cong 512 _ _ (λ k _. ap bit (sym (and-yes (ltb k (recordCount list))))))

@@ -1,4 +1,4 @@
--- The verdict on a listed table: a running hash that took its contents byte by byte matches the record that counts exactly where the table agrees with it.
+-- The verdict on a listed table: a running hash that took its contents byte by byte matches the record of its axis exactly where the table agrees with it.
 -- Assumes nothing.
 use mathlib.Core.Path.{_≡_, refl, sym, ap, ap₂, _∙_}
 use mathlib.Core.Bool.{Bool, true, false, _&&_}
@@ -14,12 +14,9 @@ use Rattle.standard.specs.Chain.{messageBits, digestOf, endState}
 use Rattle.standard.specs.Variants.{variant, known}
 use Rattle.standard.proofs.Tests.{and-true, lt-or-le}
 use Rattle.standard.proofs.Variants.{bounds}
-use Rattle.answers.specs.declared.Refusal.the-variants.{BadManifest}
 use Rattle.answers.specs.declared.Status.{Status}
 use Rattle.answers.specs.declared.Status.the-variants.{Done}
-use Rattle.answers.specs.Checks.{unless, each}
 use Rattle.answers.specs.Outputs.{whenDone, most}
-use Rattle.answers.proofs.Rows.{passing-says, row-both, done-each}
 use Rattle.hasher.specs.declared.Hasher.{Hasher}
 use Rattle.hasher.specs.declared.Advanced.{Advanced}
 use Rattle.hasher.specs.declared.Wanted.the-variants.{Digest}
@@ -31,11 +28,12 @@ use Rattle.hasher.proofs.Next.{onward-none}
 use Rattle.hasher.proofs.Calls.{start-unknown, start-done, update-done, finish-done, result-length}
 use Rattle.hasher.proofs.Message.{taken, fresh-sized, fresh-open, fresh-kept, none-kept, taken-open, end-status, end-into, whole-done}
 use Rattle.hasher.proofs.Demand2.{whole-digest}
-use Rattle.manifest.specs.Records.{isManifest, recordChecks, recordCount, variantAt, filledAt, digestBytes, digestAt, fillerAt, zeros, manifestStatus, recordFor, isListed}
+use Rattle.manifest.specs.Records.{recordCount, variantAt, filledAt, digestBytes, digestAt, fillerAt, zeros, manifestStatus, recordFor, isListed}
 use Rattle.manifest.specs.Counts.{same, agrees}
 use Rattle.manifest.specs.Progress.{hashedUnder, matches}
 use Rattle.manifest.proofs.Counting.{and-yes, and-assoc}
 use Rattle.manifest.proofs.RecordLaws.{filled-length}
+use Rattle.manifest.proofs.OrderLaws.{passed-record}
 
 -- ---- a running hash that takes bytes one by one
 
@@ -90,21 +88,13 @@ zeros-drop (suc n) (a ∷ x) e = zeros-drop n x (and-true (eqb a 0) (zeros x) e 
 
 -- ---- a record of a manifest that passes
 
--- its variant is known, and its filler zeros
-passed-record : (list : List ℕ) → manifestStatus list ≡ Done → (k : ℕ) → k < recordCount list → (known (variantAt list k) ≡ true) × (zeros (fillerAt list k) ≡ true)
-unfolding manifestStatus recordChecks
-passed-record list passes k h =
-    let all = row-both (unless (isManifest list) BadManifest ∷ []) (each (recordCount list) (recordChecks list)) passes .1 in
-    let p = passing-says (recordChecks list k) (done-each (recordCount list) (recordChecks list) all k h) in
-    (p .0, p .1 .0)
-
 module _ (list : List ℕ) (passes : manifestStatus list ≡ Done) (k : ℕ) (here : k < recordCount list) where
   -- its variant
   abbrev v : ℕ
   v = variantAt list k
 
   named : known v ≡ true
-  named = passed-record list passes k here .0
+  named = passed-record list passes k here .named
 
   -- the digest fits into the 32 bytes
   room : digestBytes v ≤ 32
@@ -119,7 +109,7 @@ module _ (list : List ℕ) (passes : manifestStatus list ≡ Done) (k : ℕ) (he
       let rest : same (drop (digestBytes v) (replicate 32 0)) (fillerAt list k) ≡ true =
       zeros-same (drop (digestBytes v) (replicate 32 0)) (fillerAt list k)
       (length-drop (digestBytes v) (replicate 32 0) ∙ sym (length-drop (digestBytes v) filled ∙ ap (λ (n : ℕ). n - digestBytes v) long))
-      (zeros-drop (digestBytes v) (replicate 32 0) refl) (passed-record list passes k here .1) in
+      (zeros-drop (digestBytes v) (replicate 32 0) refl) (passed-record list passes k here .filled) in
       ap (same (d ++ drop (digestBytes v) (replicate 32 0))) (sym (take-append-drop (digestBytes v) filled))
       ∙ same-append d _ (digestAt list k) (fillerAt list k) (l ∙ sym (length-take-le (digestBytes v) filled (omega (arith, room))))
       ∙ ap (λ (t : Bool). same d (digestAt list k) && t) rest
@@ -146,7 +136,7 @@ module _ (list : List ℕ) (passes : manifestStatus list ≡ Done) (axis : ℕ) 
   unfolding isListed
   here = ltb-true (recordFor list axis) (recordCount list) is
 
-  -- The running hash under the variant of the record that counts, after every byte of the contents, matches that record exactly where the table
+  -- The running hash under the variant of the axis's record, after every byte of the contents, matches that record exactly where the table
   -- agrees with it; past the limit neither.
   pub verdict : matches list (recordFor list axis) (foldl withByte (started (hashedUnder list axis (length m)) .hasher) m) ≡ agrees list (recordFor list axis) m
   unfolding hashedUnder agrees

@@ -1,4 +1,4 @@
--- The six counts of a report (document 02, Q-1), from the bytes of a manifest and the bytes of a stream of tables.
+-- The six counts of a report (document 02, Q-1 and Q-5), from the bytes of a manifest and the bytes of a stream of tables.
 -- Assumes nothing.
 use mathlib.Core.Bool.{Bool, true, false, cond, not, _&&_}
 use mathlib.Core.List.{List, [], _∷_}
@@ -28,7 +28,7 @@ same (x ∷ xs) (y ∷ ys) = eqb x y && same xs ys
 unfoldable pub agrees : List ℕ → ℕ → List ℕ → Bool
 agrees list k contents = leb (length contents) most && same (digestOf (variant (variantAt list k)) (messageBits contents)) (digestAt list k)
 
--- a table of a listed axis agrees with the record that counts for it, or does not; a table of no listed axis
+-- a table of a listed axis agrees with the record of that axis, or does not; a table of no listed axis
 unfoldable pub isEqual : List ℕ → Table → Bool
 isEqual list t = isListed list (t .axis) && agrees list (recordFor list (t .axis)) (t .contents)
 
@@ -44,7 +44,7 @@ isTold ts axis = ltb 0 (howMany (λ (t : Table). eqb (t .axis) axis) ts)
 
 -- ---- the counts
 
--- the axes, each once
+-- how many axes there are
 unfoldable pub listed : List ℕ → ℕ
 listed list = length (axesOf list)
 
@@ -59,7 +59,7 @@ equal list stream = howMany (isEqual list) (tablesIn stream)
 unfoldable pub unequal : List ℕ → List ℕ → ℕ
 unequal list stream = howMany (isUnequal list) (tablesIn stream)
 
--- the axes, each once, of which no table came
+-- the axes of which no table came
 unfoldable pub untold : List ℕ → List ℕ → ℕ
 untold list stream = howMany (λ axis. not (isTold (tablesIn stream) axis)) (axesOf list)
 

@@ -19,7 +19,8 @@ use Rattle.manifest.specs.declared.current.Current.{Current}
 use Rattle.manifest.specs.declared.report.Report.{Report}
 use Rattle.manifest.specs.declared.report.Beginning.{Beginning}
 use Rattle.manifest.specs.declared.report.Summary.{Summary}
-use Rattle.manifest.specs.Records.{mostRecords, isManifest, recordCount, axisAt, variantAt, filledAt, manifestStatus, recordFor, isListed}
+use Rattle.manifest.specs.Records.{mostRecords, recordCount, variantAt, filledAt, manifestStatus, recordFor, isListed}
+use Rattle.manifest.specs.Places.{isOrdered}
 use Rattle.manifest.specs.Tables.{headerBytes, axisIn, lengthIn, mostTables}
 use Rattle.manifest.specs.Counts.{same, listed}
 
@@ -29,7 +30,7 @@ use Rattle.manifest.specs.Counts.{same, listed}
 abbrev pub unread : Current
 unread = record { header = replicate headerBytes 0; got = 0; left = 0; hasher = blank 0 }
 
--- the variant under which a table is hashed: that of the record that counts; 0, under which nothing is, where the axis is not listed or the table past the limit
+-- the variant under which a table is hashed: that of its axis's record; 0, under which nothing is, where the axis is not listed or the table past the limit
 unfoldable pub hashedUnder : List ℕ → ℕ → ℕ → ℕ
 hashedUnder list axis n = cond (isListed list axis && leb n most) (variantAt list (recordFor list axis)) 0
 
@@ -106,17 +107,13 @@ settled list y c =
 unfoldable pub byteTaken : List ℕ → Report → ℕ → Report
 byteTaken list r b = cond (ltb (tallied (r .tally)) mostTables) (settled list (r .tally) (onward list (r .current) b)) r
 
--- each byte of a piece in turn; with what is no manifest, and after a beginning that was refused, nothing is read
+-- each byte of a piece in turn; after a beginning that was refused, and with bytes that are not whole records or do not rise, nothing is read
 unfoldable pub taken : List ℕ → Report → List ℕ → Report
-taken list r piece = cond (isManifest list && r .passed) (foldl (byteTaken list) r piece) r
+taken list r piece = cond (r .passed && isOrdered list) (foldl (byteTaken list) r piece) r
 
--- record k counts for its own axis
-unfoldable pub countsAt : List ℕ → ℕ → Bool
-countsAt list k = eqb (recordFor list (axisAt list k)) k
-
--- every axis awaited, by the record that counts for it
+-- every axis awaited, by its record
 unfoldable pub awaitedAll : List ℕ → List ℕ
-awaitedAll list = tab mostRecords (λ k. bit (ltb k (recordCount list) && countsAt list k))
+awaitedAll list = tab mostRecords (λ k. bit (ltb k (recordCount list)))
 
 -- no table read yet
 unfoldable pub fresh : List ℕ → Report

@@ -1,11 +1,11 @@
--- A manifest (document 02, Q-1: rig list): records of 35 bytes, each an axis number, a variant and the digest of that axis's table.
+-- A manifest (document 02, Q-1 and Q-5: rig list): records of 35 bytes that rise by axis number, each an axis number, a variant and the digest of that axis's table.
 -- Assumes nothing.
 use mathlib.Core.Bool.{Bool, true, cond, _&&_}
 use mathlib.Core.List.{List, [], _∷_}
 use Prim.Native.Nat.{ℕ, zero, suc, _+_, _*_, _/_, _%_}
 use lib.Dec.{eqb, ltb, leb}
 use lib.ListN.{length, take, drop, getD}
-use Rattle.answers.specs.declared.Refusal.the-variants.{BadManifest, BadRecord}
+use Rattle.answers.specs.declared.Refusal.the-variants.{BadManifest, BadRecord, NotRising}
 use Rattle.answers.specs.declared.Status.{Status}
 use Rattle.answers.specs.Checks.{Check, unless, firstRefusal, each}
 use Rattle.answers.specs.Numbers.{bigEndian}
@@ -54,11 +54,17 @@ abbrev pub zeros : List ℕ → Bool
 zeros [] = true
 zeros (b ∷ bytes) = eqb b 0 && zeros bytes
 
--- the check of record k: 13 for its variant or its filler
-unfoldable pub recordChecks : List ℕ → ℕ → List Check
-recordChecks list k = unless (known (variantAt list k)) BadRecord ∷ unless (zeros (fillerAt list k)) BadRecord ∷ []
+-- the axis number of record k is above the one before it; before the first there is none
+unfoldable pub risesAt : List ℕ → ℕ → Bool
+risesAt list zero = true
+risesAt list (suc k) = ltb (axisAt list k) (axisAt list (suc k))
 
--- List of a report: 12, then record by record 13
+-- the checks of record k: 13 for its variant or its filler, then 14 for its place
+unfoldable pub recordChecks : List ℕ → ℕ → List Check
+recordChecks list k =
+    unless (known (variantAt list k)) BadRecord ∷ unless (zeros (fillerAt list k)) BadRecord ∷ unless (risesAt list k) NotRising ∷ []
+
+-- List of a report: 12, then record by record 13, 14
 abbrev pub manifestChecks : List ℕ → List Check
 manifestChecks list = unless (isManifest list) BadManifest ∷ each (recordCount list) (recordChecks list)
 
@@ -68,27 +74,18 @@ manifestStatus list = firstRefusal (manifestChecks list)
 
 -- ---- the axes
 
--- a row of numbers without x, and each number of a row once
-abbrev pub without : ℕ → List ℕ → List ℕ
-without x [] = []
-without x (y ∷ ys) = cond (eqb x y) (without x ys) (y ∷ without x ys)
-
-abbrev pub distinct : List ℕ → List ℕ
-distinct [] = []
-distinct (x ∷ xs) = x ∷ without x (distinct xs)
-
--- the axes of a manifest, each once
+-- the axis of each record; in a manifest that passes no axis is there twice
 unfoldable pub axesOf : List ℕ → List ℕ
-axesOf list = distinct (tab (recordCount list) (axisAt list))
+axesOf list = tab (recordCount list) (axisAt list)
 
--- the first number below n of which p holds, and n where it holds of none
-abbrev pub firstBelow : ℕ → (ℕ → Bool) → ℕ
-firstBelow zero p = 0
-firstBelow (suc n) p = cond (p 0) 0 (suc (firstBelow n (λ k. p (suc k))))
+-- the least number below n of which p holds, and n where it holds of none
+abbrev pub leastBelow : ℕ → (ℕ → Bool) → ℕ
+leastBelow zero p = 0
+leastBelow (suc n) p = cond (p 0) 0 (suc (leastBelow n (λ k. p (suc k))))
 
--- the record that counts for an axis: the first with its number; the record count where there is none
+-- the record of an axis, which has its number; the record count where there is none. In a manifest that passes no second record has it.
 unfoldable pub recordFor : List ℕ → ℕ → ℕ
-recordFor list axis = firstBelow (recordCount list) (λ k. eqb (axisAt list k) axis)
+recordFor list axis = leastBelow (recordCount list) (λ k. eqb (axisAt list k) axis)
 
 -- an axis has a record
 unfoldable pub isListed : List ℕ → ℕ → Bool

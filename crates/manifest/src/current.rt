@@ -1,10 +1,12 @@
 // The table that is being read.
 ghost use mathlib.Core.Path.{_≡_};
+ghost use mathlib.Core.Bool.{true};
 ghost use mathlib.Core.List.{foldl};
 ghost use Prim.Native.Nat.{_+_, _-_, _≤_, _<_};
 ghost use lib.ListN.{length};
 ghost use Rattle.answers.specs.Outputs.{most};
 ghost use Rattle.hasher.specs.Pieces.{withByte};
+ghost use Rattle.manifest.specs.Places.{isOrdered};
 ghost use Rattle.manifest.specs.Tables.{headerBytes, axisIn, lengthIn};
 ghost use Rattle.manifest.specs.Progress.{unread, hashedUnder, opened, headed, onward, isComplete};
 ghost use Rattle.manifest.specs.Strides.{Stride};
@@ -41,6 +43,7 @@ pub fn unread() -> Current
 
 // The variant under which a table of n bytes is hashed: 0, under which nothing is, where it need not be.
 fn hashed_under(list: &[u8], axis: u16, n: u32) -> u32
+    requires { ⌜ isOrdered (now list) ≡ true ⌝ }
     ensures { λ r. ⌜ r ≡ hashedUnder (now (list .entry)) axis n ⌝ }
 {
     let k = records::record_for(list, axis);
@@ -67,6 +70,7 @@ fn length_in(header: [u8; HEADER_BYTES]) -> u32
 
 // The header is there, and the contents are to come.
 fn opened(list: &[u8], header: [u8; HEADER_BYTES]) -> Current
+    requires { ⌜ isOrdered (now list) ≡ true ⌝ }
     ensures { λ r. ⌜ r ≡ opened (now (list .entry)) header ⌝ }
 {
     let n = length_in(header);
@@ -82,6 +86,7 @@ fn opened(list: &[u8], header: [u8; HEADER_BYTES]) -> Current
 
 // One byte more of the header.
 fn headed(list: &[u8], c: Current, b: u8) -> Current
+    requires { ⌜ isOrdered (now list) ≡ true ⌝ }
     requires { ⌜ c .got < headerBytes ⌝ }
     ensures { λ r. ⌜ r ≡ headed (now (list .entry)) c b ⌝ }
 {
@@ -150,6 +155,7 @@ fn with_bytes(h: Hasher, part: &[u8]) -> Hasher
 
 // A stride more of the table.
 pub fn onward(list: &[u8], c: Current, part: &[u8]) -> Current
+    requires { ⌜ isOrdered (now list) ≡ true ⌝ }
     requires { ⌜ Stride c (length (now part)) ⌝ }
     ensures { λ r. ⌜ r ≡ foldl (onward (now (list .entry))) c (now (part .entry)) ⌝ }
 {

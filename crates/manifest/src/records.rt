@@ -1,10 +1,11 @@
-// The records of a manifest.
+// The records of a manifest, which rise by axis number.
 ghost use mathlib.Core.Path.{_≡_};
 ghost use mathlib.Core.Bool.{true};
 ghost use Prim.Native.Nat.{_*_, _+_, _≤_, _<_};
 ghost use lib.ListN.{drop};
 ghost use Rattle.answers.specs.Checks.{firstRefusal};
-ghost use Rattle.manifest.specs.Records.{isManifest, recordCount, axisAt, variantAt, filledAt, zeros, recordChecks, manifestStatus, recordFor};
+ghost use Rattle.manifest.specs.Records.{isManifest, recordCount, axisAt, variantAt, filledAt, zeros, risesAt, recordChecks, manifestStatus, recordFor};
+ghost use Rattle.manifest.specs.Places.{isOrdered, Place};
 use answers::Refusal;
 use answers::Status;
 use sponge::DIGEST_BYTES;
@@ -15,13 +16,13 @@ pub const RECORD_BYTES: usize = 35;
 pub const MOST_RECORDS: usize = 512;
 
 // Whole records, and no more than 512 of them.
-pub fn is_manifest(list: &[u8]) -> bool
+fn is_manifest(list: &[u8]) -> bool
     ensures { λ r. ⌜ r ≡ isManifest (now (list .entry)) ⌝ }
 {
     list.len() % RECORD_BYTES == 0 && list.len() <= MOST_RECORDS * RECORD_BYTES
 }
 
-pub fn axis_at(list: &[u8], k: usize) -> u16
+fn axis_at(list: &[u8], k: usize) -> u16
     requires { ⌜ k < recordCount (now list) ⌝ }
     ensures { λ r. ⌜ r ≡ axisAt (now (list .entry)) k ⌝ }
 {
@@ -58,7 +59,18 @@ fn zero_from(bytes: &[u8], from: usize) -> bool
     true
 }
 
-// Refusal 13 of one record.
+// Whether the axis number of record k is above the one before it.
+fn rises_at(list: &[u8], k: usize) -> bool
+    requires { ⌜ k < recordCount (now list) ⌝ }
+    ensures { λ r. ⌜ r ≡ risesAt (now (list .entry)) k ⌝ }
+{
+    if k == 0 {
+        return true;
+    }
+    axis_at(list, k - 1) < axis_at(list, k)
+}
+
+// Refusals 13 and 14 of one record.
 fn check_record(list: &[u8], k: usize) -> Status
     requires { ⌜ k < recordCount (now list) ⌝ }
     ensures { λ r. ⌜ r ≡ firstRefusal (recordChecks (now (list .entry)) k) ⌝ }
@@ -70,10 +82,13 @@ fn check_record(list: &[u8], k: usize) -> Status
     if !zero_from(filled_at(list, k), sponge::sizes::digest_bytes(v)) {
         return Status::Refused(Refusal::BadRecord);
     }
+    if !rises_at(list, k) {
+        return Status::Refused(Refusal::NotRising);
+    }
     Status::Done
 }
 
-// Whether a report can be made of it: refusals 12, 13.
+// Whether a report can be made of it: refusals 12, 13, 14.
 pub fn check(list: &[u8]) -> Status
     ensures { λ r. ⌜ r ≡ manifestStatus (now (list .entry)) ⌝ }
 {
@@ -93,19 +108,54 @@ pub fn check(list: &[u8]) -> Status
     Status::Done
 }
 
-// The record that counts for an axis, the first with its number; the record count where there is none.
+// Whether an axis can be looked up in it: a manifest whose axis numbers rise.
+pub fn is_ordered(list: &[u8]) -> bool
+    ensures { λ r. ⌜ r ≡ isOrdered (now (list .entry)) ⌝ }
+{
+    if !is_manifest(list) {
+        return false;
+    }
+    let n = list.len() / RECORD_BYTES;
+    let mut k = 0;
+    while k < n {
+        if !rises_at(list, k) {
+            return false;
+        }
+        k += 1;
+    }
+    true
+}
+
+// Where an axis stands, or would stand: by bisection, since the numbers rise.
+fn place_of(list: &[u8], axis: u16) -> usize
+    requires { ⌜ isOrdered (now list) ≡ true ⌝ }
+    ensures { λ r. ⌜ Place (now (list .entry)) axis r ⌝ }
+{
+    let mut low = 0;
+    let mut high = list.len() / RECORD_BYTES;
+    while low < high {
+        let middle = low + (high - low) / 2;
+        if axis_at(list, middle) < axis {
+            low = middle + 1;
+        } else {
+            high = middle;
+        }
+    }
+    low
+}
+
+// The record of an axis; the record count where there is none.
 pub fn record_for(list: &[u8], axis: u16) -> usize
+    requires { ⌜ isOrdered (now list) ≡ true ⌝ }
     ensures { λ r. ⌜ (r ≡ recordFor (now (list .entry)) axis) × (r ≤ recordCount (now (list .entry))) ⌝ }
 {
     let n = list.len() / RECORD_BYTES;
-    let mut left = n;
-    while 0 < left {
-        // From the first on.
-        let k = n - left;
-        if axis_at(list, k) == axis {
-            return k;
-        }
-        left -= 1;
+    let k = place_of(list, axis);
+    if n <= k {
+        return n;
+    }
+    if axis_at(list, k) == axis {
+        return k;
     }
     n
 }

@@ -5,6 +5,7 @@ ghost use mathlib.Core.List.{foldl};
 ghost use Prim.Native.Nat.{_<_};
 ghost use lib.ListN.{length};
 ghost use Rattle.manifest.specs.Records.{isManifest};
+ghost use Rattle.manifest.specs.Places.{isOrdered};
 ghost use Rattle.manifest.specs.Tables.{mostTables};
 ghost use Rattle.manifest.specs.Progress.{tallied, settled, byteTaken, fresh, countsSoFar};
 ghost use Rattle.manifest.specs.Strides.{Stride};
@@ -63,7 +64,7 @@ fn fresh(list: &[u8]) -> Report
     }
 }
 
-// A report with no table read yet: refusals 12, 13.
+// A report with no table read yet: refusals 12, 13, 14.
 pub fn begun(list: &[u8]) -> Beginning
     ensures { λ r. ⌜ r ≡ Progress·begun (now (list .entry)) ⌝ }
 {
@@ -93,7 +94,7 @@ pub fn begun(list: &[u8]) -> Beginning
 
 // A table that is complete goes into the tally.
 fn settled(list: &[u8], y: Tally, c: Current) -> Report
-    requires { ⌜ isManifest (now list) ≡ true ⌝ }
+    requires { ⌜ isOrdered (now list) ≡ true ⌝ }
     requires { ⌜ tallied y < mostTables ⌝ }
     ensures { λ r. ⌜ r ≡ settled (now (list .entry)) y c ⌝ }
 {
@@ -113,7 +114,7 @@ fn settled(list: &[u8], y: Tally, c: Current) -> Report
 
 // Some bytes of the stream, of which only the last can end a table.
 fn stepped(list: &[u8], r: Report, part: &[u8]) -> Report
-    requires { ⌜ isManifest (now list) ≡ true ⌝ }
+    requires { ⌜ isOrdered (now list) ≡ true ⌝ }
     requires { ⌜ tallied (r .tally) < mostTables ⌝ }
     requires { ⌜ Stride (r .current) (length (now part)) ⌝ }
     ensures { λ s. ⌜ s ≡ foldl (byteTaken (now (list .entry))) r (now (part .entry)) ⌝ }
@@ -126,10 +127,11 @@ pub fn taken(list: &[u8], report: Report, piece: &[u8]) -> Report
     ensures { λ r. ⌜ r ≡ Progress·taken (now (list .entry)) report (now (piece .entry)) ⌝ }
 {
     let mut latest = report;
-    if !records::is_manifest(list) {
+    if !report.passed {
         return latest;
     }
-    if !report.passed {
+    // Without an order no axis can be looked up.
+    if !records::is_ordered(list) {
         return latest;
     }
     let mut i = 0;

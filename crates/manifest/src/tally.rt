@@ -4,9 +4,10 @@ ghost use mathlib.Core.Bool.{true};
 ghost use Prim.Native.Nat.{_≤_, _<_};
 ghost use lib.ListN.{length};
 ghost use Rattle.manifest.specs.Records.{mostRecords, isManifest, recordCount};
+ghost use Rattle.manifest.specs.Places.{isOrdered};
 ghost use Rattle.manifest.specs.Tables.{mostTables};
 ghost use Rattle.manifest.specs.Counts.{same, listed};
-ghost use Rattle.manifest.specs.Progress.{bit, tallied, matches, withListed, withUnlisted, withTable, countsAt, awaitedAll};
+ghost use Rattle.manifest.specs.Progress.{bit, tallied, matches, withListed, withUnlisted, withTable, awaitedAll};
 use crate::current::Current;
 use crate::current::axis_in;
 use crate::current::minus;
@@ -17,7 +18,7 @@ use answers::Status;
 use hasher::Hasher;
 use sponge::DIGEST_BYTES;
 
-// The tables read so far. Where record k counts for its axis and no table of that axis has come, awaited[k] is 1.
+// The tables read so far. Where no table of record k's axis has come, awaited[k] is 1.
 pub struct Tally {
     pub listed: u16,
     pub untold: u16,
@@ -34,15 +35,7 @@ fn bit(b: bool) -> u8
     if b { 1 } else { 0 }
 }
 
-// Whether record k counts for its own axis.
-fn counts_at(list: &[u8], k: usize) -> bool
-    requires { ⌜ k < recordCount (now list) ⌝ }
-    ensures { λ r. ⌜ r ≡ countsAt (now (list .entry)) k ⌝ }
-{
-    records::record_for(list, records::axis_at(list, k)) == k
-}
-
-// At the beginning every axis is awaited, by the record that counts for it.
+// At the beginning every axis is awaited, by its record.
 pub fn awaited_all(list: &[u8]) -> [u8; MOST_RECORDS]
     requires { ⌜ isManifest (now list) ≡ true ⌝ }
     ensures { λ r. ⌜ r ≡ awaitedAll (now (list .entry)) ⌝ }
@@ -51,7 +44,7 @@ pub fn awaited_all(list: &[u8]) -> [u8; MOST_RECORDS]
     let mut out = [0u8; MOST_RECORDS];
     let mut k = 0;
     while k < n {
-        out[k] = bit(counts_at(list, k));
+        out[k] = 1;
         k += 1;
     }
     out
@@ -62,14 +55,7 @@ pub fn listed(list: &[u8]) -> u16
     requires { ⌜ isManifest (now list) ≡ true ⌝ }
     ensures { λ r. ⌜ r ≡ listed (now (list .entry)) ⌝ }
 {
-    let n = list.len() / RECORD_BYTES;
-    let mut sum: u16 = 0;
-    let mut k = 0;
-    while k < n {
-        sum += bit(counts_at(list, k)) as u16;
-        k += 1;
-    }
-    sum
+    (list.len() / RECORD_BYTES) as u16
 }
 
 // How many tables were read. Since none of the three counts is above it, none passes its type while this is below the most tables.
@@ -149,7 +135,7 @@ fn with_unlisted(y: Tally) -> Tally
 
 // The tally with the table that was read.
 pub fn with_table(list: &[u8], y: Tally, c: Current) -> Tally
-    requires { ⌜ isManifest (now list) ≡ true ⌝ }
+    requires { ⌜ isOrdered (now list) ≡ true ⌝ }
     requires { ⌜ tallied y < mostTables ⌝ }
     ensures { λ r. ⌜ r ≡ withTable (now (list .entry)) y c ⌝ }
 {

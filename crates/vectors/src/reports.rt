@@ -1,5 +1,6 @@
 // Reports: the tables of a stream held against a manifest, with the stream cut in two at several places, and manifests that are refused. A
-// line gives the manifest and both pieces, and the six counts in the order of the program's lines.
+// line gives the manifest and both pieces, and the six counts in the order of the program's lines; behind "report-strayed" the manifest that is
+// passed with the second piece stands after the first.
 use crate::show;
 use manifest::Report;
 ghost use Prim.Native.Nat.{_≤_};
@@ -31,10 +32,8 @@ fn counts(report: Report) {
     show::newline();
 }
 
-fn report(list: &[u8], first: &[u8], second: &[u8]) {
-    show::word(b"report");
-    show::word(b"-");
-    show::bytes(list);
+// Two pieces, each passed with a manifest, of which the first also begins the report.
+fn pieces(list: &[u8], other: &[u8], first: &[u8], second: &[u8]) {
     show::show(b"+");
     show::bytes(first);
     show::show(b"+");
@@ -44,7 +43,23 @@ fn report(list: &[u8], first: &[u8], second: &[u8]) {
     let status = begun.status;
     show::status(status);
     let half = manifest::taken(list, begun.report, first);
-    counts(manifest::taken(list, half, second));
+    counts(manifest::taken(other, half, second));
+}
+
+fn report(list: &[u8], first: &[u8], second: &[u8]) {
+    show::word(b"report");
+    show::word(b"-");
+    show::bytes(list);
+    pieces(list, list, first, second);
+}
+
+fn report_strayed(list: &[u8], other: &[u8], first: &[u8], second: &[u8]) {
+    show::word(b"report-strayed");
+    show::word(b"-");
+    show::bytes(list);
+    show::show(b"+");
+    show::bytes(other);
+    pieces(list, other, first, second);
 }
 
 // The stream cut in two.
@@ -58,31 +73,55 @@ fn cut(list: &[u8], stream: &[u8], n: usize)
 fn checks(list: &[u8])
     requires { ⌜ 70 ≤ length (now list) ⌝ }
 {
-    check(list);
+    check(&list[0..70]);
     check(&list[0..69]);
     check(&list[1..36]);
 }
 
+// Falling; one axis twice; one axis twice, the second record of no variant; such a record behind one that only does not rise, and in front of one.
+fn orders(list: &[u8])
+    requires { ⌜ 245 ≤ length (now list) ⌝ }
+{
+    check(&list[35..105]);
+    check(&list[70..140]);
+    check(&list[105..175]);
+    check(&list[35..175]);
+    check(&list[140..245]);
+}
+
 // In a header and within a table; with a refused manifest nothing is read.
 fn cuts(list: &[u8], stream: &[u8])
-    requires { ⌜ (70 ≤ length (now list)) × (10 ≤ length (now stream)) ⌝ }
+    requires { ⌜ (105 ≤ length (now list)) × (10 ≤ length (now stream)) ⌝ }
 {
-    cut(list, stream, 3);
-    cut(list, stream, 10);
+    cut(&list[0..70], stream, 3);
+    cut(&list[0..70], stream, 10);
     cut(&list[0..69], stream, 10);
+    cut(&list[35..105], stream, 10);
 }
 
-fn two(list: &[u8], stream: &[u8])
-    requires { ⌜ (70 ≤ length (now list)) × (10 ≤ length (now stream)) ⌝ }
+// Behind the first table of 17 bytes, with a manifest that does not rise, and with one that is cut short.
+fn strayed(list: &[u8], stream: &[u8])
+    requires { ⌜ (105 ≤ length (now list)) × (17 ≤ length (now stream)) ⌝ }
+{
+    let n = stream.len();
+    report_strayed(&list[0..70], &list[35..105], &stream[0..17], &stream[17..n]);
+    report_strayed(&list[0..70], &list[0..69], &stream[0..17], &stream[17..n]);
+}
+
+fn seven(list: &[u8], stream: &[u8])
+    requires { ⌜ (245 ≤ length (now list)) × (17 ≤ length (now stream)) ⌝ }
 {
     checks(list);
+    orders(list);
     cuts(list, stream);
+    strayed(list, stream);
 }
 
-// Records of axes 7 and 258. The tables: the right one of axis 7, one of axis 9, an empty one of axis 7, and one of axis 258 that lacks a byte.
+// Records of axes 7, 258, 7, 7, 7 with variant 11, 258 and 7. The tables: the right one of axis 7, one of axis 9, an empty one of axis 7, and one
+// of axis 258 that lacks a byte.
 pub fn all() {
-    two(
-        b"\x00\x07\x01{\x14\xDB\xBE\xA0\xD6d \xF1\xC4\x00\x00\x00\x00\x00\x00\x00\x00\x00\x00\x00\x00\x00\x00\x00\x00\x00\x00\x00\x00\x00\x00\x01\x02\x06<\x85\xB3\x0C\x02F\xFD\xBB\xE7\x8C\xF4\x00\x00\x00\x00\x00\x00\x00\x00\x00\x00\x00\x00\x00\x00\x00\x00\x00\x00\x00\x00\x00",
+    seven(
+        b"\x00\x07\x01{\x14\xDB\xBE\xA0\xD6d \xF1\xC4\x00\x00\x00\x00\x00\x00\x00\x00\x00\x00\x00\x00\x00\x00\x00\x00\x00\x00\x00\x00\x00\x00\x01\x02\x06<\x85\xB3\x0C\x02F\xFD\xBB\xE7\x8C\xF4\x00\x00\x00\x00\x00\x00\x00\x00\x00\x00\x00\x00\x00\x00\x00\x00\x00\x00\x00\x00\x00\x00\x07\x01{\x14\xDB\xBE\xA0\xD6d \xF1\xC4\x00\x00\x00\x00\x00\x00\x00\x00\x00\x00\x00\x00\x00\x00\x00\x00\x00\x00\x00\x00\x00\x00\x00\x07\x01{\x14\xDB\xBE\xA0\xD6d \xF1\xC4\x00\x00\x00\x00\x00\x00\x00\x00\x00\x00\x00\x00\x00\x00\x00\x00\x00\x00\x00\x00\x00\x00\x00\x07\x0B{\x14\xDB\xBE\xA0\xD6d \xF1\xC4\x00\x00\x00\x00\x00\x00\x00\x00\x00\x00\x00\x00\x00\x00\x00\x00\x00\x00\x00\x00\x00\x00\x01\x02\x06<\x85\xB3\x0C\x02F\xFD\xBB\xE7\x8C\xF4\x00\x00\x00\x00\x00\x00\x00\x00\x00\x00\x00\x00\x00\x00\x00\x00\x00\x00\x00\x00\x00\x00\x07\x01{\x14\xDB\xBE\xA0\xD6d \xF1\xC4\x00\x00\x00\x00\x00\x00\x00\x00\x00\x00\x00\x00\x00\x00\x00\x00\x00\x00\x00\x00\x00\x00",
         b"\x00\x07\x00\x00\x00\x0BBar 7 hold.\x00\x09\x00\x00\x00\x01\xFF\x00\x07\x00\x00\x00\x00\x01\x02\x00\x00\x00\x0BBar 7 hold",
     );
 }

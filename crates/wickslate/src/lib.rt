@@ -177,7 +177,7 @@ pub extern "C" fn wickslate_digest_list(
     answers::answer_of(segments::digest_list(variant, list, buffer, wanted_of(wanted), out))
 }
 
-// Whether a report can be made of a manifest: refusals 12, 13.
+// Whether a report can be made of a manifest: refusals 12, 13, 14.
 #[no_mangle]
 pub extern "C" fn wickslate_check_manifest(list: &[u8]) -> u32
     ensures { λ r. ⌜ r ≡ answer (manifestStatus (now (list .entry))) ⌝ }

@@ -5,7 +5,7 @@ use std::fmt::Write;
 
 use super::hexadecimal;
 use crate::digest;
-use crate::manifest::{check, report, Counts};
+use crate::manifest::{check, report, Counts, RECORD_BYTES};
 
 const CONTENTS: &[u8] = b"Bar 7 hold.";
 
@@ -15,6 +15,13 @@ pub fn add(lines: &mut String) {
     let cut = &list[..69];
     for list in [&list, cut, &list[1..36]] {
         add_check(lines, list);
+    }
+    let row = row();
+    let part = |from: usize, to: usize| &row[RECORD_BYTES * from..RECORD_BYTES * to];
+    // Falling; an axis twice, and once more in a wrong record; a wrong record
+    // behind one that does not rise, and the other way round.
+    for (from, to) in [(1, 3), (2, 4), (3, 5), (1, 5), (4, 7)] {
+        add_check(lines, part(from, to));
     }
     // The right one; one of no axis; an empty one; one that lacks a byte.
     let mut stream = [
@@ -26,9 +33,22 @@ pub fn add(lines: &mut String) {
     .concat();
     stream.pop();
     // In a header, and within a table.
-    for (list, place) in [(&list[..], 3), (&list, 10), (cut, 10)] {
+    for (list, place) in [(&list[..], 3), (&list, 10), (cut, 10), (part(1, 3), 10)] {
         add_report(lines, list, stream.split_at(place));
     }
+    // Behind the first table a manifest that does not rise, and one cut short.
+    let (first, second) = stream.split_at(table(7, CONTENTS).len());
+    for other in [part(1, 3), cut] {
+        add_strayed(lines, [&list, other], [first, second]);
+    }
+}
+
+/// Records of which some rise and others do not; the fifth is of no variant.
+fn row() -> Vec<u8> {
+    let [low, high] = [record(7, 1), record(258, 6)];
+    let mut wrong = low.clone();
+    wrong[2] = 11;
+    [&low[..], &high, &low, &low, &wrong, &high, &low].concat()
 }
 
 /// A record for the axis's table.
@@ -58,6 +78,22 @@ fn add_check(lines: &mut String, list: &[u8]) {
 fn add_report(lines: &mut String, list: &[u8], (first, second): (&[u8], &[u8])) {
     let answer = report(list, [first, second].concat().as_slice()).expect("a slice");
     let status = status(&answer);
+    let counts = counted(answer.unwrap_or_default());
+    let input = [list, first, second].map(hexadecimal).join("+");
+    writeln!(lines, "report - {input} {status} {counts}").expect("memory");
+}
+
+/// The second piece comes with a manifest in which no axis can be looked up, and
+/// nothing of it counts.
+fn add_strayed(lines: &mut String, [list, other]: [&[u8]; 2], [first, second]: [&[u8]; 2]) {
+    let answer = report(list, first).expect("a slice");
+    let counts = counted(answer.expect("a sound manifest"));
+    let input = [list, other, first, second].map(hexadecimal).join("+");
+    writeln!(lines, "report-strayed - {input} 0 {counts}").expect("memory");
+}
+
+/// The counts in the order of the program's lines.
+fn counted(counts: Counts) -> String {
     let Counts {
         listed,
         tables,
@@ -65,11 +101,6 @@ fn add_report(lines: &mut String, list: &[u8], (first, second): (&[u8], &[u8])) 
         unequal,
         untold,
         unlisted,
-    } = answer.unwrap_or_default();
-    let input = [list, first, second].map(hexadecimal).join("+");
-    writeln!(
-        lines,
-        "report - {input} {status} {listed}:{tables}:{equal}:{unequal}:{untold}:{unlisted}"
-    )
-    .expect("memory");
+    } = counts;
+    format!("{listed}:{tables}:{equal}:{unequal}:{untold}:{unlisted}")
 }

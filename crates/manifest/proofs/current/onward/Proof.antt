@@ -12,12 +12,12 @@ use Rattle.manifest.proofs.current.onward.Tie as tie
 returns : tie.Need-returns
 returns c =
     let s = c .before .before .before .before .before .before in
-    c .headed .ensures ∙ sym (onward-header (s .args .list .now) (s .args .c) (s .args .part .now) (s .pre) (c .before .before .if1 .taken))
+    c .headed .ensures ∙ sym (onward-header (s .args .list .now) (s .args .c) (s .args .part .now) (s .pre .1) (c .before .before .if1 .taken))
 
 cast-minus : tie.Need-cast-minus
 cast-minus c =
     let s = c .before .before .before .before .before .before in
-    ⊎-elim (λ l. omega (arith, s .pre .inside l)) (λ l. omega arith) (lt-or-le 1 (length (s .args .part .now)))
+    ⊎-elim (λ l. omega (arith, s .pre .1 .inside l)) (λ l. omega arith) (lt-or-le 1 (length (s .args .part .now)))
 
 returns-2 : tie.Need-returns-2
 returns-2 c =

@@ -1,4 +1,4 @@
--- `manifest::records::check_record` meets its contract: the variant, then the filler. Assumes nothing.
+-- `manifest::records::check_record` meets its contract: the variant, then the filler, then the place. Assumes nothing.
 use mathlib.Core.Path.{_≡_, sym, ap, _∙_}
 use mathlib.Core.Bool.{true}
 use borrow.Author.Needs.{needs}
@@ -31,9 +31,17 @@ returns-2 c = rw (named (c .before .before .before .before), looked-at (c .befor
 
 returns-3 : tie.Need-returns-3
 unfolding recordChecks
-returns-3 c = rw (named (c .before .before .before .before), looked-at (c .before) ∙ not-false _ (c .if2 .left))
+returns-3 c =
+    let b = c .before .before in
+    rw (named (b .before .before .before .before), looked-at (b .before) ∙ not-false _ (b .if2 .left), sym (c .before .rises-at .ensures) ∙ not-true _ (c .if3 .taken))
+
+returns-4 : tie.Need-returns-4
+unfolding recordChecks
+returns-4 c =
+    let b = c .before .before in
+    rw (named (b .before .before .before .before), looked-at (b .before) ∙ not-false _ (b .if2 .left), sym (c .before .rises-at .ensures) ∙ not-false _ (c .if3 .left))
 
 pub check-record-spec : {M : Type 1} → statement M
 check-record-spec =
     tie.close (tie.spec (λ c κs. search needs) (λ c. search needs) (λ c κs. search needs) returns (λ c κs. search needs) (λ c κs. search needs) (λ c κs. search needs)
-    returns-2 returns-3)
+    returns-2 (λ c κs. search needs) returns-3 returns-4)

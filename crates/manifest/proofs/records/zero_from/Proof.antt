@@ -14,6 +14,9 @@ Inv-loop bytes from i₀ i = zeros (drop from bytes) ≡ zeros (drop i bytes)
 abbrev μ-loop : tie.MeasureT-loop
 μ-loop bytes from i₀ i = length bytes - i
 
+loop-holds : tie.Need-loop-holds Inv-loop μ-loop
+loop-holds c = refl
+
 returns : tie.Need-returns Inv-loop μ-loop
 returns c = sym (c .before .before .before .loop .inv ∙ zeros-stopped _ _ (c .before .before .loop-test .taken) (c .if1 .taken))
 
@@ -22,6 +25,6 @@ loop-again c = c .before .before .before .loop .inv ∙ zeros-passed _ _ (c .bef
 
 pub zero-from-spec : {M : Type 1} → statement M
 zero-from-spec =
-    tie.close (tie.spec Inv-loop μ-loop (λ c. refl) (λ c. omega arith) returns (λ c. omega arith)
+    tie.close (tie.spec Inv-loop μ-loop loop-holds (λ c. omega arith) returns (λ c. omega arith)
     (λ c. omega arith) loop-again
     (λ c. sym (c .before .loop .inv ∙ zeros-past _ _ (c .loop-test .left))))

@@ -1,12 +1,12 @@
 -- `manifest::report::taken` meets its contract: what is left of the piece leads from here to the same report. Assumes nothing.
-use mathlib.Core.Path.{_≡_, refl, sym, ap, subst, _∙_}
+use mathlib.Core.Path.{_≡_, refl, sym, ap, ap₂, subst, _∙_}
 use mathlib.Core.Bool.{true, _&&_}
 use mathlib.Core.List.{foldl}
 use Prim.Native.Nat.{_-_, _≤_, _<_}
 use native.Mathlib.Omega.{arith}
 use lib.ListN.{length, drop, drop-of-length-le}
 use borrow.Author.Tests.{ltb-true, ltb-false, not-true, not-false}
-use Rattle.manifest.specs.Records.{isManifest}
+use Rattle.manifest.specs.Places.{isOrdered}
 use Rattle.manifest.specs.Tables.{mostTables}
 use Rattle.manifest.specs.Progress.{tallied, byteTaken, taken}
 use Rattle.manifest.specs.Strides.{Stride}
@@ -20,25 +20,27 @@ Inv-loop list piece latest₀ i₀ latest i = (i ≤ length piece) × (foldl (by
 abbrev μ-loop : tie.MeasureT-loop
 μ-loop list piece latest₀ i₀ latest i = length piece - i
 
--- the list is a manifest
-whole : (c : tie.Else1 Inv-loop μ-loop) → isManifest (c .before .before .before .before .args .list .now) ≡ true
-whole c = sym (c .before .is-manifest .ensures) ∙ not-false _ (c .if1 .left)
-
 -- where the call began
 abbrev entry : tie.Else2 Inv-loop μ-loop → tie.Start Inv-loop μ-loop
 entry c = c .before .before .before .before .before .before
 
+-- the list is in order
+whole : (c : tie.Else2 Inv-loop μ-loop) → isOrdered (entry c .args .list .now) ≡ true
+whole c = sym (c .before .is-ordered .ensures) ∙ not-false _ (c .if2 .left)
+
 -- and the piece is read
-read : (c : tie.Else2 Inv-loop μ-loop) → (isManifest (entry c .args .list .now) && entry c .args .report .passed) ≡ true
-read c = rw (whole (c .before .before)) (not-false _ (c .if2 .left))
+read : (c : tie.Else2 Inv-loop μ-loop) → (entry c .args .report .passed && isOrdered (entry c .args .list .now)) ≡ true
+read c = ap₂ _&&_ (not-false (entry c .args .report .passed) (c .before .before .if1 .left)) (whole c)
 
 returns : tie.Need-returns Inv-loop μ-loop
 unfolding taken
-returns c = rw (sym (c .before .is-manifest .ensures) ∙ not-true _ (c .if1 .taken))
+returns c = rw (not-true (c .before .before .before .before .args .report .passed) (c .if1 .taken))
 
 returns-2 : tie.Need-returns-2 Inv-loop μ-loop
 unfolding taken
-returns-2 c = rw (whole (c .before .before), not-true (c .before .before .before .before .before .before .args .report .passed) (c .if2 .taken))
+returns-2 c =
+    let s = c .before .before .before .before .before .before in
+    rw (not-false (s .args .report .passed) (c .before .before .if1 .left), sym (c .before .is-ordered .ensures) ∙ not-true _ (c .if2 .taken))
 
 loop-holds : tie.Need-loop-holds Inv-loop μ-loop
 loop-holds c = (omega arith, refl)
@@ -51,7 +53,7 @@ stepped-requires c κs =
     let at = c .before .before .before .before .before in
     let test = c .before .before in
     let few : tallied (at .loop .latest .tally) < mostTables = omega (arith, test .before .tallied .ensures, ltb-true (test .before .tallied .result) mostTables (test .if3 .taken)) in (
-      whole (at .before .before .before),
+      whole (at .before),
       (
         few,
         subst (Stride (at .loop .latest .current)) (sym (part-length _ _ _ (omega (arith, c .before .stride .ensures .0)))) (c .before .stride .ensures .1),
@@ -87,5 +89,5 @@ returns-4 c =
 
 pub taken-spec : {M : Type 1} → statement M
 taken-spec =
-    tie.close (tie.spec Inv-loop μ-loop (λ c κs. tt) returns returns-2 loop-holds (λ c κs. tt) (λ c. omega arith) (λ c κs. omega arith) (λ c. omega arith)
+    tie.close (tie.spec Inv-loop μ-loop returns (λ c κs. tt) returns-2 loop-holds (λ c κs. tt) (λ c. omega arith) (λ c κs. omega arith) (λ c. omega arith)
     (λ c. omega arith) (λ c. omega arith) part-stepped-end stepped-requires add-i (λ c. omega arith) loop-again returns-3 returns-4)

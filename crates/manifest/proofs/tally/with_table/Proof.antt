@@ -1,13 +1,16 @@
--- `manifest::tally::with_table` meets its contract: the record that counts for the axis decides. Assumes nothing.
+-- `manifest::tally::with_table` meets its contract: the record of the axis decides. Assumes nothing.
 use native.Mathlib.Omega.{arith}
 use borrow.Author.Needs.{needs}
 use Rattle.manifest.specs.Progress.{withTable}
 use Rattle.manifest.proofs.RecordLaws.{manifest-few, found-listed, none-listed}
+use Rattle.manifest.proofs.OrderLaws.{ordered-parts}
 use Rattle.manifest.proofs.tally.with_table.Statement.{statement}
 use Rattle.manifest.proofs.tally.with_table.Tie as tie
 
 with-listed-requires : tie.Need-with-listed-requires
-with-listed-requires c κs = (omega (arith, manifest-few _ (c .before .before .before .before .before .before .pre .0)), c .before .before .before .before .before .before .pre .1)
+with-listed-requires c κs =
+    let s = c .before .before .before .before .before .before in
+    (omega (arith, manifest-few _ (ordered-parts _ (s .pre .0) .0)), s .pre .1)
 
 returns : tie.Need-returns
 unfolding withTable
