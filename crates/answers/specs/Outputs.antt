@@ -23,3 +23,7 @@ writtenAt at bytes out = take at out ++ bytes ++ drop (at + length bytes) out
 -- the most bytes that a message may have
 abbrev pub most : ℕ
 most = 16777215
+
+-- the most bits (document 02, Q-6): those of as many bytes
+abbrev pub mostBits : ℕ
+mostBits = 134217720

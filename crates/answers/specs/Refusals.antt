@@ -2,7 +2,7 @@
 -- Assumes nothing.
 use Prim.Native.Nat.{ℕ, _+_, _*_}
 use Rattle.answers.specs.declared.Refusal.{Refusal}
-use Rattle.answers.specs.declared.Refusal.the-variants.{UnknownVariant, Malformed, WrongStage, TooLong, OutputTooShort, BadImage, OutOfRange, NoBlock, BadList, Misordered, PastEnd, BadManifest, BadRecord, NotRising}
+use Rattle.answers.specs.declared.Refusal.the-variants.{UnknownVariant, Malformed, WrongStage, TooLong, OutputTooShort, BadImage, OutOfRange, NoBlock, BadList, Misordered, PastEnd, BadManifest, BadRecord, NotRising, BadBitNumber, InsideByte}
 use Rattle.answers.specs.declared.Status.{Status}
 use Rattle.answers.specs.declared.Status.the-variants.{Done, Refused}
 
@@ -22,6 +22,8 @@ number (PastEnd k) = 11
 number BadManifest = 12
 number BadRecord = 13
 number NotRising = 14
+number BadBitNumber = 15
+number InsideByte = 16
 
 -- the entry of a list that refusals 10 and 11 name, and 0 elsewhere
 abbrev pub entry : Refusal → ℕ
@@ -39,6 +41,8 @@ entry (PastEnd k) = k
 entry BadManifest = 0
 entry BadRecord = 0
 entry NotRising = 0
+entry BadBitNumber = 0
+entry InsideByte = 0
 
 -- an answer as one number: that of its refusal, 0 for none, in the low byte, and the entry above it
 abbrev pub answer : Status → ℕ

@@ -7,8 +7,10 @@ ghost use lib.ListN.{length, take, drop};
 ghost use Rattle.answers.specs.Refusals.{number, entry, answer};
 ghost use Rattle.answers.specs.Numbers.{bigEndian, inBytes};
 
-// The most bytes that a message may have.
+// The most bytes that a message may have, and the most bits.
 pub const MOST: usize = 16777215;
+
+pub const MOST_BITS: u32 = 134217720;
 
 // Why a call was refused. The two of an entry name it.
 pub enum Refusal {
@@ -26,6 +28,8 @@ pub enum Refusal {
     BadManifest,
     BadRecord,
     NotRising,
+    BadBitNumber,
+    InsideByte,
 }
 
 pub enum Status {
@@ -52,6 +56,8 @@ pub fn number_of(r: Refusal) -> u8
         Refusal::BadManifest => 12,
         Refusal::BadRecord => 13,
         Refusal::NotRising => 14,
+        Refusal::BadBitNumber => 15,
+        Refusal::InsideByte => 16,
     }
 }
 
@@ -74,6 +80,8 @@ pub fn entry_of(r: Refusal) -> u16
         Refusal::BadManifest => 0,
         Refusal::BadRecord => 0,
         Refusal::NotRising => 0,
+        Refusal::BadBitNumber => 0,
+        Refusal::InsideByte => 0,
     }
 }
 

@@ -9,7 +9,7 @@ use lib.ListN.{length, take, drop, getD}
 use lib.Seq.{take-at}
 use Rattle.standard.specs.Bits.{high-first}
 use Rattle.standard.specs.Sponge.{Variant, imageSize, imageOf}
-use Rattle.standard.specs.Chain.{messageBits, blocksOf, DifferAt, endState}
+use Rattle.standard.specs.Chain.{byteBits, messageBits, blocksOf, DifferAt, endState}
 use Rattle.standard.specs.Variants.{variant, known}
 use Rattle.standard.specs.Values.{DifferWithin, inOneBlock}
 use Rattle.standard.proofs.BitLaws.{length-bitsIn}
@@ -19,18 +19,19 @@ use Rattle.standard.proofs.OneValue.{value-block, one-changed-row, one-changed-
 use Rattle.standard.proofs.ImageStates.{imageOf-length, imageOf-injective}
 use Rattle.answers.specs.declared.Status.{Status}
 use Rattle.answers.specs.declared.Status.the-variants.{Done}
-use Rattle.answers.specs.Outputs.{written, most}
+use Rattle.answers.specs.Outputs.{written, most, mostBits}
+use Rattle.sponge.specs.Parts.{isBitNumber}
 use Rattle.hasher.specs.declared.Hasher.{Hasher}
 use Rattle.hasher.specs.declared.Wanted.the-variants.{EndState}
 use Rattle.hasher.specs.Running.{variantOf, stateOf}
-use Rattle.hasher.specs.Reading.{readStatus, readInto, wholeInto}
-use Rattle.hasher.specs.Pieces.{joined, hashedInto}
+use Rattle.hasher.specs.Reading.{readStatus, readInto, wholeInto, wholeBitsInto}
+use Rattle.hasher.specs.Pieces.{joined, hashedInto, hashedBitsInto}
 use Rattle.hasher.specs.Sized.{Sized}
-use Rattle.hasher.specs.Apart.{Differ, ToldApart}
+use Rattle.hasher.specs.Apart.{Differ, ToldApart, ToldApartBits}
 use Rattle.hasher.proofs.WellFormed.{facts, state-long}
-use Rattle.hasher.proofs.Calls.{read-says}
-use Rattle.hasher.proofs.Message.{whole-done}
-use Rattle.hasher.proofs.Demand2.{whole-is-pieces}
+use Rattle.hasher.proofs.Calls.{read-says, numbered-too}
+use Rattle.hasher.proofs.Message.{whole-done, whole-bits-done}
+use Rattle.hasher.proofs.Demand2.{whole-is-pieces, whole-bits-is-pieces}
 
 -- ---- images at the front of two outputs
 
@@ -68,14 +69,14 @@ module _ (v : ℕ) (k : known v ≡ true) (x y : List ℕ) where
   H = variant v
 
   -- different end states are told apart
-  pub ends-tell : length x ≤ most → length y ≤ most → (endState (variant v) (messageBits x) ≡ endState (variant v) (messageBits y) → ⊥) → ToldApart v x y
+  pub ends-tell : length x ≤ most → length y ≤ most → (endState (variant v) (byteBits x) ≡ endState (variant v) (byteBits y) → ⊥) → ToldApart v x y
   ends-tell fx fy n = record { whole = whole; pieces = pieces }
     where
       whole : (out out′ : List ℕ) → imageSize H ≤ length out → imageSize H ≤ length out′
           → Differ (imageSize H) (wholeInto v x EndState out) (wholeInto v y EndState out′)
       whole out out′ l l′ =
-          fronts-differ H (endState H (messageBits x)) (endState H (messageBits y))
-          (end-length H (streams v k) (messageBits x)) (end-length H (streams v k) (messageBits y)) n
+          fronts-differ H (endState H (byteBits x)) (endState H (byteBits y))
+          (end-length H (streams v k) (byteBits x)) (end-length H (streams v k) (byteBits y)) n
           _ _ _ _ (whole-done v k x fx EndState out l .1) (whole-done v k y fy EndState out′ l′ .1)
 
       -- the pieces of a message
@@ -88,17 +89,60 @@ module _ (v : ℕ) (k : known v ≡ true) (x y : List ℕ) where
           whole out out′ l l′ (ap (take (imageSize H)) (cut xs x ex out) ∙ e ∙ sym (ap (take (imageSize H)) (cut ys y ey out′)))
 
   -- Two messages of bytes within the limit, of one length or not, whose padded rows have equal count and differ at exactly one block, are told apart.
-  pub row-told : length x ≤ most → length y ≤ most → (i : ℕ) → DifferAt i (blocksOf (variant v) (messageBits x)) (blocksOf (variant v) (messageBits y)) → ToldApart v x y
-  row-told fx fy i d = ends-tell fx fy (one-changed-row v k i (messageBits x) (messageBits y) d)
+  pub row-told : length x ≤ most → length y ≤ most → (i : ℕ) → DifferAt i (blocksOf (variant v) (byteBits x)) (blocksOf (variant v) (byteBits y)) → ToldApart v x y
+  row-told fx fy i d = ends-tell fx fy (one-changed-row v k i (byteBits x) (byteBits y) d)
 
   module _ (few : length x ≤ most) where
     -- Two messages of bytes of equal length within the limit whose bits differ, and only within the block j, are told apart.
-    pub block-told : (j : ℕ) → DifferWithin (j * variant v .r) (variant v .r) (messageBits x) (messageBits y) → ToldApart v x y
+    pub block-told : (j : ℕ) → DifferWithin (j * variant v .r) (variant v .r) (byteBits x) (byteBits y) → ToldApart v x y
     block-told j d =
         ends-tell few (omega (arith, d .size, length-bitsIn high-first x, length-bitsIn high-first y))
-        (one-changed-part v k j (messageBits x) (messageBits y) d)
+        (one-changed-part v k j (byteBits x) (byteBits y) d)
 
     -- Two messages of bytes within the limit that differ only in the n bytes from p on, which lie in one block, are told apart.
     pub value-told : ((i : ℕ) → getD x i 0 < 256) → ((i : ℕ) → getD y i 0 < 256) → (p n : ℕ) → DifferWithin p n x y → inOneBlock (variant v) p n ≡ true
         → ToldApart v x y
     value-told hx hy p n d o = block-told (8 * p / variant v .r) (value-block x y hx hy (variant v) p n d o)
+
+-- ---- two messages of whose last bytes k and l bits count
+
+module _ (v : ℕ) (named : known v ≡ true) (x y : List ℕ) (k l : ℕ) (nx : isBitNumber k (length x) ≡ true) (ny : isBitNumber l (length y) ≡ true) where
+  abbrev X : List Bool
+  X = messageBits (variant v) x k
+
+  abbrev Y : List Bool
+  Y = messageBits (variant v) y l
+
+  module _ (fx : length (messageBits (variant v) x k) ≤ mostBits) (fy : length (messageBits (variant v) y l) ≤ mostBits) where
+    -- different end states are told apart
+    pub bits-ends-tell : (endState (variant v) (messageBits (variant v) x k) ≡ endState (variant v) (messageBits (variant v) y l) → ⊥) → ToldApartBits v x k y l
+    bits-ends-tell n = record { whole = whole; pieces = pieces }
+      where
+        whole : (out out′ : List ℕ) → imageSize (variant v) ≤ length out → imageSize (variant v) ≤ length out′
+            → Differ (imageSize (variant v)) (wholeBitsInto v x k EndState out) (wholeBitsInto v y l EndState out′)
+        whole out out′ o o′ =
+            fronts-differ (variant v) (endState (variant v) X) (endState (variant v) Y)
+            (end-length (variant v) (streams v named) X) (end-length (variant v) (streams v named) Y) n
+            _ _ _ _ (whole-bits-done v named x k nx fx EndState out o .1) (whole-bits-done v named y l ny fy EndState out′ o′ .1)
+
+        -- the pieces of a message, the last of which has a byte
+        cut : (ps : List (List ℕ)) (last m : List ℕ) (j : ℕ) → isBitNumber j (length m) ≡ true → joined ps ++ last ≡ m → 0 < length last → (out : List ℕ)
+            → wholeBitsInto v m j EndState out ≡ hashedBitsInto v ps last j EndState out
+        cut ps last m j nm e some out =
+            ap (λ (z : List ℕ). wholeBitsInto v z j EndState out) (sym e) ∙ whole-bits-is-pieces v ps EndState out last j (numbered-too m last j nm some) .1
+
+        pieces : (xs ys : List (List ℕ)) (x-last y-last : List ℕ) → joined xs ++ x-last ≡ x → joined ys ++ y-last ≡ y → 0 < length x-last → 0 < length y-last
+            → (out out′ : List ℕ) → imageSize (variant v) ≤ length out → imageSize (variant v) ≤ length out′
+            → Differ (imageSize (variant v)) (hashedBitsInto v xs x-last k EndState out) (hashedBitsInto v ys y-last l EndState out′)
+        pieces xs ys x-last y-last ex ey sx sy out out′ o o′ e =
+            whole out out′ o o′
+            (ap (take (imageSize (variant v))) (cut xs x-last x k nx ex sx out) ∙ e ∙ sym (ap (take (imageSize (variant v))) (cut ys y-last y l ny ey sy out′)))
+
+    -- Two messages that may end inside a byte, whose padded rows have equal count and differ at exactly one block, are told apart.
+    pub bits-row-told : (i : ℕ) → DifferAt i (blocksOf (variant v) (messageBits (variant v) x k)) (blocksOf (variant v) (messageBits (variant v) y l)) → ToldApartBits v x k y l
+    bits-row-told i d = bits-ends-tell (one-changed-row v named i X Y d)
+
+  -- Two of one bit length within the limit whose bits differ, and only within the block j, are told apart.
+  pub bits-block-told : length (messageBits (variant v) x k) ≤ mostBits → (j : ℕ)
+      → DifferWithin (j * variant v .r) (variant v .r) (messageBits (variant v) x k) (messageBits (variant v) y l) → ToldApartBits v x k y l
+  bits-block-told fx j d = bits-ends-tell fx (omega (arith, d .size)) (one-changed-part v named j X Y d)

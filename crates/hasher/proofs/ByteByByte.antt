@@ -1,53 +1,56 @@
 -- A piece taken at once is the piece taken a byte at a time, where the running hash takes all of it or nothing.
 -- Assumes nothing.
 use mathlib.Core.Path.{_≡_, refl, sym, ap, _∙_}
+use mathlib.Core.Bool.{true}
 use mathlib.Core.List.{List, [], _∷_, foldl}
 use mathlib.Core.Logic.{⊎-elim}
-use Prim.Native.Nat.{ℕ, suc, _+_, _≤_, _<_}
+use Prim.Native.Nat.{ℕ, suc, _+_, _*_, _≤_}
 use native.Mathlib.Omega.{arith}
 use lib.ListN.{length}
 use Rattle.answers.specs.declared.Status.the-variants.{Done}
 use Rattle.answers.specs.Checks.{firstRefusal}
-use Rattle.answers.specs.Outputs.{most}
+use Rattle.answers.specs.Outputs.{mostBits}
 use Rattle.answers.proofs.Statuses.{done-or}
 use Rattle.hasher.specs.declared.Hasher.{Hasher}
 use Rattle.hasher.specs.declared.Advanced.{Advanced}
-use Rattle.hasher.specs.Running.{Open, updateChecks, updated}
+use Rattle.hasher.specs.Running.{wholeSoFar, Open, updateChecks, updated}
 use Rattle.hasher.specs.Sized.{Sized}
 use Rattle.hasher.specs.Pieces.{withByte}
-use Rattle.hasher.proofs.Calls.{update-says, update-done, not-long}
+use Rattle.hasher.proofs.Calls.{update-says, update-done, update-answer, follows}
 use Rattle.hasher.proofs.Keeps.{update-unchanged}
-use Rattle.hasher.proofs.Next.{onward, onward-total, onward-open, onward-sized, onward-append}
+use Rattle.hasher.proofs.Next.{onward, onward-total, onward-whole, onward-open, onward-sized, onward-append}
 
 -- every byte fits
-fitting : (part : List ℕ) (h : Hasher) → Sized h → Open h → (b : ℕ) → h .total + suc (length part) ≤ most
+fitting : (part : List ℕ) (h : Hasher) → Sized h → Open h → wholeSoFar h ≡ true → (b : ℕ) → h .total + 8 * suc (length part) ≤ mostBits
     → foldl withByte h (b ∷ part) ≡ onward h (b ∷ part)
-fitting [] h z o b few = ap (λ (a : Advanced). a .hasher) (update-done h (b ∷ []) o few)
-fitting (d ∷ part) h z o b few =
+fitting [] h z o w b few = ap (λ (a : Advanced). a .hasher) (update-done h o (b ∷ []) w few)
+fitting (d ∷ part) h z o w b few =
     let one = b ∷ [] in
-    ap (λ (a : Advanced). foldl withByte (a .hasher) (d ∷ part)) (update-done h one o (omega arith))
-    ∙ fitting part (onward h one) (onward-sized h z o one) (onward-open h z o one (omega arith)) d (omega (arith, onward-total h one))
+    ap (λ (a : Advanced). foldl withByte (a .hasher) (d ∷ part)) (update-done h o one w (omega arith))
+    ∙ fitting part (onward h one) (onward-sized h z o one) (onward-open h z o one (omega arith)) (onward-whole h w one) d (omega (arith, onward-total h one))
     ∙ onward-append h z o one (d ∷ part)
 
 -- a running hash that does not take one byte takes none
-module _ (h : Hasher) (no-byte : firstRefusal (updateChecks h 1) ≡ Done → ⊥) where
+module _ (h : Hasher) (no-byte : firstRefusal (updateChecks h 8) ≡ Done → ⊥) where
   takes-none : (b : ℕ) (part : List ℕ) → updated h (b ∷ part) .hasher ≡ h
   unfolding updated
   takes-none b part =
       update-unchanged h (b ∷ part)
-      (λ e. let says = update-says h (suc (length part)) e in no-byte (not-long h 1 (says .0) (omega (arith, says .1))))
+      (λ e.
+      let says = update-says h (8 * suc (length part)) e in
+      no-byte (update-answer h (says .opened) 8 ∙ follows h 8 (says .whole) (omega (arith, says .few))))
 
   stays : (part : List ℕ) → foldl withByte h part ≡ h
   stays [] = refl
   stays (b ∷ part) = ap (λ (g : Hasher). foldl withByte g part) (takes-none b []) ∙ stays part
 
-pub byte-by-byte : (h : Hasher) → Sized h → (b : ℕ) (part : List ℕ) → (h .total < most → h .total + suc (length part) ≤ most)
+pub byte-by-byte : (h : Hasher) → Sized h → (b : ℕ) (part : List ℕ) → (h .total + 8 ≤ mostBits → h .total + 8 * suc (length part) ≤ mostBits)
     → foldl withByte h (b ∷ part) ≡ updated h (b ∷ part) .hasher
 byte-by-byte h z b part room =
     ⊎-elim
     (λ e.
-    let says = update-says h 1 e in
-    let few : h .total + suc (length part) ≤ most = room (omega (arith, says .1)) in
-    fitting part h z (says .0) b few ∙ sym (ap (λ (a : Advanced). a .hasher) (update-done h (b ∷ part) (says .0) few)))
+    let says = update-says h 8 e in
+    let few : h .total + 8 * suc (length part) ≤ mostBits = room (says .few) in
+    fitting part h z (says .opened) (says .whole) b few ∙ sym (ap (λ (a : Advanced). a .hasher) (update-done h (says .opened) (b ∷ part) (says .whole) few)))
     (λ n. stays h n (b ∷ part) ∙ sym (takes-none h n b part))
-    (done-or (firstRefusal (updateChecks h 1)))
+    (done-or (firstRefusal (updateChecks h 8)))

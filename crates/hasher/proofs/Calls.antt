@@ -2,36 +2,41 @@
 -- Assumes nothing.
 use mathlib.Core.Path.{_≡_, sym, ap, _∙_, ap₂}
 use mathlib.Core.Bool.{true, false, Bool}
-use mathlib.Core.List.{List, [], _∷_, _++_}
-use Prim.Native.Nat.{ℕ, _+_, _≤_, _<_, _/_}
+use mathlib.Core.List.{List, _++_}
+use mathlib.Core.Logic.{⊎-elim}
+use Prim.Native.Nat.{ℕ, _+_, _-_, _*_, _≤_, _<_, _/_, _%_}
 use lib.Dec.{ltb}
-use lib.ListN.{length, take, drop}
-use borrow.Author.Tests.{ltb-false, not-true, lt-ltb, le-ltb}
+use lib.ListN.{length, take, drop, length-append}
+use borrow.Author.Tests.{ltb-false, not-true, lt-ltb, le-ltb, le-leb, eqb-true}
 use native.Mathlib.Omega.{arith}
-use Rattle.standard.specs.Chain.{messageBits, run, endState}
+use Rattle.standard.specs.Chain.{byteBits, messageBits, run, endState}
 use Rattle.standard.specs.Variants.{known, variant}
 use Rattle.answers.specs.declared.Refusal.{Refusal}
-use Rattle.answers.specs.declared.Refusal.the-variants.{UnknownVariant, TooLong}
+use Rattle.answers.specs.declared.Refusal.the-variants.{UnknownVariant, TooLong, BadBitNumber, InsideByte}
 use Rattle.answers.specs.declared.Status.{Status}
 use Rattle.answers.specs.declared.Status.the-variants.{Done, Refused}
-use Rattle.answers.specs.Checks.{when, firstRefusal}
-use Rattle.answers.specs.Outputs.{most, written}
+use Rattle.answers.specs.Checks.{Check, firstRefusal, Pass}
+use Rattle.answers.specs.Outputs.{most, mostBits, whenDone, written}
 use Rattle.answers.proofs.Statuses.{not-done}
-use Rattle.answers.proofs.Rows.{passing-says, row-first}
+use Rattle.answers.proofs.Rows.{passing-says, row-first, row-second}
 use Rattle.standard.specs.Bits.{high-first, pack}
 use Rattle.standard.specs.Sponge.{Variant, order, squeezed, imageSize, imageOf}
 use Rattle.standard.proofs.BitLaws.{length-pack, take-pack}
+use Rattle.standard.proofs.PartBytes.{bits-length}
+use Rattle.standard.proofs.Tests.{lt-or-le, either}
 use Rattle.standard.proofs.Variants.{Bounds, bounds}
 use Rattle.sponge.specs.Layout.{stateRoom, packedState}
 use Rattle.sponge.specs.Words.{outcome}
 use Rattle.sponge.specs.Blocks.{firstBlocks}
+use Rattle.sponge.specs.Parts.{isBitNumber}
 use Rattle.sponge.proofs.BlockRuns.{run-start}
+use Rattle.sponge.proofs.PartBytes.{BitNumber, bit-number, number-fits, limit-same}
 use Rattle.hasher.specs.declared.Hasher.{Hasher}
 use Rattle.hasher.specs.declared.Advanced.{Advanced}
-use Rattle.hasher.specs.Running.{closed, Open, blank, fresh, grown, ended, updateChecks, finishChecks, startedOver, started, updated, finished, variantOf, wellFormed}
+use Rattle.hasher.specs.Running.{closed, Open, blank, fresh, grown, ended, wholeSoFar, finishChecks, followChecks, updateChecks, updateBitsChecks, startedOver, started, updated, updatedBits, finished, variantOf, wellFormed}
 use Rattle.hasher.specs.declared.Wanted.{Wanted}
 use Rattle.hasher.specs.declared.Wanted.the-variants.{Digest, EndState}
-use Rattle.hasher.specs.Reading.{resultOf, resultSize, isDigest, readChecks, readStatus, wholeChecks, wholeStatus, wholeInto}
+use Rattle.hasher.specs.Reading.{resultOf, resultSize, isDigest, readChecks, readStatus, wholeChecks, wholeBitsChecks}
 
 abbrev pub done : Hasher → Advanced
 done h = record { status = Done; hasher = h }
@@ -61,31 +66,103 @@ module _ (h : Hasher) where
   unfolding finished
   finish-done o = rw (o .0, o .1)
 
+  -- a piece of n bits may come
+  pub record Followed (n : ℕ) : Type 0 where
+    pub opened : Open h
+    pub whole : wholeSoFar h ≡ true
+    pub few : h .total + n ≤ mostBits
+
+  follow-says : (n : ℕ) → Open h → Pass (followChecks h n) → Followed n
+  follow-says n o p =
+      record { opened = o; whole = p .0; few = ltb-false mostBits (h .total + n) (not-true (ltb mostBits (h .total + n)) (p .1 .0)) }
+
+  -- the checks of a piece are those of the end, and others behind them
+  pub not-open : (rest : List Check) (s : Status) (r : Refusal) → s ≡ firstRefusal (finishChecks h) → s ≡ Refused r → s ≡ firstRefusal (finishChecks h ++ rest)
+  not-open rest s r e d = e ∙ sym (row-first (finishChecks h) rest (λ f. not-done r (sym d ∙ e ∙ f)))
+
   module _ (n : ℕ) where
-    pub update-says : firstRefusal (updateChecks h n) ≡ Done → Open h × (h .total + n ≤ most)
+    pub update-says : firstRefusal (updateChecks h n) ≡ Done → Followed n
     update-says e =
         let p = passing-says (updateChecks h n) e in
-        ((p .0, not-true (closed h) (p .1 .0)), ltb-false most (h .total + n) (not-true (ltb most (h .total + n)) (p .1 .1 .0)))
+        follow-says n (p .0, not-true (closed h) (p .1 .0)) (p .1 .1)
 
-    -- the checks of a piece behind those of the end
-    pub not-open : (s : Status) (r : Refusal) → s ≡ firstRefusal (finishChecks h) → s ≡ Refused r → s ≡ firstRefusal (updateChecks h n)
-    not-open s r e d = e ∙ sym (row-first (finishChecks h) (when (ltb most (h .total + n)) TooLong ∷ []) (λ f. not-done r (sym d ∙ e ∙ f)))
+    pub follows : wholeSoFar h ≡ true → h .total + n ≤ mostBits → firstRefusal (followChecks h n) ≡ Done
+    follows w l = rw (w, le-ltb mostBits (h .total + n) l)
+
+    pub inside : wholeSoFar h ≡ false → firstRefusal (followChecks h n) ≡ Refused InsideByte
+    inside w = rw w
+
+    pub too-long : wholeSoFar h ≡ true → mostBits < h .total + n → firstRefusal (followChecks h n) ≡ Refused TooLong
+    too-long w l = rw (w, lt-ltb mostBits (h .total + n) l)
+
+  module _ (o : Open h) where
+    open-passes : firstRefusal (finishChecks h) ≡ Done
+    open-passes = rw (o .0, o .1)
+
+    -- what follows decides
+    pub update-answer : (n : ℕ) → firstRefusal (updateChecks h n) ≡ firstRefusal (followChecks h n)
+    update-answer n = row-second (finishChecks h) (followChecks h n) open-passes
+
+    module _ (piece : List ℕ) where
+      update-status : {s : Status} → firstRefusal (followChecks h (8 * length piece)) ≡ s
+          → updated h piece ≡ record { status = s; hasher = whenDone s (grown h (byteBits piece)) h }
+      unfolding updated
+      update-status e = ap (λ (s : Status). record { status = s; hasher = whenDone s (grown h (byteBits piece)) h }) (update-answer (8 * length piece) ∙ e)
+
+      pub update-long : wholeSoFar h ≡ true → mostBits < h .total + 8 * length piece → updated h piece ≡ refused TooLong h
+      update-long w l = update-status (too-long (8 * length piece) w l)
+
+      pub update-done : wholeSoFar h ≡ true → h .total + 8 * length piece ≤ mostBits → updated h piece ≡ done (grown h (byteBits piece))
+      update-done w l = update-status (follows (8 * length piece) w l)
+
+  -- ---- a piece with a bit number
+
+  module _ (piece : List ℕ) (k : ℕ) where
+    abbrev bits : ℕ
+    bits = length (messageBits (variantOf h) piece k)
+
+    -- it may come
+    pub record BitsFollowed : Type 0 where
+      pub numbered : isBitNumber k (length piece) ≡ true
+      pub follow : Followed bits
+
+    pub bits-say : firstRefusal (updateBitsChecks h piece k) ≡ Done → BitsFollowed
+    bits-say e =
+        let p = passing-says (updateBitsChecks h piece k) e in
+        record { numbered = p .1 .1 .0; follow = follow-says bits (p .0, not-true (closed h) (p .1 .0)) (p .1 .1 .1) }
+
+    -- a byte of which some bits count takes as much of what is left as a whole one
+    pub same-room : isBitNumber k (length piece) ≡ true → h .total ≤ mostBits
+        → firstRefusal (followChecks h (8 * length piece)) ≡ firstRefusal (followChecks h (length (messageBits (variantOf h) piece k)))
+    same-room e few =
+        let b : BitNumber k (length piece) = bit-number k (length piece) e in
+        let size : bits ≡ 8 * (length piece - 1) + k = bits-length piece (b .some) (variantOf h) k in
+        ⊎-elim
+        (λ w. ⊎-elim
+        (λ l. too-long (8 * length piece) w l ∙ sym (too-long bits w (omega (arith, size, b .least, b .some, eqb-true (h .total % 8) 0 w))))
+        (λ l. follows (8 * length piece) w l ∙ sym (follows bits w (omega (arith, size, b .most, b .some))))
+        (lt-or-le mostBits (h .total + 8 * length piece)))
+        (λ w. inside (8 * length piece) w ∙ sym (inside bits w))
+        (either (wholeSoFar h))
 
     module _ (o : Open h) where
-      pub too-long : most < h .total + n → firstRefusal (updateChecks h n) ≡ Refused TooLong
-      too-long l = rw (o .0, o .1, lt-ltb most (h .total + n) l)
+      pub bad-number : isBitNumber k (length piece) ≡ false → firstRefusal (updateBitsChecks h piece k) ≡ Refused BadBitNumber
+      bad-number e = rw (o .0, o .1, e)
 
-      pub not-long : h .total + n ≤ most → firstRefusal (updateChecks h n) ≡ Done
-      not-long l = rw (o .0, o .1, le-ltb most (h .total + n) l)
+      pub bits-answer : isBitNumber k (length piece) ≡ true → firstRefusal (updateBitsChecks h piece k) ≡ firstRefusal (followChecks h (length (messageBits (variantOf h) piece k)))
+      bits-answer e = rw (o .0, o .1, e)
 
-  module _ (piece : List ℕ) (o : Open h) where
-    pub update-long : most < h .total + length piece → updated h piece ≡ refused TooLong h
-    unfolding updated
-    update-long l = rw (too-long (length piece) o l)
+      pub bits-done : isBitNumber k (length piece) ≡ true → wholeSoFar h ≡ true → h .total + length (messageBits (variantOf h) piece k) ≤ mostBits
+          → updatedBits h piece k ≡ done (grown h (messageBits (variantOf h) piece k))
+      unfolding updatedBits
+      bits-done e w l =
+          ap (λ (s : Status). record { status = s; hasher = whenDone s (grown h (messageBits (variantOf h) piece k)) h }) (bits-answer e ∙ follows bits w l)
 
-    pub update-done : h .total + length piece ≤ most → updated h piece ≡ done (grown h (length piece) (messageBits piece))
-    unfolding updated
-    update-done l = rw (not-long (length piece) o l)
+      pub bits-long : isBitNumber k (length piece) ≡ true → wholeSoFar h ≡ true → mostBits < h .total + length (messageBits (variantOf h) piece k)
+          → updatedBits h piece k ≡ refused TooLong h
+      unfolding updatedBits
+      bits-long e w l =
+          ap (λ (s : Status). record { status = s; hasher = whenDone s (grown h (messageBits (variantOf h) piece k)) h }) (bits-answer e ∙ too-long bits w l)
 
 pub result-length : (H : Variant) (wanted : Wanted) (s : List Bool) → length (resultOf H wanted s) ≡ resultSize H wanted
 unfolding imageOf
@@ -142,11 +219,11 @@ module _ (v : ℕ) (k : known v ≡ true) (wanted : Wanted) (n : ℕ) (en : n �
         ∙ take-pack (order H) (imageSize H) stateRoom s (b .image-most)
         ∙ ap (λ (w : Wanted). resultOf H w s) (sym e))
 
-    -- all of a message, read of what is at the front of its outcome
-    pub whole-read : (m : List ℕ) → s ≡ endState (variant v) (messageBits m) → wholeStatus v m wanted (length out) ≡ Done
-        → take (resultSize (variant v) wanted) bytes ≡ resultOf (variant v) wanted s → (Done ≡ wholeStatus v m wanted (length out)) × (after ≡ wholeInto v m wanted out)
-    unfolding wholeInto
-    whole-read m es done er = (
+    -- all of a message, read of what is at the front of its outcome, where a call's answer is Done
+    pub whole-read : (m : List Bool) (t : Status) → s ≡ endState (variant v) m → t ≡ Done
+        → take (resultSize (variant v) wanted) bytes ≡ resultOf (variant v) wanted s
+        → (Done ≡ t) × (after ≡ written t (resultOf (variant v) wanted (endState (variant v) m)) out)
+    whole-read m t es done er = (
       sym done,
       fronted (ap (λ (i : ℕ). take i bytes) en ∙ er) ∙ ap₂ (λ (t : Status) (x : List Bool). written t (resultOf H wanted x) out) (sym done) es,
     )
@@ -179,3 +256,35 @@ module _ (v n : ℕ) (wanted : Wanted) (size : ℕ) where
   whole-says e =
       let p = passing-says (wholeChecks v n wanted size) e in
       record { named = p .0; few = ltb-false most n (not-true (ltb most n) (p .1 .0)); room = ltb-false size _ (not-true _ (p .1 .1 .0)) }
+
+-- a bit number that fits some bytes fits any that are not none
+pub numbered-too : (m last : List ℕ) (k : ℕ) → isBitNumber k (length m) ≡ true → 0 < length last → isBitNumber k (length last) ≡ true
+numbered-too m last k e some =
+    let b : BitNumber k (length m) = bit-number k (length m) e in
+    number-fits k (length last) (b .least) (b .most) some
+
+module _ (v : ℕ) (m : List ℕ) (k : ℕ) (wanted : Wanted) (size : ℕ) where
+  -- a message with a bit number passes as one of whole bytes does
+  pub same-whole : known v ≡ true → isBitNumber k (length m) ≡ true
+      → firstRefusal (wholeChecks v (length m) wanted size) ≡ firstRefusal (wholeBitsChecks v m k wanted size)
+  same-whole n e = rw (n, e, limit-same (variant v) m k e)
+
+  -- it may be hashed
+  pub record HashableBits : Type 0 where
+    pub named : known v ≡ true
+    pub numbered : isBitNumber k (length m) ≡ true
+    pub few : length (messageBits (variant v) m k) ≤ mostBits
+    pub few-bytes : length m ≤ most
+    pub room : resultSize (variant v) wanted ≤ size
+
+  pub whole-bits-say : firstRefusal (wholeBitsChecks v m k wanted size) ≡ Done → HashableBits
+  whole-bits-say e =
+      let p = passing-says (wholeBitsChecks v m k wanted size) e in
+      let limit : ltb mostBits (length (messageBits (variant v) m k)) ≡ false = not-true _ (p .1 .1 .0) in
+      record {
+        named = p .0;
+        numbered = p .1 .0;
+        few = ltb-false mostBits _ limit;
+        few-bytes = ltb-false most (length m) (sym (limit-same (variant v) m k (p .1 .0)) ∙ limit);
+        room = ltb-false size _ (not-true _ (p .1 .1 .1 .0));
+      }

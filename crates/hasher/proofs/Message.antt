@@ -2,36 +2,48 @@
 -- Assumes nothing.
 use mathlib.Core.Path.{_≡_, refl, sym, ap, ap₂, _∙_}
 use mathlib.Core.Bool.{Bool, true}
-use mathlib.Core.List.{List, [], _++_}
+use mathlib.Core.List.{List, [], _∷_, _++_}
 use Prim.Native.Nat.{ℕ, _+_, _≤_}
 use native.Mathlib.Nat.{mod-eq-of-lt}
 use native.Mathlib.Omega.{arith}
+use lib.Dec.{ltb}
 use lib.ListN.{length, drop}
 use borrow.Author.Tests.{le-ltb}
 use Rattle.standard.specs.Bits.{high-first}
 use Rattle.standard.specs.Sponge.{Variant, startState}
-use Rattle.standard.specs.Chain.{messageBits, padding, wholeBlocks, restOf, run, endState}
+use Rattle.standard.specs.Chain.{byteBits, messageBits, padding, wholeBlocks, restOf, run, endState}
 use Rattle.standard.specs.Variants.{variant, known}
 use Rattle.standard.proofs.BitLaws.{length-bitsIn}
 use Rattle.standard.proofs.Streaming.{Streams, end-parts}
 use Rattle.standard.proofs.Variants.{streams}
+use Rattle.answers.specs.declared.Refusal.the-variants.{OutputTooShort}
 use Rattle.answers.specs.declared.Status.{Status}
 use Rattle.answers.specs.declared.Status.the-variants.{Done}
-use Rattle.answers.specs.Outputs.{written, most}
+use Rattle.answers.specs.Checks.{when, firstRefusal}
+use Rattle.answers.specs.Outputs.{written, most, mostBits}
 use Rattle.sponge.specs.Layout.{packedState, packedBlock}
+use Rattle.sponge.specs.Parts.{isBitNumber}
 use Rattle.hasher.specs.declared.Hasher.{Hasher}
 use Rattle.hasher.specs.declared.Advanced.{Advanced}
-use Rattle.hasher.specs.Running.{bitCount, heldCount, heldIn, stateOf, Open, blank, fresh, grown, ended, started, updated, finished}
+use Rattle.hasher.specs.Running.{heldCount, wholeSoFar, heldIn, stateOf, Open, blank, fresh, grown, ended, started, updated, finished}
 use Rattle.hasher.specs.declared.Wanted.{Wanted}
-use Rattle.hasher.specs.Reading.{resultOf, resultSize, readStatus, readInto, wholeStatus, wholeInto}
+use Rattle.hasher.specs.Reading.{resultOf, resultSize, readStatus, readInto, wholeStatus, wholeInto, wholeBitsStatus, wholeBitsInto}
+use Rattle.hasher.specs.Pieces.{Reads}
 use Rattle.hasher.specs.Sized.{Sized}
 use Rattle.hasher.proofs.WellFormed.{Facts, facts, well-formed, open-count}
-use Rattle.hasher.proofs.Next.{going-sized, state-going, held-going, going-facts, ended-facts, ended-state, onward, onward-open, onward-sized, onward-state, onward-held}
+use Rattle.hasher.proofs.Next.{going-sized, state-going, held-going, going-facts, ended-facts, ended-state, grown-open, grown-sized, grown-state, grown-held, onward-whole}
 use Rattle.hasher.proofs.Calls.{start-done, update-done, finish-done, result-length}
 
--- the running hash of a message of bytes, so far
+-- the running hash of a message so far, of bits and of whole bytes
+abbrev pub reached : ℕ → List Bool → Hasher
+reached v m = grown (fresh v) m
+
 abbrev pub taken : ℕ → List ℕ → Hasher
-taken v m = onward (fresh v) m
+taken v m = reached v (byteBits m)
+
+-- whole bytes within the limit are bits within it
+pub few-bits : (m : List ℕ) → length m ≤ most → length (byteBits m) ≤ mostBits
+few-bits m few = omega (arith, length-bitsIn high-first m)
 
 module _ (v : ℕ) (k : known v ≡ true) where
   abbrev H : Variant
@@ -54,6 +66,9 @@ module _ (v : ℕ) (k : known v ≡ true) where
   pub fresh-open : Open (fresh v)
   fresh-open = (well-formed (fresh v) fresh-facts, refl)
 
+  pub fresh-whole : wholeSoFar (fresh v) ≡ true
+  fresh-whole = refl
+
   fresh-state : stateOf (fresh v) ≡ startState H
   fresh-state = state-going (blank v) 0 0 (startState H) [] k (S .start-length) none-held
 
@@ -69,70 +84,115 @@ module _ (v : ℕ) (k : known v ≡ true) where
 
   -- ---- a message
 
-  module _ (m : List ℕ) where
-    abbrev bits : List Bool
-    bits = messageBits m
+  module _ (m : List Bool) where
+    pub reached-open : length m ≤ mostBits → Open (reached v m)
+    reached-open few = grown-open (fresh v) fresh-sized fresh-open m (omega arith)
 
-    pub taken-open : length m ≤ most → Open (taken v m)
-    taken-open few = onward-open (fresh v) fresh-sized fresh-open m (omega arith)
+    reached-sized : Sized (reached v m)
+    reached-sized = grown-sized (fresh v) fresh-sized fresh-open m
 
-    taken-sized : Sized (taken v m)
-    taken-sized = onward-sized (fresh v) fresh-sized fresh-open m
+    reached-state : stateOf (reached v m) ≡ run H (startState H) (wholeBlocks (H .r) m)
+    reached-state =
+        grown-state (fresh v) fresh-sized fresh-open m
+        ∙ ap₂ (λ (s c : List Bool). run H s (wholeBlocks (H .r) (c ++ m))) fresh-state fresh-held
 
-    taken-state : stateOf (taken v m) ≡ run H (startState H) (wholeBlocks (H .r) bits)
-    taken-state =
-        onward-state (fresh v) fresh-sized fresh-open m
-        ∙ ap₂ (λ (s c : List Bool). run H s (wholeBlocks (H .r) (c ++ bits))) fresh-state fresh-held
+    reached-held : heldIn (reached v m) ≡ restOf (H .r) m
+    reached-held = grown-held (fresh v) fresh-sized fresh-open m ∙ ap (λ (c : List Bool). restOf (H .r) (c ++ m)) fresh-held
 
-    taken-held : heldIn (taken v m) ≡ restOf (H .r) bits
-    taken-held = onward-held (fresh v) fresh-sized fresh-open m ∙ ap (λ (c : List Bool). restOf (H .r) (c ++ bits)) fresh-held
-
-    module _ (few : length m ≤ most) where
-      pub end-facts : Facts (ended (taken v m))
-      end-facts = ended-facts (taken v m) (facts (taken v m) (taken-open few .0)) taken-sized
+    module _ (few : length m ≤ mostBits) where
+      end-facts : Facts (ended (reached v m))
+      end-facts = ended-facts (reached v m) (facts (reached v m) (reached-open few .0)) reached-sized
 
       -- the end state is the standard's
-      pub end-reached : stateOf (ended (taken v m)) ≡ endState (variant v) (messageBits m)
+      pub end-reached : stateOf (ended (reached v m)) ≡ endState (variant v) m
       unfolding grown
       end-reached =
-          let total : bitCount (taken v m) ≡ length bits = omega (arith, length-bitsIn high-first m) in
-          ended-state (taken v m) (facts (taken v m) (taken-open few .0)) taken-sized
-          ∙ ap₂ (λ (s c : List Bool). run H s (wholeBlocks (H .r) (c ++ padding H (bitCount (taken v m))))) taken-state taken-held
-          ∙ ap (λ (n : ℕ). run H (run H (startState H) (wholeBlocks (H .r) bits)) (wholeBlocks (H .r) (restOf (H .r) bits ++ padding H n))) total
-          ∙ sym (end-parts H S bits)
+          let total : reached v m .total ≡ length m = omega arith in
+          ended-state (reached v m) (facts (reached v m) (reached-open few .0)) reached-sized
+          ∙ ap₂ (λ (s c : List Bool). run H s (wholeBlocks (H .r) (c ++ padding H (reached v m .total)))) reached-state reached-held
+          ∙ ap (λ (n : ℕ). run H (run H (startState H) (wholeBlocks (H .r) m)) (wholeBlocks (H .r) (restOf (H .r) m ++ padding H n))) total
+          ∙ sym (end-parts H S m)
 
-      -- ---- what is read at the end
+      -- what is read at the end: only the output's length is left to check
+      pub end-answer : (wanted : Wanted) (n : ℕ) → readStatus (ended (reached v m)) wanted n ≡ firstRefusal (when (ltb n (resultSize (variant v) wanted)) OutputTooShort ∷ [])
+      unfolding readStatus ended grown
+      end-answer wanted n = rw (well-formed (ended (reached v m)) end-facts)
 
-      pub end-status : (wanted : Wanted) (n : ℕ) → readStatus (ended (taken v m)) wanted n ≡ wholeStatus v m wanted n
-      unfolding readStatus wholeStatus ended grown
-      end-status wanted n = rw (well-formed (ended (taken v m)) end-facts, k, le-ltb most (length m) few)
+      pub end-output : (wanted : Wanted) (out : List ℕ) (t : Status) → firstRefusal (when (ltb (length out) (resultSize (variant v) wanted)) OutputTooShort ∷ []) ≡ t
+          → readInto (ended (reached v m)) wanted out ≡ written t (resultOf (variant v) wanted (endState (variant v) m)) out
+      unfolding readInto ended grown
+      end-output wanted out t e =
+          ap₂ (λ (s : Status) (x : List Bool). written s (resultOf H wanted x) out) (end-answer wanted (length out) ∙ e) end-reached
 
-      pub end-into : (wanted : Wanted) (out : List ℕ) → readInto (ended (taken v m)) wanted out ≡ wholeInto v m wanted out
-      unfolding readInto wholeInto ended grown
-      end-into wanted out =
-          ap₂ (λ (s : Status) (x : List Bool). written s (resultOf H wanted x) out) (end-status wanted (length out)) end-reached
-
-      -- a whole message into an output that is long enough
-      pub whole-done : (wanted : Wanted) (out : List ℕ) → resultSize (variant v) wanted ≤ length out
-          → (wholeStatus v m wanted (length out) ≡ Done)
-          × (wholeInto v m wanted out ≡ resultOf (variant v) wanted (endState (variant v) (messageBits m)) ++ drop (resultSize (variant v) wanted) out)
-      unfolding wholeStatus wholeInto
-      whole-done wanted out l =
-          let result : List ℕ = resultOf H wanted (endState H bits) in
-          let e : wholeStatus v m wanted (length out) ≡ Done = rw (k, le-ltb _ _ few, le-ltb _ _ l) in (
-            e,
-            ap (λ (s : Status). written s result out) e ∙ ap (λ (n : ℕ). result ++ drop n out) (result-length H wanted (endState H bits)),
+      -- an output that is long enough
+      pub end-reads : Reads v (ended (reached v m)) m
+      end-reads wanted out l =
+          let e : firstRefusal (when (ltb (length out) (resultSize H wanted)) OutputTooShort ∷ []) ≡ Done = rw (le-ltb _ _ l) in (
+            end-answer wanted (length out) ∙ e,
+            end-output wanted out Done e ∙ ap (λ (n : ℕ). resultOf H wanted (endState H m) ++ drop n out) (result-length H wanted (endState H m)),
           )
 
-      -- the calls one after another
-      pub calls-read : (wanted : Wanted) (out : List ℕ) (s u f : Advanced) (r : Status) (after : List ℕ)
-          → s ≡ started v → u ≡ updated (s .hasher) m → f ≡ finished (u .hasher)
-          → (r ≡ readStatus (f .hasher) wanted (length out)) × (after ≡ readInto (f .hasher) wanted out)
-          → (r ≡ wholeStatus v m wanted (length out)) × (after ≡ wholeInto v m wanted out)
-      calls-read wanted out s u f r after es eu ef er =
-          let is : s .hasher ≡ fresh v = ap (λ (a : Advanced). a .hasher) (es ∙ start-done v k) in
-          let iu : u .hasher ≡ taken v m = ap (λ (a : Advanced). a .hasher) (eu ∙ ap (λ (g : Hasher). updated g m) is ∙ update-done (fresh v) m fresh-open (omega arith)) in
-          let end : f .hasher ≡ ended (taken v m) = ap (λ (a : Advanced). a .hasher) (ef ∙ ap finished iu ∙ finish-done (taken v m) (taken-open few)) in (
-            er .0 ∙ ap (λ (g : Hasher). readStatus g wanted (length out)) end ∙ end-status wanted (length out),
-            er .1 ∙ ap (λ (g : Hasher). readInto g wanted out) end ∙ end-into wanted out,
-          )
+  -- ---- whole bytes
+
+  module _ (m : List ℕ) (few : length m ≤ most) where
+    pub taken-open : Open (taken v m)
+    taken-open = reached-open (byteBits m) (few-bits m few)
+
+    pub taken-whole : wholeSoFar (taken v m) ≡ true
+    taken-whole = onward-whole (fresh v) fresh-whole m
+
+    whole-answer : (wanted : Wanted) (n : ℕ) → firstRefusal (when (ltb n (resultSize H wanted)) OutputTooShort ∷ []) ≡ wholeStatus v m wanted n
+    unfolding wholeStatus
+    whole-answer wanted n = rw (k, le-ltb most (length m) few)
+
+    pub end-status : (wanted : Wanted) (n : ℕ) → readStatus (ended (taken v m)) wanted n ≡ wholeStatus v m wanted n
+    end-status wanted n = end-answer (byteBits m) (few-bits m few) wanted n ∙ whole-answer wanted n
+
+    pub end-into : (wanted : Wanted) (out : List ℕ) → readInto (ended (taken v m)) wanted out ≡ wholeInto v m wanted out
+    unfolding wholeInto
+    end-into wanted out = end-output (byteBits m) (few-bits m few) wanted out (wholeStatus v m wanted (length out)) (whole-answer wanted (length out))
+
+    -- a whole message into an output that is long enough
+    pub whole-done : (wanted : Wanted) (out : List ℕ) → resultSize (variant v) wanted ≤ length out
+        → (wholeStatus v m wanted (length out) ≡ Done)
+        × (wholeInto v m wanted out ≡ resultOf (variant v) wanted (endState (variant v) (byteBits m)) ++ drop (resultSize (variant v) wanted) out)
+    whole-done wanted out l =
+        let r = end-reads (byteBits m) (few-bits m few) wanted out l in
+        (sym (end-status wanted (length out)) ∙ r .0, sym (end-into wanted out) ∙ r .1)
+
+    -- the calls one after another
+    pub calls-read : (wanted : Wanted) (out : List ℕ) (s u f : Advanced) (r : Status) (after : List ℕ)
+        → s ≡ started v → u ≡ updated (s .hasher) m → f ≡ finished (u .hasher)
+        → (r ≡ readStatus (f .hasher) wanted (length out)) × (after ≡ readInto (f .hasher) wanted out)
+        → (r ≡ wholeStatus v m wanted (length out)) × (after ≡ wholeInto v m wanted out)
+    calls-read wanted out s u f r after es eu ef er =
+        let is : s .hasher ≡ fresh v = ap (λ (a : Advanced). a .hasher) (es ∙ start-done v k) in
+        let iu : u .hasher ≡ taken v m =
+        ap (λ (a : Advanced). a .hasher) (eu ∙ ap (λ (g : Hasher). updated g m) is ∙ update-done (fresh v) fresh-open m fresh-whole (omega arith)) in
+        let end : f .hasher ≡ ended (taken v m) = ap (λ (a : Advanced). a .hasher) (ef ∙ ap finished iu ∙ finish-done (taken v m) taken-open) in (
+          er .0 ∙ ap (λ (g : Hasher). readStatus g wanted (length out)) end ∙ end-status wanted (length out),
+          er .1 ∙ ap (λ (g : Hasher). readInto g wanted out) end ∙ end-into wanted out,
+        )
+
+  -- ---- bytes of whose last one j bits count
+
+  module _ (m : List ℕ) (j : ℕ) (numbered : isBitNumber j (length m) ≡ true) (few : length (messageBits (variant v) m j) ≤ mostBits) where
+    bits-answer : (wanted : Wanted) (n : ℕ) → firstRefusal (when (ltb n (resultSize H wanted)) OutputTooShort ∷ []) ≡ wholeBitsStatus v m j wanted n
+    unfolding wholeBitsStatus
+    bits-answer wanted n = rw (k, numbered, le-ltb mostBits (length (messageBits H m j)) few)
+
+    pub bits-status : (wanted : Wanted) (n : ℕ) → readStatus (ended (reached v (messageBits (variant v) m j))) wanted n ≡ wholeBitsStatus v m j wanted n
+    bits-status wanted n = end-answer (messageBits H m j) few wanted n ∙ bits-answer wanted n
+
+    pub bits-into : (wanted : Wanted) (out : List ℕ) → readInto (ended (reached v (messageBits (variant v) m j))) wanted out ≡ wholeBitsInto v m j wanted out
+    unfolding wholeBitsInto
+    bits-into wanted out = end-output (messageBits H m j) few wanted out (wholeBitsStatus v m j wanted (length out)) (bits-answer wanted (length out))
+
+    -- a whole message into an output that is long enough
+    pub whole-bits-done : (wanted : Wanted) (out : List ℕ) → resultSize (variant v) wanted ≤ length out
+        → (wholeBitsStatus v m j wanted (length out) ≡ Done)
+        × (wholeBitsInto v m j wanted out
+        ≡ resultOf (variant v) wanted (endState (variant v) (messageBits (variant v) m j)) ++ drop (resultSize (variant v) wanted) out)
+    whole-bits-done wanted out l =
+        let r = end-reads (messageBits H m j) few wanted out l in
+        (sym (bits-status wanted (length out)) ∙ r .0, sym (bits-into wanted out) ∙ r .1)

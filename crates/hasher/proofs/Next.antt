@@ -1,4 +1,4 @@
--- A running hash made of its parts; one that goes on stays well formed, and going on with x and then y is going on with x ++ y; one that ends.
+-- A running hash made of its parts; one that goes on stays well formed, and going on with x and then y is going on with x ++ y, for bits and for whole bytes; one that ends.
 -- Assumes nothing.
 use mathlib.Core.Path.{_≡_, refl, sym, ap, ap₂, _∙_}
 use mathlib.Core.Bool.{Bool, true}
@@ -7,18 +7,19 @@ use Prim.Native.Nat.{ℕ, _+_, _*_, _%_, _≤_, _<_}
 use native.Mathlib.Nat.{mod-add-mod}
 use native.Mathlib.Omega.{arith}
 use lib.ListN.{length, length-append}
+use borrow.Author.Tests.{eqb-true, eq-eqb}
 use Rattle.standard.specs.Bits.{high-first, bitsIn, unpack}
 use Rattle.standard.specs.Sponge.{Variant, order}
-use Rattle.standard.specs.Chain.{messageBits, padding, wholeBlocks, restOf, run}
+use Rattle.standard.specs.Chain.{byteBits, padding, wholeBlocks, restOf, run}
 use Rattle.standard.specs.Variants.{known}
 use Rattle.standard.proofs.BitLaws.{length-pack, unpack-pack, length-bitsIn, bitsIn-append}
 use Rattle.standard.proofs.Streaming.{Streams, run-append, run-none, run-length, length-rest, whole-append, rest-append, whole-short, rest-short}
 use Rattle.standard.proofs.Variants.{Bounds, bounds, streams}
-use Rattle.answers.specs.Outputs.{most}
+use Rattle.answers.specs.Outputs.{mostBits}
 use Rattle.sponge.specs.Layout.{stateRoom, blockRoom, packedState, packedBlock}
 use Rattle.sponge.proofs.States.{stored}
 use Rattle.hasher.specs.declared.Hasher.{Hasher}
-use Rattle.hasher.specs.Running.{variantOf, bitCount, heldCount, heldIn, stateOf, Open, going, grown, ended}
+use Rattle.hasher.specs.Running.{variantOf, heldCount, wholeSoFar, heldIn, stateOf, Open, going, grown, ended}
 use Rattle.hasher.specs.Sized.{Sized}
 use Rattle.hasher.proofs.WellFormed.{Facts, facts, well-formed, open-count, count-lt, state-long, held-long, packed-clear}
 
@@ -46,7 +47,7 @@ module _ (h : Hasher) (stage total : ℕ) (s b : List Bool) where
     unfolding heldIn
     held-going = ap (λ (n : ℕ). unpack high-first n (packedBlock b)) (sym lb) ∙ unpack-pack high-first blockRoom b short
 
-    pub going-facts : stage ≤ 1 → total ≤ most → Facts next
+    pub going-facts : stage ≤ 1 → total ≤ mostBits → Facts next
     going-facts hs ht =
         record {
           named = k;
@@ -59,14 +60,11 @@ module _ (h : Hasher) (stage total : ℕ) (s b : List Bool) where
 pub going-same : (h : Hasher) (stage : ℕ) {t u : ℕ} {s x b y : List Bool} → t ≡ u → s ≡ x → b ≡ y → going h stage t s b ≡ going h stage u x y
 going-same h stage {t} {u} {s} {x} {b} {y} et es eb = ap (λ (n : ℕ). going h stage n s b) et ∙ ap₂ (λ (k l : List Bool). going h stage u k l) es eb
 
--- ---- going on with a message of bytes
+-- ---- going on with bits
 
-abbrev pub onward : Hasher → List ℕ → Hasher
-onward h m = grown h (length m) (messageBits m)
-
-pub onward-total : (h : Hasher) (m : List ℕ) → onward h m .total ≡ h .total + length m
+pub grown-total : (h : Hasher) (m : List Bool) → grown h m .total ≡ h .total + length m
 unfolding grown
-onward-total h m = refl
+grown-total h m = refl
 
 module _ (h : Hasher) (z : Sized h) (o : Open h) where
   abbrev H : Variant
@@ -78,9 +76,9 @@ module _ (h : Hasher) (z : Sized h) (o : Open h) where
   S : Streams H
   S = streams (h .variant) (f .named)
 
-  module _ (m : List ℕ) where
+  module _ (m : List Bool) where
     abbrev seen : List Bool
-    seen = heldIn h ++ messageBits m
+    seen = heldIn h ++ m
 
     abbrev after : List Bool
     after = run H (stateOf h) (wholeBlocks (H .r) seen)
@@ -91,51 +89,48 @@ module _ (h : Hasher) (z : Sized h) (o : Open h) where
     after-long : length after ≡ H .t
     after-long = run-length H S (wholeBlocks (H .r) seen) (stateOf h) (state-long h f z)
 
-    rest-long : length rest ≡ heldCount (onward h m)
+    rest-long : length rest ≡ heldCount (grown h m)
     unfolding grown
     rest-long =
-        let e : bitCount h + 8 * length m ≡ 8 * (h .total + length m) = omega arith in
         length-rest (H .r) seen
         ∙ ap (λ (n : ℕ). n % H .r)
-        (length-append (heldIn h) (messageBits m) ∙ ap₂ (λ (i n : ℕ). i + n) (held-long h f z ∙ open-count h (o .1)) (length-bitsIn high-first m))
-        ∙ mod-add-mod (bitCount h) (H .r) (8 * length m)
-        ∙ ap (λ (n : ℕ). n % H .r) e
-        ∙ sym (open-count (onward h m) (o .1))
+        (length-append (heldIn h) m ∙ ap (λ (i : ℕ). i + length m) (held-long h f z ∙ open-count h (o .1)))
+        ∙ mod-add-mod (h .total) (H .r) (length m)
+        ∙ sym (open-count (grown h m) (o .1))
 
-    pub onward-sized : Sized (onward h m)
+    pub grown-sized : Sized (grown h m)
     unfolding grown
-    onward-sized = going-sized h (h .stage) (h .total + length m) after rest
+    grown-sized = going-sized h (h .stage) (h .total + length m) after rest
 
-    pub onward-state : stateOf (onward h m) ≡ run (variantOf h) (stateOf h) (wholeBlocks (variantOf h .r) (heldIn h ++ messageBits m))
+    pub grown-state : stateOf (grown h m) ≡ run (variantOf h) (stateOf h) (wholeBlocks (variantOf h .r) (heldIn h ++ m))
     unfolding grown
-    onward-state = state-going h (h .stage) (h .total + length m) after rest (f .named) after-long rest-long
+    grown-state = state-going h (h .stage) (h .total + length m) after rest (f .named) after-long rest-long
 
-    pub onward-held : heldIn (onward h m) ≡ restOf (variantOf h .r) (heldIn h ++ messageBits m)
+    pub grown-held : heldIn (grown h m) ≡ restOf (variantOf h .r) (heldIn h ++ m)
     unfolding grown
-    onward-held = held-going h (h .stage) (h .total + length m) after rest (f .named) after-long rest-long
+    grown-held = held-going h (h .stage) (h .total + length m) after rest (f .named) after-long rest-long
 
-    pub onward-open : h .total + length m ≤ most → Open (onward h m)
+    pub grown-open : h .total + length m ≤ mostBits → Open (grown h m)
     unfolding grown
-    onward-open few =
-        (well-formed (onward h m) (going-facts h (h .stage) (h .total + length m) after rest (f .named) after-long rest-long (f .stages) few), o .1)
+    grown-open few =
+        (well-formed (grown h m) (going-facts h (h .stage) (h .total + length m) after rest (f .named) after-long rest-long (f .stages) few), o .1)
 
     -- with m and then with p
-    pub onward-append : (p : List ℕ) → onward (onward h m) p ≡ onward h (m ++ p)
+    pub grown-append : (p : List Bool) → grown (grown h m) p ≡ grown h (m ++ p)
     unfolding grown
-    onward-append p =
-        let y : List Bool = messageBits p in
-        let all : seen ++ y ≡ heldIn h ++ messageBits (m ++ p) = rw (append-assoc, bitsIn-append) in
+    grown-append p =
+        let all : seen ++ p ≡ heldIn h ++ (m ++ p) = append-assoc (heldIn h) m p in
         going-same h (h .stage)
         (omega (arith, length-append m p))
-        (ap₂ (λ (s c : List Bool). run H s (wholeBlocks (H .r) (c ++ y))) onward-state onward-held
-        ∙ sym (run-append H (stateOf h) (wholeBlocks (H .r) seen) (wholeBlocks (H .r) (rest ++ y)))
-        ∙ ap (run H (stateOf h)) (sym (whole-append (H .r) (S .rate-pos) seen y) ∙ ap (wholeBlocks (H .r)) all))
-        (ap (λ (c : List Bool). restOf (H .r) (c ++ y)) onward-held ∙ sym (rest-append (H .r) (S .rate-pos) seen y) ∙ ap (restOf (H .r)) all)
+        (ap₂ (λ (s c : List Bool). run H s (wholeBlocks (H .r) (c ++ p))) grown-state grown-held
+        ∙ sym (run-append H (stateOf h) (wholeBlocks (H .r) seen) (wholeBlocks (H .r) (rest ++ p)))
+        ∙ ap (run H (stateOf h)) (sym (whole-append (H .r) (S .rate-pos) seen p) ∙ ap (wholeBlocks (H .r)) all))
+        (ap (λ (c : List Bool). restOf (H .r) (c ++ p)) grown-held ∙ sym (rest-append (H .r) (S .rate-pos) seen p) ∙ ap (restOf (H .r)) all)
 
   -- with nothing: no change, where the bytes are those of the state and of the held bits
-  pub onward-none : h .state ≡ packedState (variantOf h) (stateOf h) → h .held ≡ packedBlock (heldIn h) → onward h [] ≡ h
-  unfolding grown bitsIn
-  onward-none es eh =
+  pub grown-none : h .state ≡ packedState (variantOf h) (stateOf h) → h .held ≡ packedBlock (heldIn h) → grown h [] ≡ h
+  unfolding grown
+  grown-none es eh =
       let t : h .total + 0 ≡ h .total = omega arith in
       let none : heldIn h ++ [] ≡ heldIn h = append-nil (heldIn h) in
       let held-short : length (heldIn h) < H .r = omega (arith, held-long h f z, count-lt h (f .named)) in
@@ -143,6 +138,32 @@ module _ (h : Hasher) (z : Sized h) (o : Open h) where
       (ap (run H (stateOf h)) (ap (wholeBlocks (H .r)) none ∙ whole-short (H .r) (S .rate-pos) (heldIn h) held-short) ∙ run-none H (stateOf h))
       (ap (restOf (H .r)) none ∙ rest-short (H .r) (S .rate-pos) (heldIn h) held-short)
       ∙ ap₂ (λ (x y : List ℕ). record { total = h .total; variant = h .variant; stage = h .stage; state = x; held = y }) (sym es) (sym eh)
+
+-- ---- going on with whole bytes
+
+abbrev pub onward : Hasher → List ℕ → Hasher
+onward h m = grown h (byteBits m)
+
+pub onward-total : (h : Hasher) (m : List ℕ) → onward h m .total ≡ h .total + 8 * length m
+onward-total h m = grown-total h (byteBits m) ∙ ap (λ (n : ℕ). h .total + n) (length-bitsIn high-first m)
+
+-- whole bytes behind whole bytes
+pub onward-whole : (h : Hasher) → wholeSoFar h ≡ true → (m : List ℕ) → wholeSoFar (onward h m) ≡ true
+onward-whole h w m = eq-eqb (onward h m .total % 8) 0 (omega (arith, onward-total h m, eqb-true (h .total % 8) 0 w))
+
+module _ (h : Hasher) (z : Sized h) (o : Open h) where
+  pub onward-open : (m : List ℕ) → h .total + 8 * length m ≤ mostBits → Open (onward h m)
+  onward-open m few = grown-open h z o (byteBits m) (omega (arith, length-bitsIn high-first m))
+
+  pub onward-sized : (m : List ℕ) → Sized (onward h m)
+  onward-sized m = grown-sized h z o (byteBits m)
+
+  pub onward-append : (m p : List ℕ) → onward (onward h m) p ≡ onward h (m ++ p)
+  onward-append m p = grown-append h z o (byteBits m) (byteBits p) ∙ ap (grown h) (sym (bitsIn-append high-first m p))
+
+  pub onward-none : h .state ≡ packedState (variantOf h) (stateOf h) → h .held ≡ packedBlock (heldIn h) → onward h [] ≡ h
+  unfolding bitsIn
+  onward-none es eh = grown-none h z o es eh
 
 -- ---- ending
 
@@ -152,7 +173,7 @@ ended-sized h = going-sized h 1 (h .total) _ []
 
 module _ (h : Hasher) (f : Facts h) (z : Sized h) where
   abbrev last : List Bool
-  last = run (variantOf h) (stateOf h) (wholeBlocks (variantOf h .r) (heldIn h ++ padding (variantOf h) (bitCount h)))
+  last = run (variantOf h) (stateOf h) (wholeBlocks (variantOf h .r) (heldIn h ++ padding (variantOf h) (h .total)))
 
   last-long : length last ≡ variantOf h .t
   last-long = run-length (variantOf h) (streams (h .variant) (f .named)) _ (stateOf h) (state-long h f z)
@@ -165,6 +186,6 @@ module _ (h : Hasher) (f : Facts h) (z : Sized h) where
   unfolding ended
   ended-facts = going-facts h 1 (h .total) last [] (f .named) last-long none-held (omega arith) (f .few)
 
-  pub ended-state : stateOf (ended h) ≡ run (variantOf h) (stateOf h) (wholeBlocks (variantOf h .r) (heldIn h ++ padding (variantOf h) (bitCount h)))
+  pub ended-state : stateOf (ended h) ≡ run (variantOf h) (stateOf h) (wholeBlocks (variantOf h .r) (heldIn h ++ padding (variantOf h) (h .total)))
   unfolding ended
   ended-state = state-going h 1 (h .total) last [] (f .named) last-long none-held

@@ -10,20 +10,20 @@ use native.Mathlib.Omega.{arith}
 use lib.Dec.{leb}
 use lib.ListN.{length, take, drop, getD, replicate, length-drop, take-append-drop}
 use lib.Seq.{drop-at}
-use borrow.Author.Tests.{leb-true, le-leb}
+use borrow.Author.Tests.{leb-true, le-leb, eqb-true}
 use Rattle.standard.specs.Bits.{Order, high-first, bitsIn, pack, unpack}
 use Rattle.standard.specs.Sponge.{order, stateIn}
 use Rattle.standard.specs.Variants.{known}
 use Rattle.standard.proofs.Tests.{and-true, either}
 use Rattle.standard.proofs.BitLaws.{length-bitsIn, length-unpack, image-eq}
 use Rattle.standard.proofs.Variants.{Bounds, bounds, WholeBytes, layouts}
-use Rattle.answers.specs.Outputs.{most}
+use Rattle.answers.specs.Outputs.{mostBits}
 use Rattle.sponge.specs.Layout.{stateRoom, blockRoom, packedState, packedBlock, clear}
 use Rattle.sponge.proofs.Clear.{clear-zeros, zeros-clear, clear-order}
 use Rattle.sponge.proofs.LayoutLaws.{packed-bits}
 use Rattle.sponge.proofs.States.{state-length}
 use Rattle.hasher.specs.declared.Hasher.{Hasher}
-use Rattle.hasher.specs.Running.{variantOf, closed, bitCount, heldCount, heldIn, stateOf, wellFormed}
+use Rattle.hasher.specs.Running.{variantOf, closed, heldCount, wholeSoFar, heldIn, stateOf, wellFormed}
 use Rattle.hasher.specs.Sized.{Sized}
 use Rattle.hasher.proofs.Owned.{Owned}
 
@@ -32,7 +32,7 @@ use Rattle.hasher.proofs.Owned.{Owned}
 pub record Facts (h : Hasher) : Type 0 where
   pub named : known (h .variant) ≡ true
   pub stages : h .stage ≤ 1
-  pub few : h .total ≤ most
+  pub few : h .total ≤ mostBits
   pub state-clear : clear (drop (variantOf h .t) (bitsIn (order (variantOf h)) (h .state))) ≡ true
   pub held-clear : clear (drop (heldCount h) (bitsIn high-first (h .held))) ≡ true
 
@@ -41,7 +41,7 @@ unfolding wellFormed
 facts h e =
     let a = known (h .variant) in
     let b = leb (h .stage) 1 in
-    let c = leb (h .total) most in
+    let c = leb (h .total) mostBits in
     let d = clear (drop (variantOf h .t) (bitsIn (order (variantOf h)) (h .state))) in
     let all = and-true (a && b && c && d) (clear (drop (heldCount h) (bitsIn high-first (h .held)))) e in
     let four = and-true (a && b && c) d (all .0) in
@@ -50,24 +50,24 @@ facts h e =
     record {
       named = two .0;
       stages = leb-true (h .stage) 1 (two .1);
-      few = leb-true (h .total) most (three .1);
+      few = leb-true (h .total) mostBits (three .1);
       state-clear = four .1;
       held-clear = all .1;
     }
 
 pub well-formed : (h : Hasher) → Facts h → wellFormed h ≡ true
 unfolding wellFormed
-well-formed h f = simp (f .named, le-leb (h .stage) 1 (f .stages), le-leb (h .total) most (f .few), f .state-clear, f .held-clear)
+well-formed h f = simp (f .named, le-leb (h .stage) 1 (f .stages), le-leb (h .total) mostBits (f .few), f .state-clear, f .held-clear)
 
 -- ---- how many bits are held
 
-pub open-count : (h : Hasher) → closed h ≡ false → heldCount h ≡ bitCount h % variantOf h .r
+pub open-count : (h : Hasher) → closed h ≡ false → heldCount h ≡ h .total % variantOf h .r
 unfolding heldCount
-open-count h e = ap (λ (b : Bool). cond b 0 (bitCount h % variantOf h .r)) e
+open-count h e = ap (λ (b : Bool). cond b 0 (h .total % variantOf h .r)) e
 
 pub closed-count : (h : Hasher) → closed h ≡ true → heldCount h ≡ 0
 unfolding heldCount
-closed-count h e = ap (λ (b : Bool). cond b 0 (bitCount h % variantOf h .r)) e
+closed-count h e = ap (λ (b : Bool). cond b 0 (h .total % variantOf h .r)) e
 
 module _ (h : Hasher) (k : known (h .variant) ≡ true) where
   b : Bounds (variantOf h)
@@ -77,16 +77,17 @@ module _ (h : Hasher) (k : known (h .variant) ≡ true) where
   count-lt =
       ⊎-elim
       (λ e. omega (arith, closed-count h e, b .rate-least))
-      (λ e. subst (λ (n : ℕ). n < variantOf h .r) (sym (open-count h e)) (mod-lt (bitCount h) {m = variantOf h .r} (omega (arith, b .rate-least))))
+      (λ e. subst (λ (n : ℕ). n < variantOf h .r) (sym (open-count h e)) (mod-lt (h .total) {m = variantOf h .r} (omega (arith, b .rate-least))))
       (either (closed h))
 
-  pub count-quarters : heldCount h % 4 ≡ 0
-  count-quarters =
+  -- whole bytes so far leave whole half bytes
+  pub count-quarters : wholeSoFar h ≡ true → heldCount h % 4 ≡ 0
+  count-quarters w =
       ⊎-elim
       (λ e. ap (λ (n : ℕ). n % 4) (closed-count h e))
       (λ e. ap (λ (n : ℕ). n % 4) (open-count h e)
       ∙ mod-eq-zero-of-dvd 4
-      (dvd-mod-iff 4 {m = bitCount h} {n = variantOf h .r} (dvd-of-mod-eq-zero 4 (b .rate-quarters)) .1 (dvd-of-mod-eq-zero 4 {n = bitCount h} (omega arith))))
+      (dvd-mod-iff 4 {m = h .total} {n = variantOf h .r} (dvd-of-mod-eq-zero 4 (b .rate-quarters)) .1 (dvd-of-mod-eq-zero 4 {n = h .total} (omega (arith, eqb-true (h .total % 8) 0 w)))))
       (either (closed h))
 
   -- the state's spare bits, as the code looks at them

@@ -6,12 +6,13 @@ use Prim.Native.Nat.{ℕ, _/_}
 use lib.Dec.{ltb}
 use lib.ListN.{length}
 use Rattle.standard.specs.Sponge.{Variant, digestFrom, imageSize, imageOf}
-use Rattle.standard.specs.Chain.{messageBits, endState}
+use Rattle.standard.specs.Chain.{byteBits, messageBits, endState}
 use Rattle.standard.specs.Variants.{variant, known}
-use Rattle.answers.specs.declared.Refusal.the-variants.{UnknownVariant, Malformed, WrongStage, TooLong, OutputTooShort}
+use Rattle.answers.specs.declared.Refusal.the-variants.{UnknownVariant, Malformed, WrongStage, TooLong, OutputTooShort, BadBitNumber}
 use Rattle.answers.specs.declared.Status.{Status}
 use Rattle.answers.specs.Checks.{Check, unless, when, firstRefusal}
-use Rattle.answers.specs.Outputs.{written, most}
+use Rattle.answers.specs.Outputs.{written, most, mostBits}
+use Rattle.sponge.specs.Parts.{isBitNumber}
 use Rattle.hasher.specs.declared.Hasher.{Hasher}
 use Rattle.hasher.specs.declared.Wanted.{Wanted}
 use Rattle.hasher.specs.declared.Wanted.the-variants.{Digest, EndState}
@@ -62,4 +63,21 @@ wholeStatus v m wanted room = firstRefusal (wholeChecks v (length m) wanted room
 
 unfoldable pub wholeInto : ℕ → List ℕ → Wanted → List ℕ → List ℕ
 wholeInto v m wanted out =
-    written (wholeStatus v m wanted (length out)) (resultOf (variant v) wanted (endState (variant v) (messageBits m))) out
+    written (wholeStatus v m wanted (length out)) (resultOf (variant v) wanted (endState (variant v) (byteBits m))) out
+
+-- Whole message of whose last byte k bits count, into so many bytes: 1, 15, 4, 5
+abbrev pub wholeBitsChecks : ℕ → List ℕ → ℕ → Wanted → ℕ → List Check
+wholeBitsChecks v m k wanted room =
+    unless (known v) UnknownVariant
+    ∷ unless (isBitNumber k (length m)) BadBitNumber
+    ∷ when (ltb mostBits (length (messageBits (variant v) m k))) TooLong
+    ∷ when (ltb room (resultSize (variant v) wanted)) OutputTooShort
+    ∷ []
+
+-- the answer for it, and the caller's output after it
+unfoldable pub wholeBitsStatus : ℕ → List ℕ → ℕ → Wanted → ℕ → Status
+wholeBitsStatus v m k wanted room = firstRefusal (wholeBitsChecks v m k wanted room)
+
+unfoldable pub wholeBitsInto : ℕ → List ℕ → ℕ → Wanted → List ℕ → List ℕ
+wholeBitsInto v m k wanted out =
+    written (wholeBitsStatus v m k wanted (length out)) (resultOf (variant v) wanted (endState (variant v) (messageBits (variant v) m k))) out

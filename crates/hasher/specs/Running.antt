@@ -8,12 +8,13 @@ use lib.Dec.{eqb, ltb, leb}
 use lib.ListN.{length, drop, replicate}
 use Rattle.standard.specs.Bits.{high-first, bitsIn, unpack}
 use Rattle.standard.specs.Sponge.{Variant, order, startState, stateIn}
-use Rattle.standard.specs.Chain.{messageBits, padding, wholeBlocks, restOf, run}
+use Rattle.standard.specs.Chain.{byteBits, messageBits, padding, wholeBlocks, restOf, run}
 use Rattle.standard.specs.Variants.{variant, known}
-use Rattle.answers.specs.declared.Refusal.the-variants.{UnknownVariant, Malformed, WrongStage, TooLong}
+use Rattle.answers.specs.declared.Refusal.the-variants.{UnknownVariant, Malformed, WrongStage, TooLong, BadBitNumber, InsideByte}
 use Rattle.answers.specs.Checks.{Check, unless, when, firstRefusal}
-use Rattle.answers.specs.Outputs.{whenDone, most}
+use Rattle.answers.specs.Outputs.{whenDone, mostBits}
 use Rattle.sponge.specs.Layout.{stateRoom, blockRoom, packedState, packedBlock, clear}
+use Rattle.sponge.specs.Parts.{isBitNumber}
 use Rattle.hasher.specs.declared.Hasher.{Hasher}
 use Rattle.hasher.specs.declared.Advanced.{Advanced}
 
@@ -25,15 +26,15 @@ variantOf h = variant (h .variant)
 abbrev pub closed : Hasher → Bool
 closed h = eqb (h .stage) 1
 
--- the bits of the message so far
-abbrev pub bitCount : Hasher → ℕ
-bitCount h = 8 * h .total
-
--- how many of them fill no block; a closed running hash holds none
+-- document 02, Q-6: the total counts bits. Those of them that fill no block are held; a closed running hash holds none
 unfoldable pub heldCount : Hasher → ℕ
-heldCount h = cond (closed h) 0 (bitCount h % variantOf h .r)
+heldCount h = cond (closed h) 0 (h .total % variantOf h .r)
 
--- those bits, and the state
+-- the message so far ends with a byte, so that a piece may follow
+abbrev pub wholeSoFar : Hasher → Bool
+wholeSoFar h = eqb (h .total % 8) 0
+
+-- the held bits, and the state
 unfoldable pub heldIn : Hasher → List Bool
 heldIn h = unpack high-first (heldCount h) (h .held)
 
@@ -45,11 +46,11 @@ unfoldable pub wellFormed : Hasher → Bool
 wellFormed h =
     known (h .variant)
     && leb (h .stage) 1
-    && leb (h .total) most
+    && leb (h .total) mostBits
     && clear (drop (variantOf h .t) (bitsIn (order (variantOf h)) (h .state)))
     && clear (drop (heldCount h) (bitsIn high-first (h .held)))
 
--- well formed and open: a piece may come, or the end
+-- well formed and open: the end may come, and behind whole bytes a piece
 abbrev pub Open : Hasher → Type 0
 Open h = (wellFormed h ≡ true) × (closed h ≡ false)
 
@@ -68,10 +69,10 @@ blank v = record { total = 0; variant = v; stage = 0; state = replicate stateRoo
 abbrev pub fresh : ℕ → Hasher
 fresh v = going (blank v) 0 0 (startState (variant v)) []
 
--- the message goes on with these bits, which are so many bytes: the held bits and they together, their whole blocks run through the state, the rest held
-unfoldable pub grown : Hasher → ℕ → List Bool → Hasher
-grown h bytes bits =
-    going h (h .stage) (h .total + bytes)
+-- the message goes on with these bits: the held bits and they together, their whole blocks run through the state, the rest held
+unfoldable pub grown : Hasher → List Bool → Hasher
+grown h bits =
+    going h (h .stage) (h .total + length bits)
     (run (variantOf h) (stateOf h) (wholeBlocks (variantOf h .r) (heldIn h ++ bits)))
     (restOf (variantOf h .r) (heldIn h ++ bits))
 
@@ -79,7 +80,7 @@ grown h bytes bits =
 unfoldable pub ended : Hasher → Hasher
 ended h =
     going h 1 (h .total)
-    (run (variantOf h) (stateOf h) (wholeBlocks (variantOf h .r) (heldIn h ++ padding (variantOf h) (bitCount h)))) []
+    (run (variantOf h) (stateOf h) (wholeBlocks (variantOf h .r) (heldIn h ++ padding (variantOf h) (h .total)))) []
 
 -- ---- the calls
 
@@ -91,20 +92,25 @@ advanced row next old = record { status = firstRefusal row; hasher = whenDone (f
 abbrev pub startChecks : ℕ → List Check
 startChecks v = unless (known v) UnknownVariant ∷ []
 
--- Take a piece of n bytes: 2, 3, 4
-abbrev pub updateChecks : Hasher → ℕ → List Check
-updateChecks h n =
-    unless (wellFormed h) Malformed
-    ∷ when (closed h) WrongStage
-    ∷ when (ltb most (h .total + n)) TooLong
-    ∷ []
-
 -- Close: 2, 3
 abbrev pub finishChecks : Hasher → List Check
 finishChecks h =
     unless (wellFormed h) Malformed
     ∷ when (closed h) WrongStage
     ∷ []
+
+-- n bits may follow: 16, 4
+abbrev pub followChecks : Hasher → ℕ → List Check
+followChecks h n = unless (wholeSoFar h) InsideByte ∷ when (ltb mostBits (h .total + n)) TooLong ∷ []
+
+-- Take a piece of n bits: 2, 3, 16, 4
+abbrev pub updateChecks : Hasher → ℕ → List Check
+updateChecks h n = finishChecks h ++ followChecks h n
+
+-- Take a piece of whose last byte k bits count: 2, 3, 15, 16, 4
+abbrev pub updateBitsChecks : Hasher → List ℕ → ℕ → List Check
+updateBitsChecks h piece k =
+    finishChecks h ++ unless (isBitNumber k (length piece)) BadBitNumber ∷ followChecks h (length (messageBits (variantOf h) piece k))
 
 -- a start over a running hash that is there
 unfoldable pub startedOver : Hasher → ℕ → Advanced
@@ -114,9 +120,13 @@ startedOver h v = advanced (startChecks v) (fresh v) h
 unfoldable pub started : ℕ → Advanced
 started v = startedOver (blank 0) v
 
--- a piece taken
+-- a piece taken, all of whose bits count
 unfoldable pub updated : Hasher → List ℕ → Advanced
-updated h piece = advanced (updateChecks h (length piece)) (grown h (length piece) (messageBits piece)) h
+updated h piece = advanced (updateChecks h (8 * length piece)) (grown h (byteBits piece)) h
+
+-- a piece taken of whose last byte k bits count
+unfoldable pub updatedBits : Hasher → List ℕ → ℕ → Advanced
+updatedBits h piece k = advanced (updateBitsChecks h piece k) (grown h (messageBits (variantOf h) piece k)) h
 
 -- the running hash closed
 unfoldable pub finished : Hasher → Advanced

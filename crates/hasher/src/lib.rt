@@ -1,26 +1,31 @@
 // The running hash by value: start, update, finish, digest and end state, and the whole message in one call.
 ghost use mathlib.Core.Path.{_≡_};
-ghost use mathlib.Core.Bool.{true};
-ghost use Prim.Native.Nat.{_+_, _≤_};
-ghost use lib.ListN.{length, take};
+ghost use mathlib.Core.Bool.{true, false};
+ghost use mathlib.Core.List.{[], _∷_, _++_};
+ghost use Prim.Native.Nat.{_+_, _-_, _*_, _/_, _%_, _≤_, _<_};
+ghost use lib.ListN.{length, take, drop, getD, replicate};
+ghost use Rattle.standard.specs.Bits.{high-first, bitsOf, bitsIn};
 ghost use Rattle.standard.specs.Sponge.{stateIn};
 ghost use Rattle.standard.specs.Chain.{messageBits, endState};
 ghost use Rattle.standard.specs.Variants.{variant, known};
 ghost use Rattle.answers.specs.declared.Status.the-variants.{Done};
 ghost use Rattle.answers.specs.Checks.{firstRefusal};
-ghost use Rattle.answers.specs.Outputs.{written, most};
-ghost use Rattle.sponge.specs.Layout.{Holds};
-ghost use Rattle.hasher.specs.Running.{heldCount, wellFormed, Open, fresh, grown, ended, updateChecks, finishChecks, startedOver, started, updated, finished};
-ghost use Rattle.hasher.specs.Reading.{resultOf, resultSize, isDigest, readStatus, readInto, wholeChecks, wholeStatus, wholeInto};
+ghost use Rattle.answers.specs.Outputs.{written, most, mostBits};
+ghost use Rattle.sponge.specs.Layout.{blockRoom, Holds, clear};
+ghost use Rattle.sponge.specs.Parts.{isBitNumber, messageIn, HoldsMessage};
+ghost use Rattle.hasher.specs.Running.{variantOf, heldCount, wholeSoFar, wellFormed, Open, fresh, grown, ended, finishChecks, followChecks, updateChecks, updateBitsChecks, startedOver, started, updated, updatedBits, finished};
+ghost use Rattle.hasher.specs.Reading.{resultOf, resultSize, isDigest, readStatus, readInto, wholeChecks, wholeStatus, wholeInto, wholeBitsChecks, wholeBitsStatus, wholeBitsInto};
 ghost use Rattle.hasher.specs.declared.Wanted.the-variants.{Digest, EndState};
 use answers::MOST;
+use answers::MOST_BITS;
 use answers::Refusal;
 use answers::Status;
 use sponge::BLOCK_BYTES;
 use sponge::STATE_BYTES;
+use sponge::parts::ONE_ALONE;
 
-// Any 48 bytes are one. Stage 0 is open, 1 is closed. The state is an image at the front of its bytes; the held bits are those of
-// the message so far that fill no block.
+// Any 48 bytes are one. Stage 0 is open, 1 is closed. The total counts bits. The state is an image at the front of its bytes; the held
+// bits are those of the message so far that fill no block.
 #[repr(C)]
 pub struct Hasher {
     pub total: u32,
@@ -45,13 +50,12 @@ pub enum Wanted {
 // How many bits are held.
 fn held_count(h: Hasher) -> usize
     requires { ⌜ known (h .variant) ≡ true ⌝ }
-    requires { ⌜ h .total ≤ most ⌝ }
     ensures { λ r. ⌜ r ≡ heldCount h ⌝ }
 {
     if h.stage == 1 {
         return 0;
     }
-    (8 * h.total % sponge::sizes::block_bits(h.variant)) as usize
+    (h.total % sponge::sizes::block_bits(h.variant)) as usize
 }
 
 pub fn is_well_formed(h: Hasher) -> bool
@@ -64,7 +68,7 @@ pub fn is_well_formed(h: Hasher) -> bool
     if 1 < h.stage {
         return false;
     }
-    if MOST < h.total as usize {
+    if MOST_BITS < h.total {
         return false;
     }
     let state = h.state;
@@ -77,7 +81,7 @@ pub fn is_well_formed(h: Hasher) -> bool
 
 // ---- checks
 
-// Whether a running hash may go on or end: refusals 2, 3.
+// Whether a running hash is open: refusals 2, 3.
 pub fn check_open(h: Hasher) -> Status
     ensures { λ r. ⌜ r ≡ firstRefusal (finishChecks h) ⌝ }
 {
@@ -90,17 +94,47 @@ pub fn check_open(h: Hasher) -> Status
     Status::Done
 }
 
-// Whether a piece of n bytes may come: refusals 2, 3, 4.
+// Whether so many bytes may follow what was taken: refusals 16, 4.
+fn check_follow(h: Hasher, bytes: usize) -> Status
+    requires { ⌜ h .total ≤ mostBits ⌝ }
+    ensures { λ r. ⌜ r ≡ firstRefusal (followChecks h (8 * bytes)) ⌝ }
+{
+    if h.total % 8 != 0 {
+        return Status::Refused(Refusal::InsideByte);
+    }
+    // Eight times any number could pass the word's end: more bytes than any message has are refused first.
+    if MOST < bytes {
+        return Status::Refused(Refusal::TooLong);
+    }
+    let left = MOST_BITS - h.total;
+    if (left as usize) < 8 * bytes {
+        return Status::Refused(Refusal::TooLong);
+    }
+    Status::Done
+}
+
+// Whether a piece of n bytes may come: refusals 2, 3, 16, 4.
 pub fn check_update(h: Hasher, n: usize) -> Status
-    ensures { λ r. ⌜ r ≡ firstRefusal (updateChecks h n) ⌝ }
+    ensures { λ r. ⌜ r ≡ firstRefusal (updateChecks h (8 * n)) ⌝ }
 {
     let status = check_open(h);
     if let Status::Done = status {
-        // The total is within the limit, and n is any number: no sum that could pass the word's end.
-        if MOST - (h.total as usize) < n {
-            return Status::Refused(Refusal::TooLong);
+        return check_follow(h, n);
+    }
+    status
+}
+
+// Whether a piece may come of whose last byte so many bits count: refusals 2, 3, 15, 16, 4.
+pub fn check_update_bits(h: Hasher, piece: &[u8], bits: u32) -> Status
+    ensures { λ r. ⌜ r ≡ firstRefusal (updateBitsChecks h (now (piece .entry)) bits) ⌝ }
+{
+    let status = check_open(h);
+    if let Status::Done = status {
+        if !sponge::parts::is_bit_number(bits, piece.len()) {
+            return Status::Refused(Refusal::BadBitNumber);
         }
-        return Status::Done;
+        // A byte of which some bits count takes as much of what is left as a whole one, since what is left is whole bytes.
+        return check_follow(h, piece.len());
     }
     status
 }
@@ -168,30 +202,33 @@ pub fn start(variant: u32) -> Advanced
 
 // ---- update
 
-// The message goes on with the piece: the whole blocks of the held bits and the piece run through the state, and what is left is held.
-fn grown(h: Hasher, piece: &[u8]) -> Hasher
+// The message goes on with the piece and with the first k bits of a last byte, which has zeros behind them: the whole blocks of the held
+// bits and these run through the state, and what is left is held.
+fn grown(h: Hasher, piece: &[u8], last: u8, k: usize) -> Hasher
     requires { ⌜ Open h ⌝ }
-    requires { ⌜ h .total + length (now piece) ≤ most ⌝ }
-    ensures { λ r. ⌜ r ≡ grown h (length (now (piece .entry))) (messageBits (now (piece .entry))) ⌝ }
+    requires { ⌜ (wholeSoFar h ≡ true) × (k ≤ 8) × (h .total + (8 * length (now piece) + k) ≤ mostBits) ⌝ }
+    requires { ⌜ clear (drop (8 * length (now piece) + k) (bitsIn high-first (now piece ++ last ∷ []))) ≡ true ⌝ }
+    ensures { λ r. ⌜ r ≡ grown h (messageIn (now (piece .entry)) last (8 * length (now (piece .entry)) + k)) ⌝ }
 {
     let v = h.variant;
     let state = h.state;
     let held = h.held;
-    // In half bytes, since every block is so many of them.
-    let q = (sponge::sizes::block_bits(v) / 4) as usize;
-    let p = held_count(h) / 4;
-    let n = p + 2 * piece.len();
-    let count = n / q;
+    let r = sponge::sizes::block_bits(v) as usize;
+    let c = held_count(h);
+    let added = 8 * piece.len() + k;
+    let count = (c + added) / r;
+    let left = (c + added) % r;
+    // In half bytes: every block is so many of them, and so is what is held behind whole bytes.
     Hasher {
-        total: h.total + piece.len() as u32,
+        total: h.total + added as u32,
         variant: v,
         stage: h.stage,
-        state: sponge::outcome::run_blocks(v, state, &held, p, piece, count),
-        held: sponge::blocks::block_at(&held, p, piece, count * q, n % q),
+        state: sponge::outcome::run_blocks(v, state, &held, c / 4, piece, last, count),
+        held: sponge::blocks::block_at(&held, c / 4, piece, last, count * (r / 4), (left + 3) / 4),
     }
 }
 
-// Refusals 2, 3, 4.
+// Refusals 2, 3, 16, 4.
 pub fn update(h: Hasher, piece: &[u8]) -> Advanced
     ensures { λ r. ⌜ r ≡ updated h (now (piece .entry)) ⌝ }
 {
@@ -199,7 +236,37 @@ pub fn update(h: Hasher, piece: &[u8]) -> Advanced
     if let Status::Done = status {
         return Advanced {
             status: Status::Done,
-            hasher: grown(h, piece),
+            hasher: grown(h, piece, 0, 0),
+        };
+    }
+    Advanced {
+        status: status,
+        hasher: h,
+    }
+}
+
+// The message goes on with a piece of whose last byte k bits count.
+fn grown_bits(h: Hasher, piece: &[u8], k: usize) -> Hasher
+    requires { ⌜ Open h ⌝ }
+    requires { ⌜ (wholeSoFar h ≡ true) × (isBitNumber k (length (now piece)) ≡ true) ⌝ }
+    requires { ⌜ h .total + length (messageBits (variantOf h) (now piece) k) ≤ mostBits ⌝ }
+    ensures { λ r. ⌜ r ≡ grown h (messageBits (variantOf h) (now (piece .entry)) k) ⌝ }
+{
+    let n = piece.len() - 1;
+    let b = piece[n];
+    let last = sponge::parts::counted_byte(h.variant, b, k);
+    grown(h, &piece[..n], last, k)
+}
+
+// A piece of whose last byte so many bits count: refusals 2, 3, 15, 16, 4.
+pub fn update_bits(h: Hasher, piece: &[u8], bits: u32) -> Advanced
+    ensures { λ r. ⌜ r ≡ updatedBits h (now (piece .entry)) bits ⌝ }
+{
+    let status = check_update_bits(h, piece, bits);
+    if let Status::Done = status {
+        return Advanced {
+            status: Status::Done,
+            hasher: grown_bits(h, piece, bits as usize),
         };
     }
     Advanced {
@@ -210,6 +277,16 @@ pub fn update(h: Hasher, piece: &[u8]) -> Advanced
 
 // ---- finish
 
+// The byte in which c held bits end, with the padding's 1 bit behind them.
+fn last_byte(held: [u8; BLOCK_BYTES], c: usize) -> u8
+    requires { ⌜ c < 8 * blockRoom ⌝ }
+    ensures { λ r. ⌜ bitsOf high-first 8 r ≡ take (c % 8) (bitsOf high-first 8 (getD held (c / 8) 0)) ++ true ∷ replicate (7 - c % 8) false ⌝ }
+{
+    let k = c % 8;
+    let x = held[c / 8] as u32;
+    sponge::parts::with_one(x >> (8 - k), k)
+}
+
 // The message has ended: the held bits and the padding make one last block.
 fn ended(h: Hasher) -> Hasher
     requires { ⌜ Open h ⌝ }
@@ -218,13 +295,14 @@ fn ended(h: Hasher) -> Hasher
     let v = h.variant;
     let state = h.state;
     let held = h.held;
-    let p = held_count(h) / 4;
+    let c = held_count(h);
+    let last = last_byte(held, c);
     let none: [u8; 0] = [];
     Hasher {
         total: h.total,
         variant: v,
         stage: 1,
-        state: sponge::outcome::run_blocks(v, state, &held, p, &none, 1),
+        state: sponge::outcome::run_blocks(v, state, &held, 2 * (c / 8), &none, last, 1),
         held: [0u8; BLOCK_BYTES],
     }
 }
@@ -269,7 +347,7 @@ fn write_result(v: u8, wanted: Wanted, state: [u8; STATE_BYTES], out: &mut [u8])
     match wanted {
         Wanted::Digest => {
             let none: [u8; 0] = [];
-            let digest = sponge::outcome::outcome_after(v, state, &none, 0, &none, 0, true);
+            let digest = sponge::outcome::outcome_after(v, state, &none, 0, &none, 0, 0, true);
             sponge::images::copy_front(&digest, n, out);
         }
         Wanted::EndState => sponge::images::copy_front(&state, n, out),
@@ -319,6 +397,26 @@ pub fn check_whole(variant: u32, n: usize, wanted: Wanted, room: usize) -> Statu
     Status::Done
 }
 
+// Whether a message of whose last byte so many bits count may be hashed into `room` bytes: refusals 1, 15, 4, 5.
+pub fn check_whole_bits(
+    variant: u32,
+    message: &[u8],
+    bits: u32,
+    wanted: Wanted,
+    room: usize,
+) -> Status
+    ensures { λ r. ⌜ r ≡ firstRefusal (wholeBitsChecks variant (now (message .entry)) bits wanted room) ⌝ }
+{
+    if !sponge::sizes::is_known(variant) {
+        return Status::Refused(Refusal::UnknownVariant);
+    }
+    if !sponge::parts::is_bit_number(bits, message.len()) {
+        return Status::Refused(Refusal::BadBitNumber);
+    }
+    // Bits pass their limit just where bytes pass theirs.
+    check_whole(variant, message.len(), wanted, room)
+}
+
 // Whether the digest is wanted.
 fn is_digest(wanted: Wanted) -> bool
     ensures { λ r. ⌜ r ≡ isDigest wanted ⌝ }
@@ -330,17 +428,17 @@ fn is_digest(wanted: Wanted) -> bool
 }
 
 // What is wanted of a message's end state, at the front of bytes that have room for either: the padded blocks in one run, for which a table is made but once.
-fn end_of(v: u8, message: &[u8], wanted: Wanted) -> [u8; STATE_BYTES]
+// The message is so many bits of `front` and the last byte, which has the padding's 1 bit behind them.
+fn end_of(v: u8, front: &[u8], last: u8, bits: usize, wanted: Wanted) -> [u8; STATE_BYTES]
     requires { ⌜ known v ≡ true ⌝ }
-    requires { ⌜ length (now message) ≤ most ⌝ }
-    ensures { λ r. ⌜ take (resultSize (variant v) wanted) r ≡ resultOf (variant v) wanted (endState (variant v) (messageBits (now (message .entry)))) ⌝ }
+    requires { ⌜ HoldsMessage (now front) last bits ⌝ }
+    ensures { λ r. ⌜ take (resultSize (variant v) wanted) r ≡ resultOf (variant v) wanted (endState (variant v) (messageIn (now (front .entry)) last bits)) ⌝ }
 {
-    let q = (sponge::sizes::block_bits(v) / 4) as usize;
-    let count = 2 * message.len() / q + 1;
+    let count = bits / (sponge::sizes::block_bits(v) as usize) + 1;
     let none: [u8; 0] = [];
     let start = sponge::step::start(v);
     let digest = is_digest(wanted);
-    sponge::outcome::outcome_after(v, start, &none, 0, message, count, digest)
+    sponge::outcome::outcome_after(v, start, &none, 0, front, last, count, digest)
 }
 
 // A whole message: what is wanted of its end state. Refusals 1, 4, 5.
@@ -351,7 +449,31 @@ pub fn whole(variant: u32, message: &[u8], wanted: Wanted, out: &mut [u8]) -> St
     let status = check_whole(variant, message.len(), wanted, out.len());
     if let Status::Done = status {
         let v = variant as u8;
-        let result = end_of(v, message, wanted);
+        let result = end_of(v, message, ONE_ALONE, 8 * message.len(), wanted);
+        sponge::images::copy_front(&result, result_size(v, wanted), out);
+        return Status::Done;
+    }
+    status
+}
+
+// The same of a message of whose last byte k bits count.
+fn end_of_bits(v: u8, message: &[u8], k: usize, wanted: Wanted) -> [u8; STATE_BYTES]
+    requires { ⌜ (known v ≡ true) × (isBitNumber k (length (now message)) ≡ true) × (length (now message) ≤ most) ⌝ }
+    ensures { λ r. ⌜ take (resultSize (variant v) wanted) r ≡ resultOf (variant v) wanted (endState (variant v) (messageBits (variant v) (now (message .entry)) k)) ⌝ }
+{
+    let e = sponge::parts::ending_of(v, message, k);
+    end_of(v, &message[..e.front], e.last, e.bits, wanted)
+}
+
+// A whole message of whose last byte so many bits count. Refusals 1, 15, 4, 5.
+pub fn whole_bits(variant: u32, message: &[u8], bits: u32, wanted: Wanted, out: &mut [u8]) -> Status
+    ensures { λ r. ⌜ (r ≡ wholeBitsStatus variant (now (message .entry)) bits wanted (length (now (out .entry))))
+        × (now (out .exit) ≡ wholeBitsInto variant (now (message .entry)) bits wanted (now (out .entry))) ⌝ }
+{
+    let status = check_whole_bits(variant, message, bits, wanted, out.len());
+    if let Status::Done = status {
+        let v = variant as u8;
+        let result = end_of_bits(v, message, bits as usize, wanted);
         sponge::images::copy_front(&result, result_size(v, wanted), out);
         return Status::Done;
     }

@@ -1,7 +1,7 @@
 // The running hash that a caller lends and finds advanced, and the cursor that carries a lent segment list.
 ghost use mathlib.Core.Path.{_≡_};
 ghost use lib.ListN.{length};
-ghost use Rattle.hasher.specs.Running.{startedOver, updated, finished};
+ghost use Rattle.hasher.specs.Running.{startedOver, updated, updatedBits, finished};
 ghost use Rattle.hasher.specs.Reading.{readStatus, readInto};
 ghost use Rattle.hasher.specs.declared.Wanted.the-variants.{Digest, EndState};
 ghost use Rattle.lent.specs.Cursors.{stepAnswer, foundAt, movedOn};
@@ -18,12 +18,22 @@ pub fn start(h: &mut Hasher, variant: u32) -> Status
     a.status
 }
 
-// Refusals 2, 3, 4.
+// Refusals 2, 3, 16, 4.
 pub fn update(h: &mut Hasher, piece: &[u8]) -> Status
     ensures { λ r. ⌜ (r ≡ updated (now (h .entry)) (now (piece .entry)) .status)
         × (now (h .exit) ≡ updated (now (h .entry)) (now (piece .entry)) .hasher) ⌝ }
 {
     let a = hasher::update(*h, piece);
+    *h = a.hasher;
+    a.status
+}
+
+// A piece of whose last byte so many bits count: refusals 2, 3, 15, 16, 4.
+pub fn update_bits(h: &mut Hasher, piece: &[u8], bits: u32) -> Status
+    ensures { λ r. ⌜ (r ≡ updatedBits (now (h .entry)) (now (piece .entry)) bits .status)
+        × (now (h .exit) ≡ updatedBits (now (h .entry)) (now (piece .entry)) bits .hasher) ⌝ }
+{
+    let a = hasher::update_bits(*h, piece, bits);
     *h = a.hasher;
     a.status
 }

@@ -10,7 +10,7 @@ use lib.Dec.{eqb}
 use lib.ListN.{length, drop, replicate, length-drop, take-append-drop}
 use lib.Seq.{length-take-le}
 use borrow.Author.Tests.{le-leb, lt-leb, ltb-true, eqb-true}
-use Rattle.standard.specs.Chain.{messageBits, digestOf, endState}
+use Rattle.standard.specs.Chain.{byteBits, digestOf, endState}
 use Rattle.standard.specs.Variants.{variant, known}
 use Rattle.standard.proofs.Tests.{and-true, lt-or-le}
 use Rattle.standard.proofs.Variants.{bounds}
@@ -26,7 +26,7 @@ use Rattle.hasher.specs.Pieces.{withByte}
 use Rattle.hasher.proofs.ByteByByte.{byte-by-byte}
 use Rattle.hasher.proofs.Next.{onward-none}
 use Rattle.hasher.proofs.Calls.{start-unknown, start-done, update-done, finish-done, result-length}
-use Rattle.hasher.proofs.Message.{taken, fresh-sized, fresh-open, fresh-kept, none-kept, taken-open, end-status, end-into, whole-done}
+use Rattle.hasher.proofs.Message.{taken, fresh-sized, fresh-open, fresh-whole, fresh-kept, none-kept, taken-open, end-status, end-into, whole-done}
 use Rattle.hasher.proofs.Demand2.{whole-digest}
 use Rattle.manifest.specs.Records.{recordCount, variantAt, filledAt, digestBytes, digestAt, fillerAt, zeros, manifestStatus, recordFor, isListed}
 use Rattle.manifest.specs.Counts.{same, agrees}
@@ -46,7 +46,7 @@ module _ (v : ℕ) (k : known v ≡ true) where
   contents-taken (b ∷ m) few =
       ap (λ (u : Advanced). foldl withByte (u .hasher) (b ∷ m)) (start-done v k)
       ∙ byte-by-byte (fresh v) (fresh-sized v k) b m (λ _. omega (arith, few))
-      ∙ ap (λ (u : Advanced). u .hasher) (update-done (fresh v) (b ∷ m) (fresh-open v k) (omega (arith, few)))
+      ∙ ap (λ (u : Advanced). u .hasher) (update-done (fresh v) (fresh-open v k) (b ∷ m) (fresh-whole v k) (omega (arith, few)))
 
 -- one of variant 0 takes nothing
 blank-stays : (m : List ℕ) → foldl withByte (blank 0) m ≡ blank 0
@@ -116,7 +116,7 @@ module _ (list : List ℕ) (passes : manifestStatus list ≡ Done) (k : ℕ) (he
       ∙ and-yes (same d (digestAt list k))
 
   -- a running hash of the whole contents
-  hashed-matches : (m : List ℕ) → length m ≤ most → matches list k (taken v m) ≡ same (digestOf (variant v) (messageBits m)) (digestAt list k)
+  hashed-matches : (m : List ℕ) → length m ≤ most → matches list k (taken v m) ≡ same (digestOf (variant v) (byteBits m)) (digestAt list k)
   unfolding matches digestOf
   hashed-matches m few =
       let end : finished (taken v m) .hasher ≡ ended (taken v m) = ap (λ (a : Advanced). a .hasher) (finish-done (taken v m) (taken-open v named m few)) in
@@ -124,7 +124,7 @@ module _ (list : List ℕ) (passes : manifestStatus list ≡ Done) (k : ℕ) (he
       ∙ ap₂ (λ (s : Status) (x : List ℕ). whenDone s (same x (filledAt list k)) false)
       (end-status v named m few Digest 32 ∙ whole-done v named m few Digest (replicate 32 0) room .0)
       (end-into v named m few Digest (replicate 32 0) ∙ whole-digest v named m few (replicate 32 0) room)
-      ∙ digest-alone (digestOf (variant v) (messageBits m)) (result-length (variant v) Digest (endState (variant v) (messageBits m)))
+      ∙ digest-alone (digestOf (variant v) (byteBits m)) (result-length (variant v) Digest (endState (variant v) (byteBits m)))
 
 -- ---- a listed table
 

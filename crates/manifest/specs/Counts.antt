@@ -6,7 +6,7 @@ use Prim.Native.Nat.{ℕ, suc}
 use lib.Dec.{eqb, ltb, leb}
 use lib.ListN.{length}
 use Rattle.answers.specs.Outputs.{most}
-use Rattle.standard.specs.Chain.{messageBits, digestOf}
+use Rattle.standard.specs.Chain.{byteBits, digestOf}
 use Rattle.standard.specs.Variants.{variant}
 use Rattle.manifest.specs.declared.report.Summary.{Summary}
 use Rattle.manifest.specs.Records.{variantAt, digestAt, axesOf, recordFor, isListed}
@@ -26,7 +26,7 @@ same (x ∷ xs) (y ∷ ys) = eqb x y && same xs ys
 
 -- a table is within the limit of a message, and its digest under the variant of record k is the one of that record
 unfoldable pub agrees : List ℕ → ℕ → List ℕ → Bool
-agrees list k contents = leb (length contents) most && same (digestOf (variant (variantAt list k)) (messageBits contents)) (digestAt list k)
+agrees list k contents = leb (length contents) most && same (digestOf (variant (variantAt list k)) (byteBits contents)) (digestAt list k)
 
 -- a table of a listed axis agrees with the record of that axis, or does not; a table of no listed axis
 unfoldable pub isEqual : List ℕ → Table → Bool

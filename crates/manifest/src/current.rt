@@ -2,9 +2,9 @@
 ghost use mathlib.Core.Path.{_≡_};
 ghost use mathlib.Core.Bool.{true};
 ghost use mathlib.Core.List.{foldl};
-ghost use Prim.Native.Nat.{_+_, _-_, _≤_, _<_};
+ghost use Prim.Native.Nat.{_+_, _-_, _*_, _≤_, _<_};
 ghost use lib.ListN.{length};
-ghost use Rattle.answers.specs.Outputs.{most};
+ghost use Rattle.answers.specs.Outputs.{mostBits};
 ghost use Rattle.hasher.specs.Pieces.{withByte};
 ghost use Rattle.manifest.specs.Places.{isOrdered};
 ghost use Rattle.manifest.specs.Tables.{headerBytes, axisIn, lengthIn};
@@ -13,6 +13,7 @@ ghost use Rattle.manifest.specs.Strides.{Stride};
 use crate::records;
 use crate::records::RECORD_BYTES;
 use answers::MOST;
+use answers::MOST_BITS;
 use hasher::Hasher;
 
 // Two bytes of axis number and four of length.
@@ -110,12 +111,12 @@ fn least(a: usize, b: usize) -> usize
     if a < b { a } else { b }
 }
 
-// The bytes that a running hash of so many can still take; any number where it can take none, since it then refuses them all.
+// The bytes that a running hash of so many bits can still take; any number where it can take none, since it then refuses them all.
 fn room(total: u32) -> usize
-    ensures { λ r. ⌜ (1 ≤ r) × (total < most → total + r ≤ most) ⌝ }
+    ensures { λ r. ⌜ (1 ≤ r) × (total + 8 ≤ mostBits → total + 8 * r ≤ mostBits) ⌝ }
 {
-    if (total as usize) < MOST {
-        MOST - total as usize
+    if total <= MOST_BITS - 8 {
+        ((MOST_BITS - total) / 8) as usize
     } else {
         MOST
     }
@@ -146,7 +147,7 @@ pub fn minus(a: u32, b: u32) -> u32
 // The running hash after some bytes more, which it takes whole or not at all.
 fn with_bytes(h: Hasher, part: &[u8]) -> Hasher
     requires { ⌜ 1 ≤ length (now part) ⌝ }
-    requires { ⌜ (h .total < most → h .total + length (now part) ≤ most) ⌝ }
+    requires { ⌜ (h .total + 8 ≤ mostBits → h .total + 8 * length (now part) ≤ mostBits) ⌝ }
     ensures { λ r. ⌜ r ≡ foldl withByte h (now (part .entry)) ⌝ }
 {
     let u = hasher::update(h, part);

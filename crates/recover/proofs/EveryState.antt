@@ -1,45 +1,38 @@
 -- Demand 3, the lost block, said of states and of the bytes that the caller finds: for each known variant number, every message within the limit, every place below its
 -- block count, every state of t bits, given by its image, and every output with room for a block. Assumes nothing.
-use mathlib.Core.Path.{_≡_, refl, sym, ap, _∙_, subst}
+use mathlib.Core.Path.{_≡_}
 use mathlib.Core.Bool.{Bool, true}
-use mathlib.Core.List.{List, [], _++_}
-use mathlib.Core.Logic.{_↔_, _⊎_, ⊎-elim}
+use mathlib.Core.List.{List, []}
+use mathlib.Core.Logic.{_↔_, _⊎_}
 use Prim.Native.Nat.{ℕ, _≤_, _<_}
-use lib.ListN.{length, drop, getD}
-use lib.Seq.{set-getD}
+use lib.ListN.{length, getD}
 use Rattle.answers.specs.declared.Refusal.the-variants.{NoBlock}
 use Rattle.answers.specs.declared.Status.{Status}
 use Rattle.answers.specs.declared.Status.the-variants.{Done, Refused}
 use Rattle.answers.specs.Checks.{firstRefusal}
-use Rattle.answers.specs.Outputs.{written, most}
-use borrow.Author.Tests.{lt-ltb, le-ltb}
-use Rattle.standard.specs.Bits.{high-first, pack}
-use Rattle.standard.specs.Sponge.{Variant, startState, imageOf}
-use Rattle.standard.specs.Chain.{messageBits, blocksOf, run, endState}
+use Rattle.answers.specs.Outputs.{most, mostBits}
+use borrow.Author.Tests.{le-ltb}
+use Rattle.standard.specs.Sponge.{Variant, imageOf}
+use Rattle.standard.specs.Chain.{byteBits, messageBits, blocksOf, endState}
 use Rattle.standard.specs.Variants.{variant, known}
-use Rattle.standard.proofs.BitLaws.{length-pack}
-use Rattle.standard.proofs.Streaming.{run-length, blocks-sized}
-use Rattle.standard.proofs.OneBlock.{block-length}
-use Rattle.standard.proofs.ImageStates.{state-image}
-use Rattle.standard.proofs.Variants.{streams, sponge}
-use Rattle.sponge.proofs.ImageOfState.{image-is-image}
+use Rattle.sponge.specs.Parts.{isBitNumber}
 use Rattle.recover.specs.Leading.{endStateWith, NoneLeads, OnlyLeads}
-use Rattle.recover.specs.Difference.{difference}
-use Rattle.recover.specs.Recovering.{blockSize, askedChecks, recoverStatus, recoveredBlock, recoverInto}
-use Rattle.recover.proofs.LeadingLaws.{blockFrom, leads-same}
-use Rattle.recover.proofs.Demand3.{eight-exactly, eight-or-done, block-given}
+use Rattle.recover.specs.Recovering.{blockSize, messageChecks, askedChecks, recoverStatus, recoverInto, messageBitsChecks, askedBitsChecks, recoverBitsStatus, recoverBitsInto}
+use Rattle.recover.proofs.LostBlock.{Found, Ready, any-asked, any-or-done, any-eight, any-kept, any-given, any-found, any-own}
 
-module _ (v : ℕ) (k : known v ≡ true) (m : List ℕ) (few : length m ≤ most) (place : ℕ) (within : place < length (blocksOf (variant v) (messageBits m)))
+-- ---- a message all of whose bits count
+
+module _ (v : ℕ) (k : known v ≡ true) (m : List ℕ) (few : length m ≤ most) (place : ℕ) (within : place < length (blocksOf (variant v) (byteBits m)))
     (out : List ℕ) (room : blockSize (variant v) ≤ length out) where
   abbrev H : Variant
   H = variant v
 
   abbrev M : List Bool
-  M = messageBits m
+  M = byteBits m
 
-  -- the caller finds the block b, and behind it what was there
-  abbrev pub Found : List Bool → List ℕ → Type 0
-  Found b out′ = out′ ≡ pack high-first (blockSize (variant v)) b ++ drop (blockSize (variant v)) out
+  -- every check but those of the image passes
+  ready : Ready (messageChecks v (length m)) v (byteBits m) place out
+  ready = record { passed = simp (k, le-ltb _ _ few); number = k; within = within; room = room }
 
   module _ (s : List Bool) (ls : length s ≡ variant v .t) where
     abbrev image : List ℕ
@@ -50,66 +43,98 @@ module _ (v : ℕ) (k : known v ≡ true) (m : List ℕ) (few : length m ≤ mos
 
     -- no earlier check refuses
     pub state-asked : firstRefusal (askedChecks v m place image (length out)) ≡ Done
-    state-asked = simp (k, le-ltb _ _ few, lt-ltb _ _ within, image-is-image H s ls, le-ltb _ _ room)
+    state-asked = any-asked ready s ls
 
     pub state-or-done : (status ≡ Refused NoBlock) ⊎ (status ≡ Done)
-    state-or-done = eight-or-done v m place image (length out) state-asked
+    unfolding recoverStatus
+    state-or-done = any-or-done ready s ls
 
     -- 8 exactly when no block leads to the state
     pub state-eight : (status ≡ Refused NoBlock) ↔ NoneLeads H M place s
-    state-eight =
-        subst (λ (x : List Bool). (status ≡ Refused NoBlock) ↔ NoneLeads H M place x) (state-image H s ls)
-        (eight-exactly v m place image (length out) state-asked)
+    unfolding recoverStatus
+    state-eight = any-eight ready s ls
 
     -- the output is then as it was
     pub state-kept : status ≡ Refused NoBlock → recoverInto v m place image out ≡ out
-    unfolding recoverInto
-    state-kept e = ap (λ (t : Status). written t (recoveredBlock v m place image) out) e
+    unfolding recoverStatus recoverInto
+    state-kept = any-kept ready s ls
 
     -- otherwise the caller finds the only block that does
-    pub state-given : status ≡ Done → (b : List Bool) × OnlyLeads H M place s b × Found b (recoverInto v m place image out)
-    unfolding recoverInto
-    state-given e =
-        let given = block-given v m place image (length out) state-asked e in
-        let b : List Bool = given .0 in (
-          b,
-          subst (λ (x : List Bool). OnlyLeads H M place x b) (state-image H s ls) (given .1),
-          ap (λ (t : Status). written t (recoveredBlock v m place image) out) e
-              ∙ ap (λ (x : List ℕ). x ++ drop (length x) out) (given .2)
-              ∙ ap (λ (n : ℕ). pack high-first (blockSize H) b ++ drop n out) (length-pack high-first (blockSize H) b),
-        )
+    pub state-given : status ≡ Done → (b : List Bool) × OnlyLeads H M place s b × Found v out b (recoverInto v m place image out)
+    unfolding recoverStatus recoverInto
+    state-given = any-given ready s ls
 
   -- the call is done, and the caller finds the block b, the only one that leads to the state s
   abbrev pub Gives : List Bool → List Bool → Type 0
   Gives s b =
       (recoverStatus v m place (imageOf (variant v) s) (length out) ≡ Done)
-      × OnlyLeads (variant v) (messageBits m) place s b
-      × Found b (recoverInto v m place (imageOf (variant v) s) out)
-
-  end-size : (b : List Bool) → length (endStateWith H M place b) ≡ H .t
-  unfolding endStateWith
-  end-size b = run-length H (streams v k) _ (startState H) (streams v k .start-length)
+      × OnlyLeads (variant v) (byteBits m) place s b
+      × Found v out b (recoverInto v m place (imageOf (variant v) s) out)
 
   -- every block is found again from the end state that it leads to
   pub block-found : (b : List Bool) → length b ≡ H .r → Gives (endStateWith H M place b) b
-  block-found b l =
-      let s : List Bool = endStateWith H M place b in
-      let ls : length s ≡ H .t = end-size b in
-      let same : (c : List Bool) → length c ≡ H .r → endStateWith H M place c ≡ s → c ≡ blockFrom H (difference H M place s) =
-      leads-same H (streams v k) (sponge v k) M place within s ls in
-      let done : recoverStatus v m place (imageOf H s) (length out) ≡ Done =
-      ⊎-elim (λ e. absurd (state-eight s ls .0 e b l refl)) (λ e. e) (state-or-done s ls) in
-      let given = state-given s ls done in
-      let own : given .0 ≡ b = same (given .0) (given .1 .size) (given .1 .leads) ∙ sym (same b l refl) in (
-        done,
-        subst (λ (c : List Bool). OnlyLeads H M place s c) own (given .1),
-        subst (λ (c : List Bool). Found c (recoverInto v m place (imageOf H s) out)) own (given .2),
-      )
+  unfolding recoverStatus recoverInto
+  block-found = any-found ready
 
   -- so is the message's own block from its own end state
   pub own-block : Gives (endState H M) (getD (blocksOf H M) place [])
-  unfolding endState endStateWith
-  own-block =
-      let b : List Bool = getD (blocksOf H M) place [] in
-      subst (λ (s : List Bool). Gives s b) (ap (run H (startState H)) (set-getD (blocksOf H M) place []))
-      (block-found b (block-length (H .r) (blocksOf H M) place (blocks-sized H M) within))
+  unfolding recoverStatus recoverInto
+  own-block = any-own ready
+
+-- ---- a message of whose last byte k bits count
+
+module _ (v : ℕ) (named : known v ≡ true) (m : List ℕ) (k : ℕ) (number : isBitNumber k (length m) ≡ true) (few : length (messageBits (variant v) m k) ≤ mostBits) (place : ℕ)
+    (within : place < length (blocksOf (variant v) (messageBits (variant v) m k))) (out : List ℕ) (room : blockSize (variant v) ≤ length out) where
+  abbrev K : Variant
+  K = variant v
+
+  abbrev B : List Bool
+  B = messageBits (variant v) m k
+
+  -- every check but those of the image passes
+  bits-ready : Ready (messageBitsChecks v m k) v (messageBits (variant v) m k) place out
+  bits-ready = record { passed = simp (named, number, le-ltb _ _ few); number = named; within = within; room = room }
+
+  module _ (s : List Bool) (ls : length s ≡ variant v .t) where
+    abbrev answer : Status
+    answer = recoverBitsStatus v m k place (imageOf (variant v) s) (length out)
+
+    -- no earlier check refuses
+    pub bits-state-asked : firstRefusal (askedBitsChecks v m k place (imageOf K s) (length out)) ≡ Done
+    bits-state-asked = any-asked bits-ready s ls
+
+    pub bits-state-or-done : (answer ≡ Refused NoBlock) ⊎ (answer ≡ Done)
+    unfolding recoverBitsStatus
+    bits-state-or-done = any-or-done bits-ready s ls
+
+    -- 8 exactly when no block leads to the state
+    pub bits-state-eight : (answer ≡ Refused NoBlock) ↔ NoneLeads K B place s
+    unfolding recoverBitsStatus
+    bits-state-eight = any-eight bits-ready s ls
+
+    -- the output is then as it was
+    pub bits-state-kept : answer ≡ Refused NoBlock → recoverBitsInto v m k place (imageOf K s) out ≡ out
+    unfolding recoverBitsStatus recoverBitsInto
+    bits-state-kept = any-kept bits-ready s ls
+
+    -- otherwise the caller finds the only block that does
+    pub bits-state-given : answer ≡ Done → (b : List Bool) × OnlyLeads K B place s b × Found v out b (recoverBitsInto v m k place (imageOf K s) out)
+    unfolding recoverBitsStatus recoverBitsInto
+    bits-state-given = any-given bits-ready s ls
+
+  -- the call is done, and the caller finds the block b, the only one that leads to the state s
+  abbrev pub BitsGives : List Bool → List Bool → Type 0
+  BitsGives s b =
+      (recoverBitsStatus v m k place (imageOf (variant v) s) (length out) ≡ Done)
+      × OnlyLeads (variant v) (messageBits (variant v) m k) place s b
+      × Found v out b (recoverBitsInto v m k place (imageOf (variant v) s) out)
+
+  -- every block is found again from the end state that it leads to
+  pub bits-block-found : (b : List Bool) → length b ≡ K .r → BitsGives (endStateWith K B place b) b
+  unfolding recoverBitsStatus recoverBitsInto
+  bits-block-found = any-found bits-ready
+
+  -- so is the message's own block from its own end state
+  pub bits-own-block : BitsGives (endState K B) (getD (blocksOf K B) place [])
+  unfolding recoverBitsStatus recoverBitsInto
+  bits-own-block = any-own bits-ready

@@ -6,14 +6,15 @@ use mathlib.Core.List.{List, [], _∷_, _++_, headD}
 use Prim.Native.Nat.{ℕ, zero, suc, _+_, _-_, _*_, _≤_, _<_}
 use native.Mathlib.Nat.{not-suc-le-zero, le-of-suc-le-suc}
 use native.Mathlib.Omega.{arith}
+use lib.Dec.{ltb}
 use lib.ListN.{length, take, drop, getD, replicate, length-drop}
 use lib.Seq.{length-take-le, take-add, drop-append-le}
 use borrow.Author.Tests.{ltb-true, ltb-false, not-true}
 use Rattle.answers.specs.declared.Refusal.the-variants.{NoBlock}
 use Rattle.answers.specs.declared.Status.{Status}
 use Rattle.answers.specs.declared.Status.the-variants.{Done, Refused}
-use Rattle.answers.specs.Checks.{when, firstRefusal}
-use Rattle.answers.specs.Outputs.{written, most}
+use Rattle.answers.specs.Checks.{Check, firstRefusal}
+use Rattle.answers.specs.Outputs.{written, most, mostBits}
 use Rattle.answers.proofs.Statuses.{kept}
 use Rattle.answers.proofs.Rows.{passing-says, row-first, row-second}
 use Rattle.answers.proofs.ByteLaws.{take-bytes}
@@ -26,42 +27,54 @@ use Rattle.standard.proofs.Tests.{true-not-false}
 use Rattle.standard.proofs.Variants.{Bounds, bounds, streams, sponge}
 use Rattle.sponge.specs.Layout.{packedState, clear, Holds}
 use Rattle.sponge.specs.Images.{isImage}
+use Rattle.sponge.specs.Parts.{isBitNumber}
 use Rattle.sponge.proofs.ImageLaws.{image-ready, image-state, image-read}
 use Rattle.sponge.proofs.Clear.{clear-append, clear-zeros, zeros-clear, clear-order}
 use Rattle.sponge.proofs.LayoutLaws.{packed-bits}
 use Rattle.sponge.proofs.SqueezeLaws.{output-bits}
 use Rattle.recover.specs.Difference.{difference}
-use Rattle.recover.specs.Recovering.{isEmpty, blockSize, askedChecks, leadingTo, recoverStatus, recoveredBlock, recoverInto}
+use Rattle.recover.specs.Recovering.{isEmpty, blockSize, placedChecks, leadingTo, foundChecks, recoveredBlock, messageChecks, messageBitsChecks}
+use Rattle.sponge.proofs.PartBytes.{limit-same}
 use Rattle.recover.proofs.LeadingLaws.{InBlock, blockFrom, difference-length, leading-none, leading-one}
 
--- ---- the checks
+-- ---- what passing the checks says
 
--- what the checks before the search ask
-pub record Asked (v : ℕ) (m : List ℕ) (place : ℕ) (image : List ℕ) (n : ℕ) : Type 0 where
+-- of a message all of whose bits count
+pub message-passed : (v n : ℕ) → firstRefusal (messageChecks v n) ≡ Done → (known v ≡ true) × (n ≤ most)
+message-passed v n e =
+    let p = passing-says (messageChecks v n) e in
+    (p .0, ltb-false _ _ (not-true _ (p .1 .0)))
+
+-- of one of whose last byte k bits count
+pub record BitsAsked (v : ℕ) (m : List ℕ) (k : ℕ) : Type 0 where
   pub number : known v ≡ true
+  pub bit-number : isBitNumber k (length m) ≡ true
   pub short : length m ≤ most
-  pub within : place < length (blocksOf (variant v) (messageBits m))
+  pub few : length (messageBits (variant v) m k) ≤ mostBits
+
+pub bits-passed : (v : ℕ) (m : List ℕ) (k : ℕ) → firstRefusal (messageBitsChecks v m k) ≡ Done → BitsAsked v m k
+bits-passed v m k e =
+    let p = passing-says (messageBitsChecks v m k) e in
+    let over : ltb mostBits (length (messageBits (variant v) m k)) ≡ false = not-true _ (p .1 .1 .0) in
+    record {
+      number = p .0;
+      bit-number = p .1 .0;
+      short = ltb-false _ _ (sym (limit-same (variant v) m k (p .1 .0)) ∙ over);
+      few = ltb-false _ _ over;
+    }
+
+-- of a place of a message, an image and an output, of a known variant
+pub record Placed (v : ℕ) (m : List Bool) (place : ℕ) (image : List ℕ) (n : ℕ) : Type 0 where
+  pub number : known v ≡ true
+  pub within : place < length (blocksOf (variant v) m)
   pub good : isImage (variant v) image ≡ true
   pub long : blockSize (variant v) ≤ n
 
-module _ (v : ℕ) (m : List ℕ) (place : ℕ) (image : List ℕ) (n : ℕ) where
-  -- what passing them says
-  pub checks-passed : firstRefusal (askedChecks v m place image n) ≡ Done → Asked v m place image n
-  checks-passed e =
-      let p = passing-says (askedChecks v m place image n) e in
-      record {
-        number = p .0;
-        short = ltb-false _ _ (not-true _ (p .1 .0));
-        within = ltb-true _ _ (p .1 .1 .0);
-        good = p .1 .1 .1 .0;
-        long = ltb-false _ _ (not-true _ (p .1 .1 .1 .1 .0));
-      }
-
-  -- once they have passed, what is left to decide is whether a block leads to the state
-  pub decided : firstRefusal (askedChecks v m place image n) ≡ Done
-      → recoverStatus v m place image n ≡ cond (not (isEmpty (leadingTo v m place image))) Done (Refused NoBlock)
-  unfolding recoverStatus
-  decided e = row-second (askedChecks v m place image n) (when (isEmpty (leadingTo v m place image)) NoBlock ∷ []) e
+pub checks-passed : (v : ℕ) → known v ≡ true → (m : List Bool) (place : ℕ) (image : List ℕ) (n : ℕ) → firstRefusal (placedChecks (variant v) m place image n) ≡ Done
+    → Placed v m place image n
+checks-passed v k m place image n e =
+    let p = passing-says (placedChecks (variant v) m place image n) e in
+    record { number = k; within = ltb-true _ _ (p .0); good = p .1 .0; long = ltb-false _ _ (not-true _ (p .1 .1 .0)) }
 
 -- ---- the difference in its bytes
 
@@ -132,72 +145,102 @@ module _ (v : ℕ) (k : known v ≡ true) (X : List Bool) (lX : length X ≡ var
       taken-bytes : (n i : ℕ) → getD (take n (pack (order (variant v)) 36 X)) i 0 < 256
       taken-bytes n i = take-bytes n (pack (order (variant v)) 36 X) (pack-bytes (order (variant v)) 36 X) i
 
+-- ---- rows of checks, and the output
+
+-- the answer of a row of checks, and what it leaves of an output
+abbrev pub Answered : List Check → List ℕ → List ℕ → Status → List ℕ → Type 0
+Answered row result out s out′ = (s ≡ firstRefusal row) × (out′ ≡ written s result out)
+
+module _ (xs ys : List Check) (result out : List ℕ) where
+  -- a row in front that refuses answers for both
+  pub row-refuses : (s : Status) → s ≡ firstRefusal xs → (s ≡ Done → ⊥) → Answered (xs ++ ys) result out s out
+  row-refuses s e r = (e ∙ sym (row-first xs ys (λ d. r (e ∙ d))), sym (kept s (result ++ drop (length result) out) out r))
+
+  -- behind one that passes the other answers
+  pub row-passes : firstRefusal xs ≡ Done → (s : Status) (out′ : List ℕ) → Answered ys result out s out′ → Answered (xs ++ ys) result out s out′
+  row-passes d s out′ a = (a .0 ∙ sym (row-second xs ys d), a .1)
+
+-- ---- the search
+
+-- the answer of the search for the block, and the output
+abbrev pub Searched : ℕ → List Bool → ℕ → List ℕ → List ℕ → Status → List ℕ → Type 0
+Searched v m place image out s out′ = Answered (foundChecks v m place image) (recoveredBlock v m place image) out s out′
+
+-- from what the code has read and found: x is the image at the front of 36 bytes, y the difference of the two states
+module _ (v : ℕ) (m : List Bool) (place : ℕ) (image out : List ℕ) (p : Placed v m place image (length out))
+    {x : List ℕ} (hx : (i : ℕ) → getD x i 0 < 256) (ex : x ≡ image ++ replicate (36 - length image) 0) where
+  abbrev K : Variant
+  K = variant v
+
+  abbrev between : List Bool → List Bool
+  between s = difference K m place s
+
+  abbrev S : List Bool
+  S = stateIn (variant v) image
+
+  -- the image is a state, as the way back asks
+  pub ready : Holds v x
+  ready = image-ready v (p .number) image (p .good) x hx ex
+
+  size : length S ≡ K .t
+  size = image-state v (p .number) image (p .good)
+
+  module _ {y : List ℕ} (ey : y ≡ packedState K (between (stateIn K x))) where
+    given : y ≡ packedState K (between S)
+    given = ey ∙ ap (λ (s : List Bool). packedState K (between s)) (image-read v (p .number) image (p .good) x hx ex)
+
+    long : length (between S) ≡ K .t
+    long = difference-length K (streams v (p .number)) (sponge v (p .number)) m place (p .within) S size
+
+    answers : (l : List (List Bool)) → leadingTo v m place image ≡ l → cond (not (isEmpty l)) Done (Refused NoBlock) ≡ firstRefusal (foundChecks v m place image)
+    answers l q = ap (λ (z : List (List Bool)). cond (not (isEmpty z)) Done (Refused NoBlock)) (sym q)
+
+    pub none-found : clear (drop (K .r) (bitsIn high-first y)) ≡ false → Searched v m place image out (Refused NoBlock) out
+    none-found z =
+        let none = leading-none K (streams v (p .number)) (sponge v (p .number)) m place (p .within) S size
+        (spare-set v (p .number) (between S) long y given z) in
+        (answers [] none, refl)
+
+    pub one-found : clear (drop (K .r) (bitsIn high-first y)) ≡ true → (out′ : List ℕ) → out′ ≡ take (blockSize K) y ++ drop (blockSize K) out
+        → Searched v m place image out Done out′
+    unfolding recoveredBlock headD
+    one-found z out′ f =
+        let one = leading-one K (streams v (p .number)) (sponge v (p .number)) m place (p .within) S size
+        (spare-clear v (p .number) (between S) long y given z) in
+        let bytes : take (blockSize K) y ≡ recoveredBlock v m place image =
+        front-bytes v (p .number) (between S) long y given z
+        ∙ ap (λ (l : List (List Bool)). pack high-first (blockSize K) (headD l [])) (sym one) in (
+          answers (blockFrom K (between S) ∷ []) one,
+          f ∙ ap₂ (λ (b : List ℕ) (n : ℕ). b ++ drop n out) bytes (sym (length-pack high-first (blockSize K) _)),
+        )
+
 -- ---- the operation
 
--- status and output after a call
-abbrev pub Left : ℕ → List ℕ → ℕ → List ℕ → List ℕ → Status → List ℕ → Type 0
-Left v m place image out s out′ = (s ≡ recoverStatus v m place image (length out)) × (out′ ≡ recoverInto v m place image out)
+-- the answer of the checks of the place and of the search, and the output
+abbrev pub AnsweredAt : ℕ → List Bool → ℕ → List ℕ → List ℕ → Status → List ℕ → Type 0
+AnsweredAt v m place image out s out′ =
+    Answered (placedChecks (variant v) m place image (length out) ++ foundChecks v m place image) (recoveredBlock v m place image) out s out′
 
-module _ (v : ℕ) (m : List ℕ) (place : ℕ) (image out : List ℕ) where
-  -- the answer tells what the output is
-  left : (s : Status) (out′ : List ℕ) → recoverStatus v m place image (length out) ≡ s → out′ ≡ written s (recoveredBlock v m place image) out
-      → Left v m place image out s out′
-  unfolding recoverInto
-  left s out′ e f = (sym e, f ∙ ap (λ (t : Status). written t (recoveredBlock v m place image) out) (sym e))
+-- all of it, behind a row of checks of the variant and the message
+module _ (row : List Check) (v : ℕ) (m : List Bool) (place : ℕ) (image out : List ℕ) where
+  abbrev rest : List Check
+  rest = placedChecks (variant v) m place image (length out) ++ foundChecks v m place image
 
-  pub left-refused : (s : Status) → s ≡ firstRefusal (askedChecks v m place image (length out)) → (s ≡ Done → ⊥) → Left v m place image out s out
-  unfolding recoverStatus
-  left-refused s e r =
-      left s out (row-first (askedChecks v m place image (length out)) (when (isEmpty (leadingTo v m place image)) NoBlock ∷ []) (λ d. r (e ∙ d)) ∙ sym e)
-      (sym (kept s (recoveredBlock v m place image ++ drop (length (recoveredBlock v m place image)) out) out r))
+  abbrev block : List ℕ
+  block = recoveredBlock v m place image
 
-  -- from what the code has read and found: x is the image at the front of 36 bytes, y the difference of the two states
-  module _ (e : firstRefusal (askedChecks v m place image (length out)) ≡ Done) {x : List ℕ} (hx : (i : ℕ) → getD x i 0 < 256) (ex : x ≡ image ++ replicate (36 - length image) 0) where
-    facts : Asked v m place image (length out)
-    facts = checks-passed v m place image (length out) e
+  -- as the operation's definitions say it
+  abbrev Left : Status → List ℕ → Type 0
+  Left s out′ = (s ≡ firstRefusal (row ++ rest)) × (out′ ≡ written (firstRefusal (row ++ rest)) block out)
 
-    abbrev K : Variant
-    K = variant v
+  settled : (s : Status) (out′ : List ℕ) → Answered (row ++ rest) block out s out′ → Left s out′
+  settled s out′ a = (a .0, a .1 ∙ ap (λ (t : Status). written t block out) (a .0))
 
-    abbrev between : List Bool → List Bool
-    between s = difference K (messageBits m) place s
+  -- the row refuses
+  pub left-refused : (s : Status) → s ≡ firstRefusal row → (s ≡ Done → ⊥) → Left s out
+  left-refused s e r = settled s out (row-refuses row rest block out s e r)
 
-    abbrev S : List Bool
-    S = stateIn (variant v) image
-
-    -- the image is a state, as the way back asks
-    pub ready : Holds v x
-    ready = image-ready v (facts .number) image (facts .good) x hx ex
-
-    size : length S ≡ K .t
-    size = image-state v (facts .number) image (facts .good)
-
-    module _ {y : List ℕ} (ey : y ≡ packedState K (between (stateIn K x))) where
-      given : y ≡ packedState K (between S)
-      given = ey ∙ ap (λ (s : List Bool). packedState K (between s)) (image-read v (facts .number) image (facts .good) x hx ex)
-
-      long : length (between S) ≡ K .t
-      long = difference-length K (streams v (facts .number)) (sponge v (facts .number)) (messageBits m) place (facts .within) S size
-
-      answers : (l : List (List Bool)) → leadingTo v m place image ≡ l → recoverStatus v m place image (length out) ≡ cond (not (isEmpty l)) Done (Refused NoBlock)
-      answers l q = decided v m place image (length out) e ∙ ap (λ (z : List (List Bool)). cond (not (isEmpty z)) Done (Refused NoBlock)) q
-
-      pub left-none : clear (drop (K .r) (bitsIn high-first y)) ≡ false → Left v m place image out (Refused NoBlock) out
-      left-none z =
-          left (Refused NoBlock) out
-          (answers []
-          (leading-none K (streams v (facts .number)) (sponge v (facts .number)) (messageBits m) place (facts .within) S size
-          (spare-set v (facts .number) (between S) long y given z)))
-          refl
-
-      pub left-found : clear (drop (K .r) (bitsIn high-first y)) ≡ true → (out′ : List ℕ) → out′ ≡ take (blockSize K) y ++ drop (blockSize K) out
-          → Left v m place image out Done out′
-      unfolding recoveredBlock headD
-      left-found z out′ f =
-          let one = leading-one K (streams v (facts .number)) (sponge v (facts .number)) (messageBits m) place (facts .within) S size
-          (spare-clear v (facts .number) (between S) long y given z) in
-          let bytes : take (blockSize K) y ≡ recoveredBlock v m place image =
-          front-bytes v (facts .number) (between S) long y given z
-          ∙ ap (λ (l : List (List Bool)). pack high-first (blockSize K) (headD l [])) (sym one) in
-          left Done out′ (answers (blockFrom K (between S) ∷ []) one)
-          (f ∙ ap₂ (λ (b : List ℕ) (n : ℕ). b ++ drop n out) bytes (sym (length-pack high-first (blockSize K) _)))
+  -- the row passes, and the bits that the code is given are the message's
+  pub left-behind : firstRefusal row ≡ Done → (given : List Bool) → given ≡ m → (s : Status) (out′ : List ℕ) → AnsweredAt v given place image out s out′ → Left s out′
+  left-behind d given e s out′ a =
+      settled s out′ (row-passes row rest block out d s out′ (subst (λ (x : List Bool). AnsweredAt v x place image out s out′) e a))

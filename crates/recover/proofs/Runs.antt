@@ -1,6 +1,6 @@
 -- The blocks of a message, as the code makes them, run forward and taken back on the bytes that hold states; and two states xored.
 -- Assumes nothing.
-use mathlib.Core.Path.{_≡_, refl, sym, ap, ap₂, _∙_}
+use mathlib.Core.Path.{_≡_, sym, ap, ap₂, _∙_}
 use mathlib.Core.Bool.{Bool, true, false}
 use mathlib.Core.List.{List, [], _∷_, _++_}
 use Prim.Native.Nat.{ℕ, _+_, _-_, _*_, _/_, _^_, _≤_, _<_}
@@ -11,69 +11,73 @@ use mir.Syntax.{w64}
 use mir.Val.{Fits}
 use lib.ListN.{length, take, drop, getD, replicate}
 use lib.Seq.{drop-cons, drop-length}
-use Rattle.answers.specs.Outputs.{most}
-use Rattle.standard.specs.Bits.{Order, bitsIn, filled, xorInto}
+use Rattle.standard.specs.Bits.{Order, high-first, bitsIn, filled, xorInto}
 use Rattle.standard.specs.Rounds.{backward}
 use Rattle.standard.specs.Sponge.{Variant, order, permutation, startState, spongePadding, unstep, unrun, stateIn}
-use Rattle.standard.specs.Chain.{messageBits, padded, wholeBlocks, blocksOf, run}
+use Rattle.standard.specs.Chain.{padded, wholeBlocks, blocksOf, run}
 use Rattle.standard.specs.Variants.{variant, known}
 use Rattle.standard.proofs.BitLaws.{length-filled, length-xorInto, xorInto-append, xorInto-zeros}
 use Rattle.standard.proofs.TakenBack.{unrun-one, unrun-none, unrun-length, before-length, wanted-length}
 use Rattle.standard.proofs.Streaming.{Streams}
-use Rattle.standard.proofs.Sponge.{sponge-count}
-use Rattle.standard.proofs.Variants.{bounds, streams, sponge, message-block-count}
+use Rattle.standard.proofs.PartBytes.{bit-block-count}
+use Rattle.standard.proofs.Variants.{bounds, streams, sponge}
 use Rattle.sponge.specs.Layout.{stateRoom, packedState, packedBlock, blockIn, Holds}
-use Rattle.sponge.specs.Blocks.{heldThen, withOne, firstBlocks}
-use Rattle.sponge.proofs.BlockRows.{padded-at, padded-take, heldThen-alone}
+use Rattle.sponge.specs.Blocks.{heldThen, firstBlocks}
+use Rattle.sponge.proofs.BlockRows.{marked-at, marked-take, heldThen-alone}
 use Rattle.sponge.proofs.BlockRuns.{block-read, block-is, place-le}
 use Rattle.sponge.proofs.LayoutLaws.{packed-bits, holds}
 use Rattle.sponge.proofs.States.{stored, stored-ready}
 use Rattle.recover.specs.Difference.{stateBefore, stateBehind, difference}
+use Rattle.sponge.specs.Parts.{messageIn, HoldsMessage}
+use Rattle.sponge.proofs.PartBytes.{held-length}
 
-module _ (v : ℕ) (k : known v ≡ true) (m : List ℕ) where
+module _ (v : ℕ) (k : known v ≡ true) {front : List ℕ} {last n : ℕ} (h : HoldsMessage front last n) where
   abbrev H : Variant
   H = variant v
 
   abbrev M : List Bool
-  M = messageBits m
+  M = messageIn front last n
+
+  abbrev bytes : List ℕ
+  bytes = front ++ last ∷ []
 
   abbrev bs : List (List Bool)
-  bs = blocksOf (variant v) (messageBits m)
+  bs = blocksOf (variant v) (messageIn front last n)
+
+  count : length bs ≡ length M / H .r + 1
+  count = bit-block-count v k M
 
   -- there are few enough
-  pub few : length m ≤ most → length bs ≤ 2 ^ 32
-  few l = omega (arith, message-block-count v k m, div-le-self (8 * length m) (H .r))
+  pub few : length bs ≤ 2 ^ 32
+  few = omega (arith, count, div-le-self (length M) (H .r), held-length h, h .short)
 
   -- and the place of each, in half bytes, is far below the limits of the machine's numbers
-  module _ (q : ℕ) (eq : q ≡ H .r / 4) (j : ℕ) (short : length m ≤ most) (l : j ≤ length bs) where
+  module _ (q : ℕ) (eq : q ≡ H .r / 4) (j : ℕ) (l : j ≤ length bs) where
     pub place-low : j * q ≤ 2 ^ 40
-    place-low = place-le v k q eq j (omega (arith, few short))
+    place-low = place-le v k q eq j (omega (arith, few))
 
     pub place-fits : Fits w64 (j * q)
     place-fits = omega (arith, place-low)
 
-  -- ---- the blocks of the padded message are those of the message and the added bit
-
-  count : length bs ≡ length M / H .r + 1
-  count = sponge-count H (streams v k) (sponge v k) M
+  -- ---- the blocks of the padded message are those of the bytes
 
   row : bs ≡ wholeBlocks (H .r) (M ++ spongePadding (H .r) (length M))
   unfolding blocksOf padded
   row = ap (λ (p : List Bool). wholeBlocks (H .r) (M ++ p)) (sponge v k .padding-is (length M))
 
-  block-at : (j : ℕ) → j < length bs → getD bs j [] ≡ filled (H .r) (drop (j * H .r) (withOne M))
-  block-at j l = ap (λ (x : List (List Bool)). getD x j []) row ∙ padded-at (H .r) (streams v k .rate-pos) M (length M) j refl (omega (arith, count))
+  block-at : (j : ℕ) → j < length bs → getD bs j [] ≡ filled (H .r) (drop (j * H .r) (bitsIn high-first bytes))
+  block-at j l = ap (λ (x : List (List Bool)). getD x j []) row ∙ marked-at (H .r) (streams v k .rate-pos) M bytes (h .marked) j (omega (arith, count))
 
-  first-blocks : (j : ℕ) → j ≤ length bs → take j bs ≡ firstBlocks (H .r) j (withOne M)
-  first-blocks j l = ap (take j) row ∙ padded-take (H .r) (streams v k .rate-pos) M (length M) j refl (omega (arith, count))
+  first-blocks : (j : ℕ) → j ≤ length bs → take j bs ≡ firstBlocks (H .r) j (bitsIn high-first bytes)
+  first-blocks j l = ap (take j) row ∙ marked-take (H .r) (streams v k .rate-pos) M bytes (h .marked) j (omega (arith, count))
 
   -- ---- run forward, with nothing held before the message
 
   run-before : (s x held : List ℕ) (j : ℕ) → j ≤ length bs → s ≡ packedState H (startState H)
-      → x ≡ packedState H (run H (stateIn H s) (firstBlocks (H .r) j (withOne (heldThen held 0 m)))) → x ≡ packedState H (run H (startState H) (take j bs))
+      → x ≡ packedState H (run H (stateIn H s) (firstBlocks (H .r) j (heldThen held 0 bytes))) → x ≡ packedState H (run H (startState H) (take j bs))
   run-before s x held j l es ex =
       ex
-      ∙ ap₂ (λ (y z : List Bool). packedState H (run H y (firstBlocks (H .r) j (withOne z)))) (stored v k s (startState H) (streams v k .start-length) es) (heldThen-alone held m)
+      ∙ ap₂ (λ (y z : List Bool). packedState H (run H y (firstBlocks (H .r) j z))) (stored v k s (startState H) (streams v k .start-length) es) (heldThen-alone held bytes)
       ∙ ap (λ (z : List (List Bool)). packedState H (run H (startState H) z)) (sym (first-blocks j l))
 
   -- ---- taken back from the state e
@@ -89,19 +93,23 @@ module _ (v : ℕ) (k : known v ≡ true) (m : List ℕ) where
     pub back-start : (j : ℕ) → j ≡ length bs → e ≡ before j
     back-start j q = sym (ap before q ∙ ap (unrun H e) (drop-length bs) ∙ unrun-none H (sponge v k) e)
 
+    -- the same place, as the loop counts it before and behind a turn
+    pub back-at : (i j : ℕ) → i ≡ j → (s : List ℕ) → s ≡ packedState H (before i) → s ≡ packedState H (before j)
+    back-at i j p s q = q ∙ ap (λ (n : ℕ). packedState H (before n)) p
+
     pub back-ready : (j : ℕ) (s : List ℕ) → s ≡ packedState H (before j) → Holds v s
     back-ready j s q = stored-ready v k s (before j) (before-size j) q
 
     pub back-more : (q : ℕ) → q ≡ H .r / 4 → (j : ℕ) (s held x next : List ℕ) → j < length bs → s ≡ packedState H (before (j + 1))
-        → x ≡ packedBlock (filled (4 * q) (drop (4 * (j * q)) (withOne (heldThen held 0 m))))
+        → x ≡ packedBlock (filled (4 * q) (drop (4 * (j * q)) (heldThen held 0 bytes)))
         → next ≡ packedState H (unstep H (stateIn H s) (blockIn H x)) → next ≡ packedState H (before j)
     back-more q eq j s held x next l es ex en =
-        let B : List Bool = filled (H .r) (drop (j * H .r) (withOne M)) in
+        let B : List Bool = filled (H .r) (drop (j * H .r) (bitsIn high-first bytes)) in
         let block : x ≡ packedBlock B =
-        ex ∙ ap packedBlock (block-is v k q eq (withOne (heldThen held 0 m)) j) ∙ ap (λ (z : List Bool). packedBlock (filled (H .r) (drop (j * H .r) (withOne z)))) (heldThen-alone held m) in
+        ex ∙ ap packedBlock (block-is v k q eq (heldThen held 0 bytes) j) ∙ ap (λ (z : List Bool). packedBlock (filled (H .r) (drop (j * H .r) z))) (heldThen-alone held bytes) in
         en
         ∙ ap₂ (λ (y z : List Bool). packedState H (unstep H y z)) (stored v k s (before (j + 1)) (before-size (j + 1)) es)
-        (block-read v k x B (length-filled (H .r) (drop (j * H .r) (withOne M))) block ∙ sym (block-at j l))
+        (block-read v k x B (length-filled (H .r) (drop (j * H .r) (bitsIn high-first bytes))) block ∙ sym (block-at j l))
         ∙ ap (packedState H)
         (sym (ap (unrun H e) (drop-cons bs j [] l ∙ ap (λ (n : ℕ). getD bs j [] ∷ drop n bs) (sym (add-one j)))
         ∙ unrun-one H (sponge v k) e (getD bs j []) (drop (j + 1) bs)))
@@ -124,20 +132,25 @@ states-xored v k p q x S Z lS lZ hx lx ep eq ex =
     ∙ ap (λ (l : List Bool). xorInto S Z ++ l) (xorInto-zeros (replicate (288 - t) false) (288 - t)))
 
 -- the state before the place, run forward, and the state behind it, permuted back, xored
-pub difference-held : (v : ℕ) → known v ≡ true → (m : List ℕ) (e : List Bool) → length e ≡ variant v .t → (place : ℕ) → place < length (blocksOf (variant v) (messageBits m))
-    → (s x held y z r : List ℕ) → s ≡ packedState (variant v) (startState (variant v))
-    → x ≡ packedState (variant v) (run (variant v) (stateIn (variant v) s) (firstBlocks (variant v .r) place (withOne (heldThen held 0 m))))
-    → y ≡ packedState (variant v) (stateBehind (variant v) (messageBits m) place e)
-    → z ≡ packedState (variant v) (permutation (variant v) backward (stateIn (variant v) y))
-    → ((i : ℕ) → getD r i 0 < 256) → length r ≡ stateRoom → ((o : Order) → bitsIn o r ≡ xorInto (bitsIn o x) (bitsIn o z))
-    → r ≡ packedState (variant v) (difference (variant v) (messageBits m) place e)
-difference-held v k m e le place within s x held y z r es ex ey ez hr lr er =
-    let H : Variant = variant v in
-    let M : List Bool = messageBits m in
-    let g : Streams H = streams v k in
-    states-xored v k x z r (stateBefore H M place) (permutation H backward (stateBehind H M place e))
-    (before-length H g (sponge v k) (startState H) (g .start-length) (blocksOf H M) place within e le)
-    (wanted-length H g (sponge v k) (startState H) (g .start-length) (blocksOf H M) place within e le)
-    hr lr (run-before v k m s x held place (omega arith) es ex)
-    (ez ∙ ap (λ (u : List Bool). packedState H (permutation H backward u)) (stored v k y (stateBehind H M place e) (unrun-length H (sponge v k) _ e le) ey))
-    er
+module _ (v : ℕ) (k : known v ≡ true) {front : List ℕ} {last n : ℕ} (h : HoldsMessage front last n) (e : List Bool) (le : length e ≡ variant v .t)
+    (place : ℕ) (within : place < length (blocksOf (variant v) (messageIn front last n))) where
+  abbrev K : Variant
+  K = variant v
+
+  abbrev m : List Bool
+  m = messageIn front last n
+
+  pub difference-held : (s x held y z r : List ℕ) → s ≡ packedState K (startState K)
+      → x ≡ packedState K (run K (stateIn K s) (firstBlocks (K .r) place (heldThen held 0 (front ++ last ∷ []))))
+      → y ≡ packedState K (stateBehind K m place e)
+      → z ≡ packedState K (permutation K backward (stateIn K y))
+      → ((i : ℕ) → getD r i 0 < 256) → length r ≡ stateRoom → ((o : Order) → bitsIn o r ≡ xorInto (bitsIn o x) (bitsIn o z))
+      → r ≡ packedState K (difference K m place e)
+  difference-held s x held y z r es ex ey ez hr lr er =
+      let g : Streams K = streams v k in
+      states-xored v k x z r (stateBefore K m place) (permutation K backward (stateBehind K m place e))
+      (before-length K g (sponge v k) (startState K) (g .start-length) (blocksOf K m) place within e le)
+      (wanted-length K g (sponge v k) (startState K) (g .start-length) (blocksOf K m) place within e le)
+      hr lr (run-before v k h s x held place (omega arith) es ex)
+      (ez ∙ ap (λ (u : List Bool). packedState K (permutation K backward u)) (stored v k y (stateBehind K m place e) (unrun-length K (sponge v k) _ e le) ey))
+      er

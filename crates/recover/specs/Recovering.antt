@@ -1,4 +1,4 @@
--- The operation that finds the block: its refusals in order, and the caller's output.
+-- The operation that finds the block: its refusals in order, and the caller's output, for a message of whole bytes and for one that may end inside a byte.
 -- Assumes nothing.
 use mathlib.Core.Bool.{Bool, true, false}
 use mathlib.Core.List.{List, [], _∷_, _++_, headD}
@@ -7,13 +7,14 @@ use lib.Dec.{ltb}
 use lib.ListN.{length}
 use Rattle.standard.specs.Bits.{high-first, pack, bytesFor}
 use Rattle.standard.specs.Sponge.{Variant, stateIn}
-use Rattle.standard.specs.Chain.{messageBits, blocksOf}
+use Rattle.standard.specs.Chain.{byteBits, messageBits, blocksOf}
 use Rattle.standard.specs.Variants.{variant, known}
-use Rattle.answers.specs.declared.Refusal.the-variants.{UnknownVariant, TooLong, OutputTooShort, BadImage, OutOfRange, NoBlock}
+use Rattle.answers.specs.declared.Refusal.the-variants.{UnknownVariant, TooLong, OutputTooShort, BadImage, OutOfRange, NoBlock, BadBitNumber}
 use Rattle.answers.specs.declared.Status.{Status}
 use Rattle.answers.specs.Checks.{Check, unless, when, firstRefusal}
-use Rattle.answers.specs.Outputs.{written, most}
+use Rattle.answers.specs.Outputs.{written, most, mostBits}
 use Rattle.sponge.specs.Images.{isImage}
+use Rattle.sponge.specs.Parts.{isBitNumber}
 use Rattle.recover.specs.Leading.{leading}
 
 -- whether a row has no block
@@ -25,32 +26,73 @@ isEmpty (b ∷ bs) = false
 abbrev pub blockSize : Variant → ℕ
 blockSize H = bytesFor (H .r)
 
--- Lost block, before the search: 1; 4; 7; 6; 5
-abbrev pub askedChecks : ℕ → List ℕ → ℕ → List ℕ → ℕ → List Check
-askedChecks v m place image n =
-    unless (known v) UnknownVariant
-    ∷ when (ltb most (length m)) TooLong
-    ∷ unless (ltb place (length (blocksOf (variant v) (messageBits m)))) OutOfRange
-    ∷ unless (isImage (variant v) image) BadImage
-    ∷ when (ltb n (blockSize (variant v))) OutputTooShort
+-- ---- of any bit string
+
+-- the place, the image and the output of n bytes: 7; 6; 5
+abbrev pub placedChecks : Variant → List Bool → ℕ → List ℕ → ℕ → List Check
+placedChecks H m place image n =
+    unless (ltb place (length (blocksOf H m))) OutOfRange
+    ∷ unless (isImage H image) BadImage
+    ∷ when (ltb n (blockSize H)) OutputTooShort
     ∷ []
 
 -- the blocks that lead to the state of an image
-abbrev pub leadingTo : ℕ → List ℕ → ℕ → List ℕ → List (List Bool)
-leadingTo v m place image = leading (variant v) (messageBits m) place (stateIn (variant v) image)
+abbrev pub leadingTo : ℕ → List Bool → ℕ → List ℕ → List (List Bool)
+leadingTo v m place image = leading (variant v) m place (stateIn (variant v) image)
+
+-- the search: 8
+abbrev pub foundChecks : ℕ → List Bool → ℕ → List ℕ → List Check
+foundChecks v m place image = when (isEmpty (leadingTo v m place image)) NoBlock ∷ []
+
+-- the block that leads there, packed like an image (SPONGENT's are whole bytes, which both orders pack alike)
+unfoldable pub recoveredBlock : ℕ → List Bool → ℕ → List ℕ → List ℕ
+recoveredBlock v m place image = pack high-first (blockSize (variant v)) (headD (leadingTo v m place image) [])
+
+-- ---- of a message all of whose bits count
+
+-- the variant and a message of n bytes: 1; 4
+abbrev pub messageChecks : ℕ → ℕ → List Check
+messageChecks v n = unless (known v) UnknownVariant ∷ when (ltb most n) TooLong ∷ []
+
+-- Lost block, before the search: 1; 4; 7; 6; 5
+abbrev pub askedChecks : ℕ → List ℕ → ℕ → List ℕ → ℕ → List Check
+askedChecks v m place image n = messageChecks v (length m) ++ placedChecks (variant v) (byteBits m) place image n
 
 -- Lost block: 1; 4; 7; 6; 5; 8
 abbrev pub recoverChecks : ℕ → List ℕ → ℕ → List ℕ → ℕ → List Check
-recoverChecks v m place image n = askedChecks v m place image n ++ when (isEmpty (leadingTo v m place image)) NoBlock ∷ []
+recoverChecks v m place image n = askedChecks v m place image n ++ foundChecks v (byteBits m) place image
 
 -- the answer
 unfoldable pub recoverStatus : ℕ → List ℕ → ℕ → List ℕ → ℕ → Status
 recoverStatus v m place image n = firstRefusal (recoverChecks v m place image n)
 
--- the block that leads there, packed like an image (SPONGENT's are whole bytes, which both orders pack alike)
-unfoldable pub recoveredBlock : ℕ → List ℕ → ℕ → List ℕ → List ℕ
-recoveredBlock v m place image = pack high-first (blockSize (variant v)) (headD (leadingTo v m place image) [])
-
 -- the caller's output after it
 unfoldable pub recoverInto : ℕ → List ℕ → ℕ → List ℕ → List ℕ → List ℕ
-recoverInto v m place image out = written (recoverStatus v m place image (length out)) (recoveredBlock v m place image) out
+recoverInto v m place image out = written (recoverStatus v m place image (length out)) (recoveredBlock v (byteBits m) place image) out
+
+-- ---- of a message of whose last byte k bits count (document 02, Q-6)
+
+-- the variant, the bit number and the message: 1; 15; 4
+abbrev pub messageBitsChecks : ℕ → List ℕ → ℕ → List Check
+messageBitsChecks v m k =
+    unless (known v) UnknownVariant
+    ∷ unless (isBitNumber k (length m)) BadBitNumber
+    ∷ when (ltb mostBits (length (messageBits (variant v) m k))) TooLong
+    ∷ []
+
+-- Lost block, before the search: 1; 15; 4; 7; 6; 5
+abbrev pub askedBitsChecks : ℕ → List ℕ → ℕ → ℕ → List ℕ → ℕ → List Check
+askedBitsChecks v m k place image n = messageBitsChecks v m k ++ placedChecks (variant v) (messageBits (variant v) m k) place image n
+
+-- Lost block: 1; 15; 4; 7; 6; 5; 8
+abbrev pub recoverBitsChecks : ℕ → List ℕ → ℕ → ℕ → List ℕ → ℕ → List Check
+recoverBitsChecks v m k place image n = askedBitsChecks v m k place image n ++ foundChecks v (messageBits (variant v) m k) place image
+
+-- the answer
+unfoldable pub recoverBitsStatus : ℕ → List ℕ → ℕ → ℕ → List ℕ → ℕ → Status
+recoverBitsStatus v m k place image n = firstRefusal (recoverBitsChecks v m k place image n)
+
+-- the caller's output after it
+unfoldable pub recoverBitsInto : ℕ → List ℕ → ℕ → ℕ → List ℕ → List ℕ → List ℕ
+recoverBitsInto v m k place image out =
+    written (recoverBitsStatus v m k place image (length out)) (recoveredBlock v (messageBits (variant v) m k) place image) out

@@ -1,23 +1,27 @@
 // The block of a message that leads to a given end state: the state is run forward to its place, the end state back to it.
+// The inner functions take a message as its whole bytes, a last byte with the rest of its bits and the padding's 1 bit, and the number of its bits.
 ghost use mathlib.Core.Path.{_≡_};
-ghost use mathlib.Core.Bool.{true};
+ghost use mathlib.Core.Bool.{Bool, true};
+ghost use mathlib.Core.List.{List, _++_};
 ghost use Prim.Native.Nat.{_≤_, _<_};
 ghost use lib.ListN.{length};
 ghost use Rattle.standard.specs.Sponge.{stateIn};
-ghost use Rattle.standard.specs.Chain.{messageBits, blocksOf};
+ghost use Rattle.standard.specs.Chain.{blocksOf};
 ghost use Rattle.standard.specs.Variants.{variant, known};
 ghost use Rattle.answers.specs.declared.Status.the-variants.{Done};
 ghost use Rattle.answers.specs.Checks.{firstRefusal};
-ghost use Rattle.answers.specs.Outputs.{most};
+ghost use Rattle.answers.specs.Outputs.{written, mostBits};
 ghost use Rattle.sponge.specs.Layout.{packedState, Holds};
+ghost use Rattle.sponge.specs.Parts.{messageIn, HoldsMessage};
 ghost use Rattle.recover.specs.Difference.{stateBehind, difference};
-ghost use Rattle.recover.specs.Recovering.{blockSize, askedChecks, recoverStatus, recoverInto};
+ghost use Rattle.recover.specs.Recovering.{blockSize, placedChecks, foundChecks, recoveredBlock, messageChecks, recoverStatus, recoverInto, messageBitsChecks, recoverBitsStatus, recoverBitsInto};
 use answers::Refusal;
 use answers::Status;
 use sponge::Direction;
 use sponge::STATE_BYTES;
 use sponge::blocks;
 use sponge::images;
+use sponge::parts;
 use sponge::sizes;
 use sponge::step;
 
@@ -28,29 +32,36 @@ pub fn block_bytes(v: u8) -> usize
     (sizes::block_bits(v) as usize + 7) / 8
 }
 
-// How many blocks the padded message has.
-fn block_count(v: u8, message: &[u8]) -> usize
+// How many blocks a message of so many bits has once it is padded.
+fn block_count(v: u8, bits: usize) -> usize
     requires { ⌜ known v ≡ true ⌝ }
-    requires { ⌜ length (now message) ≤ most ⌝ }
-    ensures { λ r. ⌜ r ≡ length (blocksOf (variant v) (messageBits (now (message .entry)))) ⌝ }
+    requires { ⌜ bits ≤ mostBits ⌝ }
+    ensures { λ r. ⌜ ((m : List Bool) → length m ≡ bits → r ≡ length (blocksOf (variant v) m)) ⌝ }
 {
-    8 * message.len() / (sizes::block_bits(v) as usize) + 1
+    bits / (sizes::block_bits(v) as usize) + 1
 }
 
 // The state behind block `place` if the message ends in the state `end`: the blocks behind it taken back, the last first.
-fn run_back(v: u8, message: &[u8], place: usize, end: [u8; STATE_BYTES]) -> [u8; STATE_BYTES]
+fn run_back(
+    v: u8,
+    front: &[u8],
+    last: u8,
+    bits: usize,
+    place: usize,
+    end: [u8; STATE_BYTES],
+) -> [u8; STATE_BYTES]
     requires { ⌜ known v ≡ true ⌝ }
-    requires { ⌜ length (now message) ≤ most ⌝ }
-    requires { ⌜ place < length (blocksOf (variant v) (messageBits (now message))) ⌝ }
+    requires { ⌜ HoldsMessage (now front) last bits ⌝ }
+    requires { ⌜ place < length (blocksOf (variant v) (messageIn (now front) last bits)) ⌝ }
     requires { ⌜ Holds v end ⌝ }
-    ensures { λ r. ⌜ r ≡ packedState (variant v) (stateBehind (variant v) (messageBits (now (message .entry))) place (stateIn (variant v) end)) ⌝ }
+    ensures { λ r. ⌜ r ≡ packedState (variant v) (stateBehind (variant v) (messageIn (now (front .entry)) last bits) place (stateIn (variant v) end)) ⌝ }
 {
     let q = (sizes::block_bits(v) / 4) as usize;
-    let n = block_count(v, message);
+    let n = block_count(v, bits);
     let mut s = end;
     for i in place + 1..n {
         let j = place + n - i;
-        let block = blocks::block_at(b"", 0, message, j * q, q);
+        let block = blocks::block_at(b"", 0, front, last, j * q, q);
         let before = step::unstepped(v, s, block);
         s = before;
     }
@@ -58,32 +69,59 @@ fn run_back(v: u8, message: &[u8], place: usize, end: [u8; STATE_BYTES]) -> [u8;
 }
 
 // What the block at the place has to change: the state before it, and the one that the permutation has to take to the state behind it, xored.
-fn difference(v: u8, message: &[u8], place: usize, end: [u8; STATE_BYTES]) -> [u8; STATE_BYTES]
+fn difference(
+    v: u8,
+    front: &[u8],
+    last: u8,
+    bits: usize,
+    place: usize,
+    end: [u8; STATE_BYTES],
+) -> [u8; STATE_BYTES]
     requires { ⌜ known v ≡ true ⌝ }
-    requires { ⌜ length (now message) ≤ most ⌝ }
-    requires { ⌜ place < length (blocksOf (variant v) (messageBits (now message))) ⌝ }
+    requires { ⌜ HoldsMessage (now front) last bits ⌝ }
+    requires { ⌜ place < length (blocksOf (variant v) (messageIn (now front) last bits)) ⌝ }
     requires { ⌜ Holds v end ⌝ }
-    ensures { λ r. ⌜ r ≡ packedState (variant v) (difference (variant v) (messageBits (now (message .entry))) place (stateIn (variant v) end)) ⌝ }
+    ensures { λ r. ⌜ r ≡ packedState (variant v) (difference (variant v) (messageIn (now (front .entry)) last bits) place (stateIn (variant v) end)) ⌝ }
 {
     let start = step::start(v);
-    let before = sponge::outcome::run_blocks(v, start, b"", 0, message, place);
-    let behind = run_back(v, message, place, end);
+    let before = sponge::outcome::run_blocks(v, start, b"", 0, front, last, place);
+    let behind = run_back(v, front, last, bits, place, end);
     let wanted = step::permuted(v, behind, Direction::Backward);
     step::xored(before, &wanted)
 }
 
-// Refusals 1, 4, 7, 6, 5, for an output of n bytes.
-fn check(variant: u32, message: &[u8], place: usize, image: &[u8], n: usize) -> Status
-    ensures { λ r. ⌜ r ≡ firstRefusal (askedChecks variant (now (message .entry)) place (now (image .entry)) n) ⌝ }
+// The block that leads to the state of an image, written over the front of the output: refusal 8 where none does.
+fn put_block(
+    v: u8,
+    front: &[u8],
+    last: u8,
+    bits: usize,
+    place: usize,
+    image: &[u8],
+    out: &mut [u8],
+) -> Status
+    requires { ⌜ known v ≡ true ⌝ }
+    requires { ⌜ HoldsMessage (now front) last bits ⌝ }
+    requires { ⌜ firstRefusal (placedChecks (variant v) (messageIn (now front) last bits) place (now image) (length (now out))) ≡ Done ⌝ }
+    ensures { λ r. ⌜ (r ≡ firstRefusal (foundChecks v (messageIn (now (front .entry)) last bits) place (now (image .entry))))
+        × (now (out .exit) ≡ written r (recoveredBlock v (messageIn (now (front .entry)) last bits) place (now (image .entry))) (now (out .entry))) ⌝ }
 {
-    if !sizes::is_known(variant) {
-        return Status::Refused(Refusal::UnknownVariant);
+    let end = images::at_front(image);
+    let block = difference(v, front, last, bits, place, end);
+    if !images::clear_from(&block, sizes::block_bits(v) as usize) {
+        return Status::Refused(Refusal::NoBlock);
     }
-    let v = variant as u8;
-    if answers::MOST < message.len() {
-        return Status::Refused(Refusal::TooLong);
-    }
-    if block_count(v, message) <= place {
+    images::copy_front(&block, block_bytes(v), out);
+    Status::Done
+}
+
+// Whether a message of so many bits has a block at the place, the image is one, and n bytes of output hold a block: refusals 7, 6, 5.
+fn check_place(v: u8, bits: usize, place: usize, image: &[u8], n: usize) -> Status
+    requires { ⌜ known v ≡ true ⌝ }
+    requires { ⌜ bits ≤ mostBits ⌝ }
+    ensures { λ r. ⌜ ((m : List Bool) → length m ≡ bits → r ≡ firstRefusal (placedChecks (variant v) m place (now (image .entry)) n)) ⌝ }
+{
+    if block_count(v, bits) <= place {
         return Status::Refused(Refusal::OutOfRange);
     }
     if !images::is_image(v, image) {
@@ -95,18 +133,39 @@ fn check(variant: u32, message: &[u8], place: usize, image: &[u8], n: usize) -> 
     Status::Done
 }
 
-// The block that leads to the state of an image, written over the front of the output: refusal 8 where none does.
-fn put_block(v: u8, message: &[u8], place: usize, image: &[u8], out: &mut [u8]) -> Status
-    requires { ⌜ firstRefusal (askedChecks v (now message) place (now image) (length (now out))) ≡ Done ⌝ }
-    ensures { λ r. ⌜ (r ≡ recoverStatus v (now (message .entry)) place (now (image .entry)) (length (now (out .entry))))
-        × (now (out .exit) ≡ recoverInto v (now (message .entry)) place (now (image .entry)) (now (out .entry))) ⌝ }
+// The block at a place of a message within the limit: refusals 7, 6, 5, 8.
+fn recover_at(
+    v: u8,
+    front: &[u8],
+    last: u8,
+    bits: usize,
+    place: usize,
+    image: &[u8],
+    out: &mut [u8],
+) -> Status
+    requires { ⌜ known v ≡ true ⌝ }
+    requires { ⌜ HoldsMessage (now front) last bits ⌝ }
+    ensures { λ r. ⌜ (r ≡ firstRefusal (placedChecks (variant v) (messageIn (now (front .entry)) last bits) place (now (image .entry)) (length (now (out .entry)))
+        ++ foundChecks v (messageIn (now (front .entry)) last bits) place (now (image .entry))))
+        × (now (out .exit) ≡ written r (recoveredBlock v (messageIn (now (front .entry)) last bits) place (now (image .entry))) (now (out .entry))) ⌝ }
 {
-    let end = images::at_front(image);
-    let block = difference(v, message, place, end);
-    if !images::clear_from(&block, sizes::block_bits(v) as usize) {
-        return Status::Refused(Refusal::NoBlock);
+    let s = check_place(v, bits, place, image, out.len());
+    let Status::Done = s else {
+        return s;
+    };
+    put_block(v, front, last, bits, place, image, out)
+}
+
+// Whether a message of n bytes may be asked about: refusals 1, 4.
+fn check_message(variant: u32, n: usize) -> Status
+    ensures { λ r. ⌜ r ≡ firstRefusal (messageChecks variant n) ⌝ }
+{
+    if !sizes::is_known(variant) {
+        return Status::Refused(Refusal::UnknownVariant);
     }
-    images::copy_front(&block, block_bytes(v), out);
+    if answers::MOST < n {
+        return Status::Refused(Refusal::TooLong);
+    }
     Status::Done
 }
 
@@ -115,10 +174,53 @@ pub fn recover(variant: u32, message: &[u8], place: usize, image: &[u8], out: &m
     ensures { λ r. ⌜ (r ≡ recoverStatus variant (now (message .entry)) place (now (image .entry)) (length (now (out .entry))))
         × (now (out .exit) ≡ recoverInto variant (now (message .entry)) place (now (image .entry)) (now (out .entry))) ⌝ }
 {
-    let s = check(variant, message, place, image, out.len());
+    let s = check_message(variant, message.len());
     let Status::Done = s else {
         return s;
     };
     let v = variant as u8;
-    put_block(v, message, place, image, out)
+    recover_at(
+        v,
+        message,
+        parts::ONE_ALONE,
+        8 * message.len(),
+        place,
+        image,
+        out,
+    )
+}
+
+// Whether a message of whose last byte so many bits count may be asked about: refusals 1, 15, 4.
+fn check_message_bits(variant: u32, message: &[u8], bits: u32) -> Status
+    ensures { λ r. ⌜ r ≡ firstRefusal (messageBitsChecks variant (now (message .entry)) bits) ⌝ }
+{
+    if !sizes::is_known(variant) {
+        return Status::Refused(Refusal::UnknownVariant);
+    }
+    if !parts::is_bit_number(bits, message.len()) {
+        return Status::Refused(Refusal::BadBitNumber);
+    }
+    // Bits pass their limit just where bytes pass theirs.
+    check_message(variant, message.len())
+}
+
+// The same with a message of whose last byte so many bits count: refusals 1, 15, 4, 7, 6, 5, 8.
+pub fn recover_bits(
+    variant: u32,
+    message: &[u8],
+    bits: u32,
+    place: usize,
+    image: &[u8],
+    out: &mut [u8],
+) -> Status
+    ensures { λ r. ⌜ (r ≡ recoverBitsStatus variant (now (message .entry)) bits place (now (image .entry)) (length (now (out .entry))))
+        × (now (out .exit) ≡ recoverBitsInto variant (now (message .entry)) bits place (now (image .entry)) (now (out .entry))) ⌝ }
+{
+    let s = check_message_bits(variant, message, bits);
+    let Status::Done = s else {
+        return s;
+    };
+    let v = variant as u8;
+    let e = parts::ending_of(v, message, bits as usize);
+    recover_at(v, &message[..e.front], e.last, e.bits, place, image, out)
 }

@@ -3,7 +3,7 @@
 use mathlib.Core.Path.{_≡_, refl, sym, ap, ap₂, _∙_, subst}
 use mathlib.Core.Bool.{Bool, true, cond}
 use mathlib.Core.List.{List, [], _∷_, _++_, flatMap}
-use Prim.Native.Nat.{ℕ, _+_, _≤_, _<_}
+use Prim.Native.Nat.{ℕ, _+_, _*_, _≤_, _<_}
 use lib.Dec.{ltb}
 use lib.ListN.{length, length-append}
 use native.Mathlib.Numerals.{add-one}
@@ -14,30 +14,30 @@ use Rattle.answers.specs.declared.Status.{Status}
 use Rattle.answers.specs.declared.Status.the-variants.{Done, Refused}
 use Rattle.answers.specs.Checks.{Check, unless, when, firstRefusal}
 use Rattle.answers.specs.Numbers.{inBytes}
-use Rattle.answers.specs.Outputs.{written, most}
+use Rattle.answers.specs.Outputs.{written, most, mostBits}
 use Rattle.answers.proofs.Statuses.{not-done}
 use Rattle.answers.proofs.Rows.{passed-all, passing-says, row-first, row-second, row-both}
-use Rattle.standard.specs.Chain.{messageBits, endState}
+use Rattle.standard.specs.Chain.{byteBits, endState}
 use Rattle.standard.specs.Variants.{variant, known}
 use Rattle.hasher.specs.declared.Hasher.{Hasher}
 use Rattle.hasher.specs.declared.Advanced.{Advanced}
 use Rattle.hasher.specs.declared.Wanted.{Wanted}
 use Rattle.hasher.specs.Sized.{Sized}
-use Rattle.hasher.specs.Running.{Open, started, updated, finished, stateOf}
+use Rattle.hasher.specs.Running.{wholeSoFar, Open, started, updated, finished, stateOf}
 use Rattle.hasher.specs.Reading.{resultSize, resultOf, readStatus, readInto, wholeChecks, wholeStatus, wholeInto}
 use Rattle.hasher.proofs.Calls.{start-done, Hashable, whole-says, update-done}
-use Rattle.hasher.proofs.Message.{fresh-sized, fresh-open, calls-read}
+use Rattle.hasher.proofs.Message.{fresh-sized, fresh-open, fresh-whole, calls-read}
 use Rattle.hasher.proofs.UpdateAppend.{update-twice}
 use Rattle.standard.specs.Bits.{bitsIn}
 use Rattle.hasher.proofs.Owned.{Owned}
 use Rattle.hasher.proofs.WellFormed.{facts, state-kept, held-kept}
-use Rattle.hasher.proofs.Next.{onward-none, onward, onward-total, onward-open, onward-append}
+use Rattle.hasher.proofs.Next.{onward-none, onward, onward-total, onward-whole, onward-open, onward-append}
 use Rattle.segments.specs.Entries.{isList, entriesChecks, entriesStatus, segmentsOf, headerOf, messageOf, totalOf, count, segmentIn, segmentOf}
 use Rattle.segments.specs.Digests.{listStatus, listInto}
 use Rattle.segments.proofs.ListLaws.{segments-length, message-length, segmentsUpTo, segments-suc, segments-up-to-within, segment-there}
 
 module _ (h : Hasher) (w : Owned h) (o : Open h) (list buffer : List ℕ) (whole : isList list ≡ true) (all-fit : entriesStatus list (length buffer) ≡ Done)
-    (few : h .total + length (segmentsOf list buffer) ≤ most) where
+    (ends : wholeSoFar h ≡ true) (few : h .total + 8 * length (segmentsOf list buffer) ≤ mostBits) where
   -- the running hash after the first k segments
   abbrev pub after : ℕ → Hasher
   after k = onward h (segmentsUpTo list buffer k)
@@ -52,16 +52,16 @@ module _ (h : Hasher) (w : Owned h) (o : Open h) (list buffer : List ℕ) (whole
       let m : List ℕ = segmentsUpTo list buffer k in
       let t : List ℕ = segmentIn list buffer k in
       let j : segmentsUpTo list buffer (k + 1) ≡ m ++ t = ap (segmentsUpTo list buffer) (add-one k) ∙ segments-suc list buffer k in
-      let room : h .total + (length m + length t) ≤ most = omega (arith, length-append m t, ap length j, segments-up-to-within list buffer (k + 1) (omega arith)) in
+      let room : h .total + 8 * (length m + length t) ≤ mostBits = omega (arith, length-append m t, ap length j, segments-up-to-within list buffer (k + 1) (omega arith)) in
       ap (λ (a : Advanced). a .hasher)
       (ap₂ updated eg (es ∙ segment-there list buffer whole all-fit k l)
-      ∙ update-done (after k) t (onward-open h (w .sized) o m (omega arith)) (omega (arith, onward-total h m)))
+      ∙ update-done (after k) (onward-open h (w .sized) o m (omega arith)) t (onward-whole h ends m) (omega (arith, onward-total h m)))
       ∙ onward-append h (w .sized) o m t
       ∙ ap (onward h) (sym j)
 
   pub every-segment : after (count list) ≡ updated h (segmentsOf list buffer) .hasher
   unfolding segmentsOf
-  every-segment = sym (ap (λ (a : Advanced). a .hasher) (update-done h (segmentsOf list buffer) o few))
+  every-segment = sym (ap (λ (a : Advanced). a .hasher) (update-done h o (segmentsOf list buffer) ends few))
 
 -- ---- the checks in order
 
@@ -102,7 +102,7 @@ module _ (v : ℕ) (list buffer : List ℕ) (wanted : Wanted) (l : isList list �
   pub list-whole-into : (out : List ℕ) → listInto v list buffer wanted out ≡ wholeInto v (messageOf list buffer) wanted out
   unfolding listInto wholeInto
   list-whole-into out =
-      ap (λ (s : Status). written s (resultOf (variant v) wanted (endState (variant v) (messageBits (messageOf list buffer)))) out) (list-whole-status (length out))
+      ap (λ (s : Status). written s (resultOf (variant v) wanted (endState (variant v) (byteBits (messageOf list buffer)))) out) (list-whole-status (length out))
 
 -- The digest over a list sees the message alone: two lists over two buffers, whose entries pass and whose messages are equal, give the same
 -- answer and leave the same output.
@@ -144,20 +144,20 @@ module _ (v : ℕ) (list buffer : List ℕ) (wanted : Wanted) (n : ℕ) where
 
 -- a running hash that takes a message
 abbrev Ready : Hasher → Type 0
-Ready h = Sized h × (Open h × (h .total ≡ 0))
+Ready h = Sized h × Open h × (wholeSoFar h ≡ true) × (h .total ≡ 0)
 
 -- a start
 start-ready : (v : ℕ) → known v ≡ true → (s : Advanced) → s ≡ started v → Ready (s .hasher)
-start-ready v k s e = subst Ready (sym (ap (λ (a : Advanced). a .hasher) (e ∙ start-done v k))) (fresh-sized v k, (fresh-open v k, refl))
+start-ready v k s e = subst Ready (sym (ap (λ (a : Advanced). a .hasher) (e ∙ start-done v k))) (fresh-sized v k, fresh-open v k, fresh-whole v k, refl)
 
 -- the number of entries and then the list
-pub header-taken : (h : Hasher) → Sized h → Open h → (list : List ℕ) → h .total + length (headerOf list) ≤ most
+pub header-taken : (h : Hasher) → Sized h → Open h → (list : List ℕ) → (wholeSoFar h ≡ true) × (h .total + 8 * length (headerOf list) ≤ mostBits)
     → (bytes : List ℕ) (counted listed : Advanced) → bytes ≡ inBytes 2 (count list) → counted ≡ updated h bytes → listed ≡ updated (counted .hasher) list
     → listed .hasher ≡ updated h (headerOf list) .hasher
 unfolding headerOf
 header-taken h z o list few bytes counted listed eb ec el =
     ap (λ (a : Advanced). a .hasher) (el ∙ ap (λ (a : Advanced). updated (a .hasher) list) (ec ∙ ap (updated h) eb))
-    ∙ update-twice h z (inBytes 2 (count list)) list o few
+    ∙ update-twice h z (inBytes 2 (count list)) list o (few .0) (few .1)
 
 module _ (v : ℕ) (list buffer : List ℕ) (wanted : Wanted) (n : ℕ) (a : Accepted v list buffer wanted n) (begun : Advanced) (eb : begun ≡ started v) where
   ready : Ready (begun .hasher)
@@ -167,18 +167,24 @@ module _ (v : ℕ) (list buffer : List ℕ) (wanted : Wanted) (n : ℕ) (a : Acc
   few = omega (arith, a .message .few, message-length list buffer (a .all-fit), segments-length list buffer (a .all-fit))
 
   -- the header fits
-  pub header-fits : Open (begun .hasher) × ((isList list ≡ true) × (begun .hasher .total + length (headerOf list) ≤ most))
-  header-fits = (ready .1 .0, (a .whole, omega (arith, ready .1 .1, few)))
+  pub header-fits : Open (begun .hasher) × ((isList list ≡ true) × ((wholeSoFar (begun .hasher) ≡ true) × (begun .hasher .total + 8 * length (headerOf list) ≤ mostBits)))
+  header-fits = (ready .1, (a .whole, (ready .2, omega (arith, ready .3, few))))
 
   -- and the segments behind it
   pub segments-fit : (led : Hasher) → led ≡ updated (begun .hasher) (headerOf list) .hasher
-      → Open led × (((isList list ≡ true) × (entriesStatus list (length buffer) ≡ Done)) × (led .total + length (segmentsOf list buffer) ≤ most))
+      → Open led × (((isList list ≡ true) × (entriesStatus list (length buffer) ≡ Done)) × ((wholeSoFar led ≡ true) × (led .total + 8 * length (segmentsOf list buffer) ≤ mostBits)))
   segments-fit led e =
       let h : Hasher = begun .hasher in
       let m : List ℕ = headerOf list in
-      let on : onward h m ≡ led = sym (e ∙ ap (λ (u : Advanced). u .hasher) (update-done h m (ready .1 .0) (header-fits .1 .1))) in (
-        subst Open on (onward-open h (ready .0) (ready .1 .0) m (header-fits .1 .1)),
-        ((a .whole, a .all-fit), omega (arith, ap (λ (g : Hasher). g .total) on, onward-total h m, ready .1 .1, few)),
+      let on : onward h m ≡ led = sym (e ∙ ap (λ (u : Advanced). u .hasher) (update-done h (ready .1) m (ready .2) (header-fits .1 .1 .1))) in (
+        subst Open on (onward-open h (ready .0) (ready .1) m (header-fits .1 .1 .1)),
+        (
+          (a .whole, a .all-fit),
+          (
+            subst (λ (g : Hasher). wholeSoFar g ≡ true) on (onward-whole h (ready .2) m),
+            omega (arith, ap (λ (g : Hasher). g .total) on, onward-total h m, ready .3, few),
+          ),
+        ),
       )
 
   -- the running hash after both is that after the message
@@ -186,8 +192,8 @@ module _ (v : ℕ) (list buffer : List ℕ) (wanted : Wanted) (n : ℕ) (a : Acc
       → h ≡ updated (begun .hasher) (messageOf list buffer) .hasher
   unfolding messageOf
   message-taken led h e eh =
-      let room : begun .hasher .total + length (headerOf list ++ segmentsOf list buffer) ≤ most = omega (arith, ready .1 .1, few, length-append (headerOf list) (segmentsOf list buffer)) in
-      eh ∙ ap (λ (g : Hasher). updated g (segmentsOf list buffer) .hasher) e ∙ update-twice (begun .hasher) (ready .0) (headerOf list) (segmentsOf list buffer) (ready .1 .0) room
+      let room : begun .hasher .total + 8 * length (headerOf list ++ segmentsOf list buffer) ≤ mostBits = omega (arith, ready .3, few, length-append (headerOf list) (segmentsOf list buffer)) in
+      eh ∙ ap (λ (g : Hasher). updated g (segmentsOf list buffer) .hasher) e ∙ update-twice (begun .hasher) (ready .0) (headerOf list) (segmentsOf list buffer) (ready .1) (ready .2) room
 
 module _ (v : ℕ) (list buffer : List ℕ) (wanted : Wanted) (out : List ℕ) where
   -- status and output after a call

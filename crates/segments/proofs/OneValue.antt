@@ -17,7 +17,7 @@ use Rattle.standard.specs.Values.{DifferWithin, inOneBlock}
 use Rattle.standard.proofs.CutLaws.{take-drop-take}
 use Rattle.standard.proofs.OneValue.{differ-part, differ-append, differ-behind, one-changed-row}
 use Rattle.standard.specs.Sponge.{imageSize}
-use Rattle.standard.specs.Chain.{messageBits, blocksOf, DifferAt, endState}
+use Rattle.standard.specs.Chain.{byteBits, blocksOf, DifferAt, endState}
 use Rattle.standard.specs.Variants.{variant}
 use Rattle.hasher.specs.declared.Wanted.the-variants.{EndState}
 use Rattle.hasher.specs.Apart.{Differ, ToldApart}
@@ -199,15 +199,15 @@ module _ (v : ℕ) (list x out list′ y out′ : List ℕ) (dx : listStatus v l
       ∙ ap (take (imageSize (variant v))) (list-whole-into v list′ y EndState (ay .whole) (ay .all-fit) out′))
 
   -- Demand 3 over lists: rows of blocks of equal count that differ at exactly one place.
-  pub list-row-told : (i : ℕ) → DifferAt i (blocksOf (variant v) (messageBits (messageOf list x))) (blocksOf (variant v) (messageBits (messageOf list′ y)))
-      → (endState (variant v) (messageBits (messageOf list x)) ≡ endState (variant v) (messageBits (messageOf list′ y)) → ⊥) × Apart
+  pub list-row-told : (i : ℕ) → DifferAt i (blocksOf (variant v) (byteBits (messageOf list x))) (blocksOf (variant v) (byteBits (messageOf list′ y)))
+      → (endState (variant v) (byteBits (messageOf list x)) ≡ endState (variant v) (byteBits (messageOf list′ y)) → ⊥) × Apart
   list-row-told i d = (
-    one-changed-row v (ax .message .named) i (messageBits (messageOf list x)) (messageBits (messageOf list′ y)) d,
+    one-changed-row v (ax .message .named) i (byteBits (messageOf list x)) (byteBits (messageOf list′ y)) d,
     lists-told (row-told v (ax .message .named) (messageOf list x) (messageOf list′ y) (ax .message .few) (ay .message .few) i d),
   )
 
   -- Two messages over lists that differ, and only within the block j.
-  pub list-block-told : (j : ℕ) → DifferWithin (j * variant v .r) (variant v .r) (messageBits (messageOf list x)) (messageBits (messageOf list′ y)) → Apart
+  pub list-block-told : (j : ℕ) → DifferWithin (j * variant v .r) (variant v .r) (byteBits (messageOf list x)) (byteBits (messageOf list′ y)) → Apart
   list-block-told j d = lists-told (block-told v (ax .message .named) (messageOf list x) (messageOf list′ y) (ax .message .few) j d)
 
 -- Two buffers that differ only in a value that one entry of a list names, and that lies in one block of the message.

@@ -8,7 +8,7 @@ use Rattle.answers.specs.declared.Refusal.the-variants.{UnknownVariant, TooLong
 use Rattle.answers.specs.declared.Status.{Status}
 use Rattle.answers.specs.Checks.{Check, unless, when, firstRefusal}
 use Rattle.answers.specs.Outputs.{written, most}
-use Rattle.standard.specs.Chain.{messageBits, endState}
+use Rattle.standard.specs.Chain.{byteBits, endState}
 use Rattle.standard.specs.Variants.{variant, known}
 use Rattle.hasher.specs.declared.Wanted.{Wanted}
 use Rattle.hasher.specs.Reading.{resultSize, resultOf}
@@ -31,4 +31,4 @@ listStatus v list buffer wanted n = firstRefusal (listChecks v list buffer wante
 -- the caller's output: the standard's digest, or the image of the end state, of the message
 unfoldable pub listInto : ℕ → List ℕ → List ℕ → Wanted → List ℕ → List ℕ
 listInto v list buffer wanted out =
-    written (listStatus v list buffer wanted (length out)) (resultOf (variant v) wanted (endState (variant v) (messageBits (messageOf list buffer)))) out
+    written (listStatus v list buffer wanted (length out)) (resultOf (variant v) wanted (endState (variant v) (byteBits (messageOf list buffer)))) out

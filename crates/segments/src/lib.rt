@@ -1,13 +1,13 @@
 // Lists of segments of a buffer: the check of an entry, the segment that it names, and the digest over all of them.
 ghost use mathlib.Core.Path.{_≡_};
 ghost use mathlib.Core.Bool.{true};
-ghost use Prim.Native.Nat.{_+_, _≤_, _<_};
+ghost use Prim.Native.Nat.{_+_, _*_, _≤_, _<_};
 ghost use lib.ListN.{length};
 ghost use denote.Ref.{ptr};
 ghost use Rattle.answers.specs.declared.Status.the-variants.{Done};
 ghost use Rattle.answers.specs.Checks.{firstRefusal};
-ghost use Rattle.answers.specs.Outputs.{most};
-ghost use Rattle.hasher.specs.Running.{Open, updated};
+ghost use Rattle.answers.specs.Outputs.{mostBits};
+ghost use Rattle.hasher.specs.Running.{wholeSoFar, Open, updated};
 ghost use Rattle.segments.specs.Entries.{offsetOf, lengthOf, endOf, formerEnd, isList, count, entryChecks, segmentStatus, segmentOf, segmentAt, further, entriesStatus, segmentsOf, headerOf, totalOf};
 ghost use Rattle.segments.specs.Digests.{listStatus, listInto};
 use answers::Refusal;
@@ -151,7 +151,7 @@ fn check_list(variant: u32, list: &[u8], buffer: &[u8], wanted: Wanted, n: usize
 fn update_header(h: Hasher, list: &[u8]) -> Hasher
     requires { ⌜ Open h ⌝ }
     requires { ⌜ isList (now list) ≡ true ⌝ }
-    requires { ⌜ h .total + length (headerOf (now list)) ≤ most ⌝ }
+    requires { ⌜ (wholeSoFar h ≡ true) × (h .total + 8 * length (headerOf (now list)) ≤ mostBits) ⌝ }
     ensures { λ r. ⌜ r ≡ updated h (headerOf (now (list .entry))) .hasher ⌝ }
 {
     let count = answers::u16_bytes((list.len() / 8) as u16);
@@ -164,7 +164,7 @@ fn update_header(h: Hasher, list: &[u8]) -> Hasher
 fn update_all(h: Hasher, list: &[u8], buffer: &[u8]) -> Hasher
     requires { ⌜ Open h ⌝ }
     requires { ⌜ (isList (now list) ≡ true) × (entriesStatus (now list) (length (now buffer)) ≡ Done) ⌝ }
-    requires { ⌜ h .total + length (segmentsOf (now list) (now buffer)) ≤ most ⌝ }
+    requires { ⌜ (wholeSoFar h ≡ true) × (h .total + 8 * length (segmentsOf (now list) (now buffer)) ≤ mostBits) ⌝ }
     ensures { λ r. ⌜ r ≡ updated h (segmentsOf (now (list .entry)) (now (buffer .entry))) .hasher ⌝ }
 {
     let n = list.len() / 8;

@@ -1,20 +1,22 @@
--- The half bytes of a bit string that comes as held half bytes, a piece and the added 1 bit, and the bytes that they make.
+-- The half bytes of a bit string that comes as held half bytes, a piece and a last byte, and the bytes that they make.
 -- Assumes nothing.
-use mathlib.Core.Path.{_≡_, sym, ap, _∙_}
-use mathlib.Core.Bool.{Bool, true}
-use mathlib.Core.List.{List, [], _∷_, _++_}
+use mathlib.Core.Path.{_≡_, sym, ap, ap₂, _∙_}
+use mathlib.Core.Bool.{Bool, cond}
+use mathlib.Core.List.{List, [], _∷_, _++_, append-assoc}
 use mathlib.Core.Logic.{⊎-elim}
 use Prim.Native.Nat.{ℕ, _+_, _-_, _*_, _/_, _%_, _≤_, _<_}
 use native.Mathlib.Omega.{arith}
 use lib.ListN.{length, take, drop, getD, length-append, length-drop, drop-of-length-le, take-append-drop}
 use lib.Seq.{take-append-le, drop-append-le, drop-append-add, drop-at, take-at, drop-drop, ext-getD, length-take-le}
+use lib.Dec.{eqb}
 use borrow.Author.Tests.{eq-eqb, ne-eqb}
-use Rattle.standard.specs.Bits.{high-first, lowValue, ordered, valueOf, bitsIn, unpack, filled}
+use Rattle.answers.proofs.ByteLaws.{cons-bytes}
+use Rattle.standard.specs.Bits.{high-first, valueOf, bitsIn, unpack, filled}
 use Rattle.standard.proofs.Tests.{lt-or-le}
-use Rattle.standard.proofs.BitLaws.{length-bitsIn, length-unpack, length-filled, length-pack, filled-add, valueOf-lt}
+use Rattle.standard.proofs.BitLaws.{length-bitsIn, bitsIn-append, length-unpack, length-filled, length-pack, filled-add, valueOf-lt}
 use Rattle.sponge.specs.Layout.{blockRoom, packedBlock}
 use Rattle.sponge.specs.Cells.{cellIn}
-use Rattle.sponge.specs.Blocks.{halfOf, halfIn, heldThen, withOne}
+use Rattle.sponge.specs.Blocks.{halfOf, halfIn, heldThen}
 use Rattle.sponge.proofs.CellLaws.{cell-even, cell-odd}
 use Rattle.sponge.proofs.MatrixImage.{pack-halves, filled-take, filled-nothing}
 
@@ -62,47 +64,64 @@ module _ (n : ℕ) where
       (⊎-elim (λ l. rw (eq-eqb (n % 2) 0 (omega arith)) (sym (cell-even s hb n h (omega arith))))
       (λ l. rw (ne-eqb (n % 2) 0 (λ z. omega arith)) (sym (cell-odd s hb n h (omega arith)))) (lt-or-le (n % 2) 1))
 
-  -- the added bit, and nothing past it
-  half-one : (x : List Bool) → length x ≡ 4 * n → 8 ≡ halfIn (withOne x) n
-  unfolding valueOf ordered lowValue filled
-  half-one x e = sym (ap (λ (l : List Bool). valueOf high-first (filled 4 l)) (drop-at x (true ∷ []) (4 * n) e))
-
+  -- nothing past the bits
   pub half-past : (bs : List Bool) → length bs ≤ 4 * n → 0 ≡ halfIn bs n
   half-past bs h = sym (ap (λ (l : List Bool). valueOf high-first (filled 4 l)) (drop-of-length-le bs {i = 4 * n} h) ∙ filled-nothing 4)
 
--- ---- held half bytes, a piece, and the added bit
+-- ---- held half bytes, and bytes behind them
 
-pub length-heldThen : (held : List ℕ) (p : ℕ) (piece : List ℕ) → p ≤ 2 * length held → length (heldThen held p piece) ≡ 4 * p + 8 * length piece
-length-heldThen held p piece h = rw (length-append, length-unpack high-first (4 * p) held (omega arith), length-bitsIn)
+pub length-heldThen : (held : List ℕ) (p : ℕ) (bytes : List ℕ) → p ≤ 2 * length held → length (heldThen held p bytes) ≡ 4 * p + 8 * length bytes
+length-heldThen held p bytes h = rw (length-append, length-unpack high-first (4 * p) held (omega arith), length-bitsIn)
 
-module _ (held : List ℕ) (p : ℕ) (piece : List ℕ) (few : p ≤ 2 * length held) (n : ℕ) where
+module _ (held : List ℕ) (p : ℕ) (few : p ≤ 2 * length held) (n : ℕ) where
   abbrev front : List Bool
   front = unpack high-first (4 * p) held
 
   front-size : length front ≡ 4 * p
   front-size = length-unpack high-first (4 * p) held (omega arith)
 
-  pub half-held : ((i : ℕ) → getD held i 0 < 256) → n < p → halfOf (getD held (n / 2) 0) n ≡ halfIn (withOne (heldThen held p piece)) n
+  pub half-held : (bytes : List ℕ) → ((i : ℕ) → getD held i 0 < 256) → n < p → halfOf (getD held (n / 2) 0) n ≡ halfIn (heldThen held p bytes) n
   unfolding unpack
-  half-held hb h =
+  half-held bytes hb h =
       half-byte n held hb (omega arith)
       ∙ sym (half-within n (4 * p) (bitsIn high-first held) (omega arith) (omega (arith, length-bitsIn high-first held)))
-      ∙ half-front n front (bitsIn high-first piece) (omega (arith, front-size))
-      ∙ half-front n (heldThen held p piece) (true ∷ []) (omega (arith, length-heldThen held p piece few))
+      ∙ half-front n front (bitsIn high-first bytes) (omega (arith, front-size))
 
-  pub half-piece : ((i : ℕ) → getD piece i 0 < 256) → p ≤ n → (n - p) / 2 < length piece
-      → halfOf (getD piece ((n - p) / 2) 0) (n - p) ≡ halfIn (withOne (heldThen held p piece)) n
-  half-piece hb h l =
-      half-byte (n - p) piece hb l
-      ∙ half-behind n front (bitsIn high-first piece) p front-size h
-      ∙ half-front n (heldThen held p piece) (true ∷ []) (omega (arith, length-heldThen held p piece few))
+  -- a piece, and a last byte behind it
+  module _ (piece : List ℕ) (last : ℕ) (h : p ≤ n) where
+    abbrev end : List Bool
+    end = bitsIn high-first (last ∷ [])
 
-  pub half-added : p ≤ n → n - p ≡ 2 * length piece → 8 ≡ halfIn (withOne (heldThen held p piece)) n
-  half-added h e = half-one n (heldThen held p piece) (length-heldThen held p piece few ∙ omega arith)
+    size : length (heldThen held p piece) ≡ 4 * (p + 2 * length piece)
+    size = length-heldThen held p piece few ∙ omega arith
 
-  pub half-nothing : p ≤ n → 2 * length piece < n - p → 0 ≡ halfIn (withOne (heldThen held p piece)) n
-  half-nothing h l =
-      half-past n (withOne (heldThen held p piece)) (omega (arith, length-append (heldThen held p piece) (true ∷ []), length-heldThen held p piece few))
+    parts : heldThen held p piece ++ end ≡ heldThen held p (piece ++ last ∷ [])
+    parts =
+        append-assoc front (bitsIn high-first piece) end
+        ∙ ap (λ (bs : List Bool). front ++ bs) (sym (bitsIn-append high-first piece (last ∷ [])))
+
+    pub half-piece : ((i : ℕ) → getD piece i 0 < 256) → (n - p) / 2 < length piece
+        → halfOf (getD piece ((n - p) / 2) 0) (n - p) ≡ halfIn (heldThen held p (piece ++ last ∷ [])) n
+    half-piece hb l =
+        half-byte (n - p) piece hb l
+        ∙ half-behind n front (bitsIn high-first piece) p front-size h
+        ∙ half-front n (heldThen held p piece) end (omega (arith, size))
+        ∙ ap (λ (bs : List Bool). halfIn bs n) parts
+
+    pub half-last : last < 256 → (n - p) / 2 ≡ length piece → halfOf last (n - p) ≡ halfIn (heldThen held p (piece ++ last ∷ [])) n
+    half-last hl e =
+        let i : ℕ = n - (p + 2 * length piece) in
+        let first : i / 2 ≡ 0 = omega arith in
+        let side : (n - p) % 2 ≡ i % 2 = omega arith in
+        ap₂ (λ (b k : ℕ). cond (eqb k 0) (b / 16) (b % 16)) (ap (λ (k : ℕ). getD (last ∷ []) k 0) (sym first)) side
+        ∙ half-byte i (last ∷ []) (cons-bytes last [] hl (λ k. omega arith)) (omega arith)
+        ∙ half-behind n (heldThen held p piece) end (p + 2 * length piece) size (omega arith)
+        ∙ ap (λ (bs : List Bool). halfIn bs n) parts
+
+    pub half-nothing : length piece < (n - p) / 2 → 0 ≡ halfIn (heldThen held p (piece ++ last ∷ [])) n
+    half-nothing l =
+        half-past n (heldThen held p (piece ++ last ∷ []))
+        (omega (arith, length-heldThen held p (piece ++ last ∷ []) few, length-append piece (last ∷ [])))
 
 -- ---- q half bytes in bytes
 

@@ -1,20 +1,21 @@
--- Rows of blocks of a bit string and zeros behind it: one block more, one block of the row, its first blocks; the whole blocks of a string and the rest; padded blocks.
+-- Rows of blocks of a bit string and zeros behind it: one block more, one block of the row, its first blocks; the whole blocks of a string; padded blocks.
 -- Assumes nothing.
 use mathlib.Core.Path.{_≡_, refl, sym, ap, ap₂, _∙_}
 use mathlib.Core.Bool.{Bool, true, false}
-use mathlib.Core.List.{List, [], _∷_, _++_, append-assoc, append-nil}
-use Prim.Native.Nat.{ℕ, _+_, _-_, _*_, _/_, _%_, _≤_, _<_}
-use native.Mathlib.Nat.{div-add-mod', mod-lt, add-mul, one-mul, mul-left-comm, mul-div-cancel, mul-div-mul-left}
+use mathlib.Core.List.{List, [], _∷_, _++_, append-assoc}
+use Prim.Native.Nat.{ℕ, zero, suc, _+_, _-_, _*_, _/_, _%_, _≤_, _<_}
+use native.Mathlib.Nat.{div-add-mod', mod-lt, add-mul, one-mul, mul-div-cancel}
 use native.Mathlib.Omega.{arith}
-use lib.ListN.{length, take, drop, getD, replicate, length-append, length-drop, length-replicate, take-append-drop}
-use lib.Seq.{take-at, take-all, take-append-le, drop-at, drop-append-le, length-take-le}
-use Rattle.standard.specs.Bits.{high-first, bitsIn, unpack, filled, cut}
+use lib.ListN.{length, take, drop, getD, replicate, length-append, length-replicate, take-append-drop}
+use lib.Seq.{take-at, take-all, take-append-le, drop-at, length-take-le}
+use Rattle.standard.specs.Bits.{Order, high-first, bitsIn, unpack, filled, pack, cut}
 use Rattle.standard.specs.Sponge.{spongePadding}
-use Rattle.standard.specs.Chain.{wholeBlocks, restOf, Blocks}
-use Rattle.standard.proofs.BitLaws.{length-filled, filled-add, filled-short}
+use Rattle.standard.specs.Chain.{wholeBlocks, Blocks}
+use Rattle.standard.proofs.BitLaws.{length-filled, filled-add, filled-short, length-pack, bitsIn-pack, pack-bitsIn, pack-bytes}
 use Rattle.standard.proofs.CutLaws.{length-cut, cut-at, cut-fits, cut-add, cut-append}
 use Rattle.standard.proofs.Streaming.{cut-blocks}
-use Rattle.sponge.specs.Blocks.{heldThen, withOne, firstBlocks}
+use Rattle.sponge.specs.Blocks.{heldThen, firstBlocks}
+use Rattle.sponge.specs.Parts.{Marked}
 use Rattle.sponge.proofs.MatrixImage.{filled-take}
 use Rattle.sponge.proofs.BlockHalves.{middle}
 
@@ -61,7 +62,7 @@ first-one r bs = rw (one-mul, take-all r (filled r bs) (omega (arith, length-fil
 pub first-more : (r : ℕ) (bs : List Bool) (n : ℕ) → firstBlocks r (n + 1) bs ≡ firstBlocks r n bs ++ filled r (drop (n * r) bs) ∷ []
 first-more r bs n = rw (first-add, first-one)
 
--- ---- the whole blocks of a string, whatever stands behind it, and the rest
+-- ---- the whole blocks of a string, whatever stands behind it
 
 module _ (r : ℕ) (x y : List Bool) where
   -- the bits of the whole blocks
@@ -76,14 +77,32 @@ module _ (r : ℕ) (x y : List Bool) where
       rw (filled-take (n * r) (x ++ y) (omega (arith, length-append x y, fits)), take-append-le (n * r) x y fits)
       (sym (cut-append r n front (drop (n * r) x) (omega (arith, length-take-le (n * r) x fits))) ∙ rw take-append-drop)
 
-  pub rest-first : filled (length x % r) (drop (length x / r * r) (x ++ y)) ≡ restOf r x
-  unfolding restOf
-  rest-first =
-      let rest : List Bool = drop (length x / r * r) x in
-      let size : length rest ≡ length x % r = length-drop (length x / r * r) x ∙ omega (arith, div-add-mod' (length x) r) in
-      rw (drop-append-le (length x / r * r) x y fits, filled-take (length x % r) (rest ++ y) (omega (arith, length-append rest y)), take-at rest y _ size)
+-- ---- zeros behind a string
+
+pub filled-zeros : (w : ℕ) (bs : List Bool) (z : ℕ) → filled w (bs ++ replicate z false) ≡ filled w bs
+unfolding filled
+filled-zeros zero bs z = refl
+filled-zeros (suc w) [] zero = refl
+filled-zeros (suc w) [] (suc z) = ap (λ (l : List Bool). false ∷ l) (filled-zeros w [] z)
+filled-zeros (suc w) (b ∷ bs) z = ap (λ (l : List Bool). b ∷ l) (filled-zeros w bs z)
+
+pub first-zeros : (r n : ℕ) (bs : List Bool) (z : ℕ) → firstBlocks r n (bs ++ replicate z false) ≡ firstBlocks r n bs
+unfolding firstBlocks
+first-zeros r n bs z = ap (cut r n) (filled-zeros (n * r) bs z)
+
+-- bytes take as many bits as they have room for
+pub pack-filled : (o : Order) (n : ℕ) (bs : List Bool) → pack o n (filled (n * 8) bs) ≡ pack o n bs
+pack-filled o n bs =
+    ap₂ (pack o) (sym (length-pack o n bs)) (sym (bitsIn-pack o n bs)) ∙ pack-bitsIn o (pack o n bs) (pack-bytes o n bs)
+
+pub pack-zeros : (o : Order) (n : ℕ) (bs : List Bool) (z : ℕ) → pack o n (bs ++ replicate z false) ≡ pack o n bs
+pack-zeros o n bs z = sym (pack-filled o n (bs ++ replicate z false)) ∙ ap (pack o n) (filled-zeros (n * 8) bs z) ∙ pack-filled o n bs
 
 -- ---- padded blocks
+
+-- bits with the 1 bit of the padding behind them
+abbrev pub withOne : List Bool → List Bool
+withOne bs = bs ++ true ∷ []
 
 module _ (r : ℕ) (pos : 0 < r) (x : List Bool) where
   -- padding by a length that leaves as much of a block as the string does: the string itself, or the message whose last bits it is
@@ -101,39 +120,20 @@ module _ (r : ℕ) (pos : 0 < r) (x : List Bool) where
       let zeros : c * r - length (withOne x) ≡ z = omega (arith, length-append x (true ∷ [])) in
       rw (filled-short (c * r) (withOne x) (omega (arith, length-append x (true ∷ []))), zeros, append-assoc, size, mul-div-cancel c pos)
 
-  pub padded-take : (n j : ℕ) → n % r ≡ length x % r → j ≤ length x / r + 1
-      → take j (wholeBlocks r (x ++ spongePadding r n)) ≡ firstBlocks r j (withOne x)
-  padded-take n j e h = ap (take j) (sym (padded-first n e)) ∙ first-take r (withOne x) (length x / r + 1) j h
+  -- the blocks of bytes that hold the string and the 1 bit
+  module _ (bytes : List ℕ) (marked : Marked x bytes) where
+    pub marked-first : firstBlocks r (length x / r + 1) (bitsIn high-first bytes) ≡ wholeBlocks r (x ++ spongePadding r (length x))
+    marked-first =
+        ap (firstBlocks r (length x / r + 1)) (marked ∙ sym (append-assoc x (true ∷ []) _))
+        ∙ first-zeros r (length x / r + 1) (withOne x) (8 * length bytes - length x - 1)
+        ∙ padded-first (length x) refl
 
-  pub padded-at : (n j : ℕ) → n % r ≡ length x % r → j < length x / r + 1
-      → getD (wholeBlocks r (x ++ spongePadding r n)) j [] ≡ filled r (drop (j * r) (withOne x))
-  padded-at n j e h =
-      ap (λ (l : List (List Bool)). getD l j []) (sym (padded-first n e)) ∙ first-at r (withOne x) (length x / r + 1) j h
+    pub marked-take : (j : ℕ) → j ≤ length x / r + 1 → take j (wholeBlocks r (x ++ spongePadding r (length x))) ≡ firstBlocks r j (bitsIn high-first bytes)
+    marked-take j h = ap (take j) (sym marked-first) ∙ first-take r (bitsIn high-first bytes) (length x / r + 1) j h
 
--- ---- a string of m half bytes, and blocks of q
-
-module _ (r : ℕ) (pos : 0 < r) (q m : ℕ) (er : 4 * q ≡ r) (x : List Bool) (ex : length x ≡ 4 * m) where
-  pub halves-count : m / q ≡ length x / r
-  halves-count = sym (ap₂ (λ (a b : ℕ). a / b) ex (sym er) ∙ mul-div-mul-left {m = 4} m q (omega arith))
-
-  halves-place : 4 * (m / q * q) ≡ length x / r * r
-  halves-place =
-      rw (← halves-count, ← er, mul-left-comm)
-
-  halves-left : 4 * (m % q) ≡ length x % r
-  halves-left = omega (arith, halves-place, div-add-mod' m q, div-add-mod' (length x) r)
-
-  pub halves-whole : (y : List Bool) → firstBlocks r (m / q) (x ++ y) ≡ wholeBlocks r x
-  halves-whole y = ap (λ (n : ℕ). firstBlocks r n (x ++ y)) halves-count ∙ whole-first r x y
-
-  pub halves-rest : (y : List Bool) → filled (4 * (m % q)) (drop (4 * (m / q * q)) (x ++ y)) ≡ restOf r x
-  halves-rest y = ap₂ (λ (w a : ℕ). filled w (drop a (x ++ y))) halves-left halves-place ∙ rest-first r x y
-
--- ---- held half bytes with no piece behind them
-
-pub heldThen-none : (held : List ℕ) (p : ℕ) → heldThen held p [] ≡ unpack high-first (4 * p) held
-unfolding bitsIn
-heldThen-none held p = append-nil (unpack high-first (4 * p) held)
+    pub marked-at : (j : ℕ) → j < length x / r + 1 → getD (wholeBlocks r (x ++ spongePadding r (length x))) j [] ≡ filled r (drop (j * r) (bitsIn high-first bytes))
+    marked-at j h =
+        ap (λ (l : List (List Bool)). getD l j []) (sym marked-first) ∙ first-at r (bitsIn high-first bytes) (length x / r + 1) j h
 
 -- a piece with nothing before it
 pub heldThen-alone : (held piece : List ℕ) → heldThen held 0 piece ≡ bitsIn high-first piece

@@ -12,7 +12,8 @@ use Rattle.standard.specs.Bits.{high-first, ordered, bitsOf, valueOf, lowValue,
 use Rattle.standard.proofs.BitLaws.{length-bitsOf, length-bitsIn, bitsIn-drop, valueOf-bitsOf}
 use Rattle.standard.proofs.PutBits.{byte-halves}
 use Rattle.sponge.specs.Cells.{cellIn}
-use Rattle.sponge.proofs.Clear.{first-byte, value-mod}
+use Rattle.standard.proofs.HighBits.{value-mod}
+use Rattle.sponge.proofs.Clear.{first-byte}
 
 module _ (s : List ℕ) (bytes : (i : ℕ) → getD s i 0 < 256) (n : ℕ) where
   pub cell-wide : n < length s → cellIn 8 s n ≡ getD s n 0

@@ -2,17 +2,17 @@
 -- Assumes nothing.
 use mathlib.Core.Path.{_≡_, refl, sym, ap, _∙_}
 use mathlib.Core.Bool.{Bool, true, false, not, _&&_, and-comm}
-use mathlib.Core.List.{List, [], _∷_, _++_, reverse, reverse-cons, append-assoc}
+use mathlib.Core.List.{List, [], _∷_, _++_, reverse, reverse-cons}
 use mathlib.Core.Logic.{_⊎_, ⊎-elim}
-use Prim.Native.Nat.{ℕ, zero, suc, _+_, _*_, _/_, _%_, _^_, _≤_, _<_}
+use Prim.Native.Nat.{ℕ, zero, suc, _+_, _-_, _*_, _/_, _%_, _^_, _≤_, _<_}
 use native.Mathlib.Nat.{mod-eq-of-lt}
 use native.Mathlib.Omega.{arith}
 use native.Mathlib.Numerals.{add-one}
 use lib.ListN.{length, drop, getD, replicate, drop-of-length-le}
-use lib.Seq.{drop-cons, drop-at, drop-drop}
+use lib.Seq.{drop-cons, drop-append-le, drop-drop}
 use Rattle.standard.specs.Bits.{Order, low-first, high-first, lowBits, lowValue, ordered, bitsOf, valueOf, bitsIn}
-use Rattle.standard.proofs.BitLaws.{length-bitsOf, length-bitsIn, bitsIn-drop, bitsOf-valueOf, ordered-ordered, lowValue-of, zeros-of, reverse-replicate}
-use Rattle.standard.proofs.PutBits.{byte-halves}
+use Rattle.standard.proofs.BitLaws.{length-bitsOf, length-bitsIn, bitsIn-drop, bitsOf-valueOf, zeros-of, reverse-replicate}
+use Rattle.standard.proofs.HighBits.{value-mod, high-drop}
 use Rattle.sponge.specs.Layout.{clear}
 
 pub clear-append : (xs ys : List Bool) → clear (xs ++ ys) ≡ (clear xs && clear ys)
@@ -36,10 +36,6 @@ zeros-clear zero = refl
 zeros-clear (suc n) = zeros-clear n
 
 -- ---- the w lowest bits of a number are clear just where they are worth 0
-
-pub value-mod : (o : Order) (w x : ℕ) → valueOf o (bitsOf o w x) ≡ x % 2 ^ w
-unfolding valueOf bitsOf
-value-mod o w x = ap lowValue (ordered-ordered o (lowBits w x)) ∙ lowValue-of w x
 
 zeros-value : (o : Order) (w : ℕ) → valueOf o (replicate w false) ≡ 0
 unfolding valueOf ordered
@@ -91,14 +87,16 @@ whole-byte o s c h =
     let e : c ≡ 8 * (c / 8) = omega arith in
     ap (λ (n : ℕ). clear (drop n (bitsIn o s))) e ∙ rw bitsIn-drop
 
-pub half-byte : (s : List ℕ) (c : ℕ) → c % 8 ≡ 4 → c / 8 < length s
-    → clear (drop c (bitsIn high-first s)) ≡ (clear (bitsOf high-first 4 (getD s (c / 8) 0)) && clear (bitsIn high-first (drop (c / 8 + 1) s)))
-half-byte s c h l =
+pub part-byte : (s : List ℕ) (c : ℕ) → c / 8 < length s
+    → clear (drop c (bitsIn high-first s)) ≡ (clear (bitsOf high-first (8 - c % 8) (getD s (c / 8) 0)) && clear (bitsIn high-first (drop (c / 8 + 1) s)))
+part-byte s c l =
     let x : ℕ = getD s (c / 8) 0 in
-    let e : c ≡ 8 * (c / 8) + 4 = omega arith in
+    let e : c ≡ 8 * (c / 8) + c % 8 = omega arith in
+    let width : 8 ≡ c % 8 + (8 - c % 8) = omega arith in
+    let low : drop (c % 8) (bitsOf high-first 8 x) ≡ bitsOf high-first (8 - c % 8) x =
+    ap (λ (w : ℕ). drop (c % 8) (bitsOf high-first w x)) width ∙ high-drop (c % 8) (8 - c % 8) x in
     ap (λ (n : ℕ). clear (drop n (bitsIn high-first s))) e
-    ∙ rw (← drop-drop, bitsIn-drop, first-byte high-first s (c / 8) l, byte-halves, append-assoc)
-    (rw (drop-at (bitsOf high-first 4 (x / 16)) _ 4 (length-bitsOf high-first 4 (x / 16)), clear-append))
+    ∙ rw (← drop-drop, bitsIn-drop, first-byte high-first s (c / 8) l, drop-append-le (c % 8) (bitsOf high-first 8 x) _ (omega (arith, length-bitsOf high-first 8 x)), low, clear-append)
 
 -- ---- in either order of a byte's bits
 

@@ -1,4 +1,4 @@
--- A block that lies in a piece, and one that is made up from held bytes, a piece and the added bit: what the block step on words takes of each.
+-- A block that lies in a piece, and one that is made up from held bytes, a piece and a last byte: what the block step on words takes of each.
 -- Assumes nothing.
 use mathlib.Core.Path.{_≡_, sym, ap, ap₂, _∙_}
 use mathlib.Core.Bool.{Bool, true}
@@ -8,32 +8,34 @@ use native.Mathlib.Omega.{arith}
 use lib.ListN.{length, take, drop, length-append, length-drop}
 use lib.Arith.{mod-mul}
 use lib.Seq.{drop-append-add, drop-append-le, take-append-le}
-use mathlib.Core.List.{append-assoc}
 use Rattle.standard.specs.Bits.{high-first, bitsIn, unpack, filled}
 use Rattle.standard.specs.Variants.{variant, known}
-use Rattle.standard.proofs.BitLaws.{length-bitsIn, length-unpack, length-filled}
+use Rattle.standard.proofs.BitLaws.{bitsIn-append, length-bitsIn, length-unpack, length-filled}
 use Rattle.sponge.specs.Layout.{packedBlock}
-use Rattle.sponge.specs.Blocks.{heldThen, withOne}
+use Rattle.sponge.specs.Blocks.{heldThen}
 use Rattle.sponge.proofs.MatrixImage.{filled-take}
 use Rattle.sponge.proofs.BlockRuns.{block-read}
 
-module _ (held : List ℕ) (p : ℕ) (piece : List ℕ) (few : p ≤ 2 * length held) where
+module _ (held : List ℕ) (p : ℕ) (piece : List ℕ) (last : ℕ) (few : p ≤ 2 * length held) where
   -- all of it comes from the piece
   pub inside : (first q : ℕ) → p ≤ first → first - p + q ≤ 2 * length piece
-      → take (4 * q) (drop (4 * (first - p)) (bitsIn high-first piece)) ≡ filled (4 * q) (drop (4 * first) (withOne (heldThen held p piece)))
+      → take (4 * q) (drop (4 * (first - p)) (bitsIn high-first piece)) ≡ filled (4 * q) (drop (4 * first) (heldThen held p (piece ++ last ∷ [])))
   inside first q h fits =
       let X : List Bool = unpack high-first (4 * p) held in
       let Y : List Bool = bitsIn high-first piece in
+      let Z : List Bool = bitsIn high-first (last ∷ []) in
       let m : ℕ = first - p in
       let lX : length X ≡ 4 * p = length-unpack high-first (4 * p) held (omega arith) in
       let lY : length Y ≡ 8 * length piece = length-bitsIn high-first piece in
       let place : 4 * first ≡ length X + 4 * m = omega arith in
-      let rest : drop (4 * first) (withOne (heldThen held p piece)) ≡ drop (4 * m) Y ++ true ∷ [] =
-      ap₂ (λ (n : ℕ) (Z : List Bool). drop n Z) place (append-assoc X Y (true ∷ [])) ∙ drop-append-add X (Y ++ true ∷ []) (4 * m) ∙ drop-append-le (4 * m) Y (true ∷ []) (omega arith) in
+      let rest : drop (4 * first) (heldThen held p (piece ++ last ∷ [])) ≡ drop (4 * m) Y ++ Z =
+      ap₂ (λ (n : ℕ) (bs : List Bool). drop n (X ++ bs)) place (bitsIn-append high-first piece (last ∷ []))
+      ∙ drop-append-add X (Y ++ Z) (4 * m)
+      ∙ drop-append-le (4 * m) Y Z (omega arith) in
       let long : 4 * q ≤ length (drop (4 * m) Y) = omega (arith, length-drop (4 * m) Y) in
       sym (ap (filled (4 * q)) rest
-      ∙ filled-take (4 * q) (drop (4 * m) Y ++ true ∷ []) (omega (arith, length-append (drop (4 * m) Y) (true ∷ [])))
-      ∙ take-append-le (4 * q) (drop (4 * m) Y) (true ∷ []) long)
+      ∙ filled-take (4 * q) (drop (4 * m) Y ++ Z) (omega (arith, length-append (drop (4 * m) Y) Z))
+      ∙ take-append-le (4 * q) (drop (4 * m) Y) Z long)
 
 -- the bytes that it makes
 pub made : (v : ℕ) → known v ≡ true → (q : ℕ) → 4 * q ≡ variant v .r → (bytes : List ℕ) (bs : List Bool) → bytes ≡ packedBlock (filled (4 * q) bs)

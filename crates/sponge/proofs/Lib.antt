@@ -9,6 +9,7 @@ pub mod ImageOfState
 pub mod SqueezeLaws
 pub mod BlockHalves
 pub mod BlockRows
+pub mod PartBytes
 pub mod BlockRuns
 pub mod WordPlaces
 pub mod RowsIntoBytes

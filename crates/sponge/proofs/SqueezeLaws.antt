@@ -22,6 +22,7 @@ use Rattle.standard.proofs.Reordered.{reordered-same}
 use Rattle.sponge.specs.Layout.{stateRoom, blockRoom, packedState}
 use Rattle.sponge.specs.Cells.{cellIn}
 use Rattle.sponge.proofs.LayoutLaws.{packed-bits}
+use Rattle.sponge.proofs.BlockRows.{pack-filled, pack-zeros}
 use Rattle.sponge.proofs.MatrixImage.{filled-take}
 use Rattle.sponge.proofs.RowsIntoBytes.{read-back, kept-back}
 
@@ -56,13 +57,9 @@ module _ (out s : List ℕ) (lo : length out ≡ stateRoom) (ls : length s ≡ s
       → next ≡ pack high-first stateRoom (unpack high-first (4 * p) out ++ take (4 * (i + 1)) (bitsIn high-first s))
   front-next l x next ex en = rw (en, front-size, front-again, ex, front-half l)
 
--- packed bytes depend on the bits that they have room for alone
-packed-whole : (o : Order) (k : ℕ) (X : List Bool) → pack o k X ≡ pack o k (filled (k * 8) X)
-packed-whole o k X = sym (rw (length-pack, bitsIn-pack) at (pack-bitsIn o (pack o k X) (pack-bytes o k X)))
-
 packed-front : (o : Order) (k m : ℕ) (S : List Bool) → k * 8 ≤ m → m ≤ length S → pack o k (take m S) ≡ pack o k S
 packed-front o k m S hk hm =
-    rw (packed-whole o k (take m S), packed-whole o k S, filled-take (k * 8) (take m S) (omega (arith, length-take-le m S hm)), filled-take (k * 8) S (omega arith), take-take (k * 8) m S hk)
+    rw (← pack-filled o k (take m S), ← pack-filled o k S, filled-take (k * 8) (take m S) (omega (arith, length-take-le m S hm)), filled-take (k * 8) S (omega arith), take-take (k * 8) m S hk)
 
 -- the first m bits of a state, as they are given out, are the first m bits of the bytes that hold it
 pub output-bits : (o : Order) (t m : ℕ) (S : List Bool) → length S ≡ t → t ≤ stateRoom * 8 → m ≤ t → (high-first ≡ o) ⊎ (m % 8 ≡ 0)
@@ -81,14 +78,8 @@ output-bits o t m S lS ht hm w =
 
 -- ---- the step of a block of zeros
 
-filled-zeros : (w n : ℕ) → filled w (replicate n false) ≡ filled w []
-unfolding filled
-filled-zeros zero n = refl
-filled-zeros (suc w) zero = refl
-filled-zeros (suc w) (suc n) = ap (λ (l : List Bool). false ∷ l) (filled-zeros w n)
-
 packed-zeros : (o : Order) (k n : ℕ) → pack o k (replicate n false) ≡ replicate k 0
-packed-zeros o k n = packed-whole o k (replicate n false) ∙ ap (pack o k) (filled-zeros (k * 8) n) ∙ sym (packed-whole o k []) ∙ pack-none o k
+packed-zeros o k n = pack-zeros o k [] n ∙ pack-none o k
 
 take-zeros : (m n : ℕ) → m ≤ n → take m (replicate n false) ≡ replicate m false
 take-zeros zero n h = refl

@@ -1,7 +1,7 @@
--- Blocks of a bit string that ends inside one: the bits, the 1 bit that the padding adds (5.2.3, 5.3.3), and zeros.
+-- Blocks of a bit string that comes in bytes: half bytes, held ones with bytes behind them, and the first blocks, with zeros where the bits end.
 -- Assumes nothing.
-use mathlib.Core.Bool.{Bool, true, cond}
-use mathlib.Core.List.{List, [], _∷_, _++_}
+use mathlib.Core.Bool.{Bool, cond}
+use mathlib.Core.List.{List, _++_}
 use Prim.Native.Nat.{ℕ, _*_, _/_, _%_}
 use lib.Dec.{eqb}
 use lib.ListN.{drop}
@@ -15,13 +15,9 @@ halfOf x n = cond (eqb (n % 2) 0) (x / 16) (x % 16)
 abbrev pub halfIn : List Bool → ℕ → ℕ
 halfIn bs n = valueOf high-first (filled 4 (drop (4 * n) bs))
 
--- the first p half bytes of the held ones, and the piece behind them
+-- the first p half bytes of the held ones, and bytes behind them
 abbrev pub heldThen : List ℕ → ℕ → List ℕ → List Bool
-heldThen held p piece = unpack high-first (4 * p) held ++ bitsIn high-first piece
-
--- bits with the 1 bit of the padding behind them
-abbrev pub withOne : List Bool → List Bool
-withOne bs = bs ++ true ∷ []
+heldThen held p bytes = unpack high-first (4 * p) held ++ bitsIn high-first bytes
 
 -- the first n blocks of r bits, with zeros behind the bits where they end
 unfoldable pub firstBlocks : ℕ → ℕ → List Bool → List (List Bool)

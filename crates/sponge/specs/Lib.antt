@@ -2,6 +2,7 @@
 pub mod Layout
 pub mod Cells
 pub mod Blocks
+pub mod Parts
 pub mod Directions
 pub mod Images
 pub mod Words

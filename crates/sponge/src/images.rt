@@ -32,19 +32,15 @@ fn zero_from(bytes: &[u8], k: usize) -> bool
     true
 }
 
-// Whether no bit from bit c on is set, a byte's highest bit first. Every place asked for is at a whole byte or at its middle.
+// Whether no bit from bit c on is set, a byte's highest bit first.
 pub fn clear_from(bytes: &[u8], c: usize) -> bool
-    requires { ⌜ c % 4 ≡ 0 ⌝ }
     ensures { λ r. ⌜ r ≡ clear (drop c (bitsIn high-first (now (bytes .entry)))) ⌝ }
 {
     let k = c / 8;
     if bytes.len() <= k {
         return true;
     }
-    if c % 8 == 0 {
-        return zero_from(bytes, k);
-    }
-    if bytes[k] % 16 != 0 {
+    if (bytes[k] as u32) % (1 << (8 - c % 8)) != 0 {
         return false;
     }
     zero_from(bytes, k + 1)

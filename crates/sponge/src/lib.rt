@@ -3,6 +3,7 @@ pub mod blocks;
 pub mod images;
 mod matrix;
 pub mod outcome;
+pub mod parts;
 pub mod sizes;
 pub mod squeeze;
 pub mod step;

@@ -1,13 +1,14 @@
 // A state after a row of blocks, or the digest that it gives: the tables are made once for all of it, and the state stays in words until the end.
 ghost use mathlib.Core.Path.{_≡_};
 ghost use mathlib.Core.Bool.{true, false};
+ghost use mathlib.Core.List.{[], _∷_, _++_};
 ghost use Prim.Native.Nat.{_*_, _^_, _≤_};
 ghost use lib.ListN.{length};
 ghost use Rattle.standard.specs.Sponge.{stateIn};
 ghost use Rattle.standard.specs.Chain.{run};
 ghost use Rattle.standard.specs.Variants.{variant, known};
 ghost use Rattle.sponge.specs.Layout.{packedState, Holds};
-ghost use Rattle.sponge.specs.Blocks.{heldThen, withOne, firstBlocks};
+ghost use Rattle.sponge.specs.Blocks.{heldThen, firstBlocks};
 ghost use Rattle.sponge.specs.Words.{TableOf, outcome};
 use crate::blocks;
 use crate::sizes::STATE_BYTES;
@@ -21,16 +22,17 @@ fn outcome_with(
     held: &[u8],
     p: usize,
     piece: &[u8],
+    last: u8,
     count: usize,
     digest: bool,
     table: &[u64],
 ) -> [u8; STATE_BYTES]
     requires { ⌜ (known v ≡ true) × (p ≤ 2 * length (now held)) × (count ≤ 2 ^ 32) ⌝ }
     requires { ⌜ TableOf v (now table) ⌝ }
-    ensures { λ r. ⌜ r ≡ outcome (variant v) digest (run (variant v) (stateIn (variant v) s) (firstBlocks (variant v .r) count (withOne (heldThen (now (held .entry)) p (now (piece .entry)))))) ⌝ }
+    ensures { λ r. ⌜ r ≡ outcome (variant v) digest (run (variant v) (stateIn (variant v) s) (firstBlocks (variant v .r) count (heldThen (now (held .entry)) p (now (piece .entry) ++ last ∷ [])))) ⌝ }
 {
     let mut w = words::words_of(v, s);
-    blocks::run_words(v, &mut w, held, p, piece, count, table);
+    blocks::run_words(v, &mut w, held, p, piece, last, count, table);
     if digest {
         return squeeze::squeezed(v, &mut w, table);
     }
@@ -45,15 +47,16 @@ fn outcome_pairs(
     held: &[u8],
     p: usize,
     piece: &[u8],
+    last: u8,
     count: usize,
     digest: bool,
 ) -> [u8; STATE_BYTES]
     requires { ⌜ (1 ≤ v) × (v ≤ 4) × (p ≤ 2 * length (now held)) × (count ≤ 2 ^ 32) ⌝ }
-    ensures { λ r. ⌜ r ≡ outcome (variant v) digest (run (variant v) (stateIn (variant v) s) (firstBlocks (variant v .r) count (withOne (heldThen (now (held .entry)) p (now (piece .entry)))))) ⌝ }
+    ensures { λ r. ⌜ r ≡ outcome (variant v) digest (run (variant v) (stateIn (variant v) s) (firstBlocks (variant v .r) count (heldThen (now (held .entry)) p (now (piece .entry) ++ last ∷ [])))) ⌝ }
 {
     let mut table = [0u64; 1040];
     photon::words::fill_pairs(v as usize, &mut table);
-    outcome_with(v, s, held, p, piece, count, digest, &table)
+    outcome_with(v, s, held, p, piece, last, count, digest, &table)
 }
 
 fn outcome_shares(
@@ -61,14 +64,15 @@ fn outcome_shares(
     held: &[u8],
     p: usize,
     piece: &[u8],
+    last: u8,
     count: usize,
     digest: bool,
 ) -> [u8; STATE_BYTES]
     requires { ⌜ (p ≤ 2 * length (now held)) × (count ≤ 2 ^ 32) ⌝ }
-    ensures { λ r. ⌜ r ≡ outcome (variant 5) digest (run (variant 5) (stateIn (variant 5) s) (firstBlocks (variant 5 .r) count (withOne (heldThen (now (held .entry)) p (now (piece .entry)))))) ⌝ }
+    ensures { λ r. ⌜ r ≡ outcome (variant 5) digest (run (variant 5) (stateIn (variant 5) s) (firstBlocks (variant 5 .r) count (heldThen (now (held .entry)) p (now (piece .entry) ++ last ∷ [])))) ⌝ }
 {
     let table = photon::words::entries_288();
-    outcome_with(5, s, held, p, piece, count, digest, &table)
+    outcome_with(5, s, held, p, piece, last, count, digest, &table)
 }
 
 fn outcome_spread(
@@ -77,15 +81,16 @@ fn outcome_spread(
     held: &[u8],
     p: usize,
     piece: &[u8],
+    last: u8,
     count: usize,
     digest: bool,
 ) -> [u8; STATE_BYTES]
     requires { ⌜ (6 ≤ v) × (v ≤ 10) × (p ≤ 2 * length (now held)) × (count ≤ 2 ^ 32) ⌝ }
-    ensures { λ r. ⌜ r ≡ outcome (variant v) digest (run (variant v) (stateIn (variant v) s) (firstBlocks (variant v .r) count (withOne (heldThen (now (held .entry)) p (now (piece .entry)))))) ⌝ }
+    ensures { λ r. ⌜ r ≡ outcome (variant v) digest (run (variant v) (stateIn (variant v) s) (firstBlocks (variant v .r) count (heldThen (now (held .entry)) p (now (piece .entry) ++ last ∷ [])))) ⌝ }
 {
     let mut table = [0u64; 2048];
     spongent::words::fill_table(&mut table);
-    outcome_with(v, s, held, p, piece, count, digest, &table)
+    outcome_with(v, s, held, p, piece, last, count, digest, &table)
 }
 
 // The state after the first `count` blocks, or the digest that is squeezed out of it.
@@ -95,19 +100,20 @@ pub fn outcome_after(
     held: &[u8],
     p: usize,
     piece: &[u8],
+    last: u8,
     count: usize,
     digest: bool,
 ) -> [u8; STATE_BYTES]
     requires { ⌜ (known v ≡ true) × (p ≤ 2 * length (now held)) × (count ≤ 2 ^ 32) ⌝ }
-    ensures { λ r. ⌜ r ≡ outcome (variant v) digest (run (variant v) (stateIn (variant v) s) (firstBlocks (variant v .r) count (withOne (heldThen (now (held .entry)) p (now (piece .entry)))))) ⌝ }
+    ensures { λ r. ⌜ r ≡ outcome (variant v) digest (run (variant v) (stateIn (variant v) s) (firstBlocks (variant v .r) count (heldThen (now (held .entry)) p (now (piece .entry) ++ last ∷ [])))) ⌝ }
 {
     if v <= 4 {
-        return outcome_pairs(v, s, held, p, piece, count, digest);
+        return outcome_pairs(v, s, held, p, piece, last, count, digest);
     }
     if v == 5 {
-        return outcome_shares(s, held, p, piece, count, digest);
+        return outcome_shares(s, held, p, piece, last, count, digest);
     }
-    outcome_spread(v, s, held, p, piece, count, digest)
+    outcome_spread(v, s, held, p, piece, last, count, digest)
 }
 
 // The state after the first `count` blocks. A piece that fills no block needs no table.
@@ -117,15 +123,16 @@ pub fn run_blocks(
     held: &[u8],
     p: usize,
     piece: &[u8],
+    last: u8,
     count: usize,
 ) -> [u8; STATE_BYTES]
     requires { ⌜ known v ≡ true ⌝ }
     requires { ⌜ Holds v s ⌝ }
     requires { ⌜ (p ≤ 2 * length (now held)) × (count ≤ 2 ^ 32) ⌝ }
-    ensures { λ r. ⌜ r ≡ packedState (variant v) (run (variant v) (stateIn (variant v) s) (firstBlocks (variant v .r) count (withOne (heldThen (now (held .entry)) p (now (piece .entry)))))) ⌝ }
+    ensures { λ r. ⌜ r ≡ packedState (variant v) (run (variant v) (stateIn (variant v) s) (firstBlocks (variant v .r) count (heldThen (now (held .entry)) p (now (piece .entry) ++ last ∷ [])))) ⌝ }
 {
     if count == 0 {
         return s;
     }
-    outcome_after(v, s, held, p, piece, count, false)
+    outcome_after(v, s, held, p, piece, last, count, false)
 }

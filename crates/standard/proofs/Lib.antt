@@ -19,8 +19,10 @@ pub mod Streaming
 pub mod Sponge
 pub mod OneBlock
 pub mod TakenBack
+pub mod HighBits
 pub mod PutBits
 pub mod Variants
+pub mod PartBytes
 pub mod OneValue
 pub mod ImageStates
 pub mod KnownValues

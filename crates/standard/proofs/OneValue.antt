@@ -13,7 +13,7 @@ use lib.Seq.{take-all, take-length, take-append-le, drop-append-le, drop-append-
 use borrow.Author.Tests.{leb-true, eqb-true}
 use Rattle.standard.specs.Bits.{high-first, pack}
 use Rattle.standard.specs.Sponge.{Variant, startState}
-use Rattle.standard.specs.Chain.{messageBits, padding, padded, wholeBlocks, blocksOf, DifferAt, endState}
+use Rattle.standard.specs.Chain.{byteBits, padding, padded, wholeBlocks, blocksOf, DifferAt, endState}
 use Rattle.standard.specs.Variants.{variants, variant, known}
 use Rattle.standard.specs.Values.{DifferWithin, inOneBlock, period, offsets, oneBlockOffsets}
 use Rattle.standard.proofs.Tests.{lt-or-le, either}
@@ -156,8 +156,8 @@ module _ (H : Variant) (g : Streams H) (j : ℕ) (x y : List Bool) (d : DifferWi
 
 module _ (x y : List ℕ) (hx : (i : ℕ) → getD x i 0 < 256) (hy : (i : ℕ) → getD y i 0 < 256) where
   -- bytes that differ have bits that differ
-  pub differ-bits : (k m : ℕ) → length x ≡ length y → (x ≡ y → ⊥) → take k (messageBits x) ≡ take k (messageBits y)
-      → drop (k + m) (messageBits x) ≡ drop (k + m) (messageBits y) → DifferWithin k m (messageBits x) (messageBits y)
+  pub differ-bits : (k m : ℕ) → length x ≡ length y → (x ≡ y → ⊥) → take k (byteBits x) ≡ take k (byteBits y)
+      → drop (k + m) (byteBits x) ≡ drop (k + m) (byteBits y) → DifferWithin k m (byteBits x) (byteBits y)
   differ-bits k m l n before behind =
       record {
         size = length-bitsIn high-first x ∙ ap (λ (i : ℕ). 8 * i) l ∙ sym (length-bitsIn high-first y);
@@ -167,19 +167,19 @@ module _ (x y : List ℕ) (hx : (i : ℕ) → getD x i 0 < 256) (hy : (i : ℕ) 
       }
 
   -- bytes that differ only in the n from p on
-  pub value-bits : (p n : ℕ) → DifferWithin p n x y → DifferWithin (8 * p) (8 * n) (messageBits x) (messageBits y)
+  pub value-bits : (p n : ℕ) → DifferWithin p n x y → DifferWithin (8 * p) (8 * n) (byteBits x) (byteBits y)
   value-bits p n d =
       let e : 8 * p + 8 * n ≡ 8 * (p + n) = omega arith in
       differ-bits (8 * p) (8 * n) (d .size) (d .differ) (simp (bitsIn-take, d .before)) (simp (e, bitsIn-drop, d .behind))
 
   -- and those in one block
   pub value-block : (H : Variant) (p n : ℕ) → DifferWithin p n x y → inOneBlock H p n ≡ true
-      → DifferWithin (8 * p / H .r * H .r) (H .r) (messageBits x) (messageBits y)
+      → DifferWithin (8 * p / H .r * H .r) (H .r) (byteBits x) (byteBits y)
   unfolding inOneBlock
   value-block H p n d e =
       let j : ℕ = 8 * p / H .r * H .r in
       let fits : 8 * p % H .r + 8 * n ≤ H .r = leb-true (8 * p % H .r + 8 * n) (H .r) e in
-      differ-wider (8 * p) (8 * n) (messageBits x) (messageBits y) (value-bits p n d) j (H .r)
+      differ-wider (8 * p) (8 * n) (byteBits x) (byteBits y) (value-bits p n d) j (H .r)
       (omega (arith, div-add-mod' (8 * p) (H .r))) (omega (arith, fits, div-add-mod' (8 * p) (H .r)))
 
 -- ---- the theorems by number
@@ -197,17 +197,17 @@ one-changed-part v k j x y d = changed-end (variant v) (streams v k) j x y d (sp
 module _ (v : ℕ) (k : known v ≡ true) (x y : List ℕ) (hx : (i : ℕ) → getD x i 0 < 256) (hy : (i : ℕ) → getD y i 0 < 256) where
   -- two messages of bytes
   pub one-changed-bytes : (j : ℕ) → length x ≡ length y → (x ≡ y → ⊥)
-      → take (j * variant v .r) (messageBits x) ≡ take (j * variant v .r) (messageBits y)
-      → drop (j * variant v .r + variant v .r) (messageBits x) ≡ drop (j * variant v .r + variant v .r) (messageBits y)
-      → endState (variant v) (messageBits x) ≡ endState (variant v) (messageBits y) → ⊥
+      → take (j * variant v .r) (byteBits x) ≡ take (j * variant v .r) (byteBits y)
+      → drop (j * variant v .r + variant v .r) (byteBits x) ≡ drop (j * variant v .r + variant v .r) (byteBits y)
+      → endState (variant v) (byteBits x) ≡ endState (variant v) (byteBits y) → ⊥
   one-changed-bytes j l n before behind =
-      one-changed-part v k j (messageBits x) (messageBits y) (differ-bits x y hx hy (j * variant v .r) (variant v .r) l n before behind)
+      one-changed-part v k j (byteBits x) (byteBits y) (differ-bits x y hx hy (j * variant v .r) (variant v .r) l n before behind)
 
   -- and the end states differ
   pub one-changed-value : (p n : ℕ) → DifferWithin p n x y → inOneBlock (variant v) p n ≡ true
-      → endState (variant v) (messageBits x) ≡ endState (variant v) (messageBits y) → ⊥
+      → endState (variant v) (byteBits x) ≡ endState (variant v) (byteBits y) → ⊥
   one-changed-value p n d e =
-      one-changed-part v k (8 * p / variant v .r) (messageBits x) (messageBits y) (value-block x y hx hy (variant v) p n d e)
+      one-changed-part v k (8 * p / variant v .r) (byteBits x) (byteBits y) (value-block x y hx hy (variant v) p n d e)
 
 -- ---- at which offsets a value lies in one block
 

@@ -12,7 +12,7 @@ use borrow.Author.Tests.{ltb-true, lt-ltb}
 use Rattle.standard.specs.Bits.{high-first}
 use Rattle.standard.specs.Rounds.{Direction, opposite}
 use Rattle.standard.specs.Sponge.{Family, photon, spongent, Variant, order, permutationOf, permutation, startOf, startState, imageSize}
-use Rattle.standard.specs.Chain.{messageBits, blocksOf, Blocks, DifferAt, run}
+use Rattle.standard.specs.Chain.{byteBits, blocksOf, Blocks, DifferAt, run}
 use Rattle.standard.specs.Variants.{none, variants, variant, known}
 use Rattle.standard.proofs.Tests.{and-true, below, below-at}
 use Rattle.standard.proofs.Undo.{All, all-at}
@@ -60,7 +60,6 @@ tested f t (suc i) k = below-at (λ j. f (variant (suc j))) (length variants - 1
 pub record Bounds (H : Variant) : Type 0 where
   pub state-least : 24 ≤ H .t
   pub state-most : H .t ≤ 288
-  pub state-quarters : H .t % 4 ≡ 0
   pub image-least : 2 ≤ imageSize H
   pub image-most : imageSize H ≤ 36
   pub rate-least : 8 ≤ H .r
@@ -139,7 +138,7 @@ pub permutation-length : (v : ℕ) → known v ≡ true → (w : Direction) (s :
 permutation-length v k = sponge v k .keeps
 
 -- L bytes give floor(8 L / r) + 1 blocks
-pub message-block-count : (v : ℕ) → known v ≡ true → (m : List ℕ) → length (blocksOf (variant v) (messageBits m)) ≡ 8 * length m / variant v .r + 1
+pub message-block-count : (v : ℕ) → known v ≡ true → (m : List ℕ) → length (blocksOf (variant v) (byteBits m)) ≡ 8 * length m / variant v .r + 1
 message-block-count v k m = rw (sponge-count (variant v) (streams v k) (sponge v k), length-bitsIn)
 
 -- Demand 3, first sentence. Two rows of blocks of r bits, of equal count, that differ at exactly one place i:

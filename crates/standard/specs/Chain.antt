@@ -1,17 +1,30 @@
 -- From a message to its end state and digest, for every family: padding, blocks, a step for each block. What differs between families is by cases on `Family`.
--- A message is a bit string. A message of bytes is the case `messageBits`.
+-- A message is a bit string. A message of whole bytes is the case `byteBits`, one that may end inside a byte the case `messageBits`.
 -- Assumes nothing.
 use mathlib.Core.Path.{_≡_}
 use mathlib.Core.Bool.{Bool}
 use mathlib.Core.List.{List, [], _∷_, _++_, foldl}
-use Prim.Native.Nat.{ℕ, _*_, _/_, _<_}
+use Prim.Native.Nat.{ℕ, _-_, _*_, _/_, _%_, _^_, _<_}
 use lib.ListN.{length, getD, drop}
-use Rattle.standard.specs.Bits.{high-first, bitsIn, cut}
+use Rattle.standard.specs.Bits.{high-first, bitsOf, bitsIn, cut}
 use Rattle.standard.specs.Sponge.{Family, photon, spongent, Variant, startState, spongePadding, spongeStep, digestFrom}
 
--- the bits of a message of bytes, each byte from its most significant bit on (5.2.3, note; for SPONGENT by Annex B.2)
-abbrev pub messageBits : List ℕ → List Bool
-messageBits bytes = bitsIn high-first bytes
+-- the bits of whole bytes, each byte from its most significant bit on (5.2.3, note; for SPONGENT by Annex B.2)
+abbrev pub byteBits : List ℕ → List Bool
+byteBits bytes = bitsIn high-first bytes
+
+-- document 02, Q-6: the number that the k counting bits of a byte make, PHOTON's k high ones and SPONGENT's k low ones
+abbrev pub countedOf : Family → ℕ → ℕ → ℕ
+countedOf (photon p) k b = b / 2 ^ (8 - k)
+countedOf (spongent p) k b = b % 2 ^ k
+
+-- The bits of a message of bytes of whose last one k bits count: they join the bit string from the highest of them on, so that eight are the whole byte, and the
+-- padding's 1 follows them there. SPONGENT's low bits cannot stay in place with the 1 above them: whole bytes are followed by 80 (docs/DECISIONS.md, D-1), which
+-- seven 0 bits and a 1 above them would be too (D-22).
+unfoldable pub messageBits : Variant → List ℕ → ℕ → List Bool
+messageBits H [] k = []
+messageBits H (b ∷ []) k = bitsOf high-first k (countedOf (H .family) k b)
+messageBits H (b ∷ c ∷ bs) k = bitsOf high-first 8 b ++ messageBits H (c ∷ bs) k
 
 -- ---- padding
 

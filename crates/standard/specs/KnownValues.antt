@@ -1,5 +1,5 @@
 -- The known values of document 01 that are to be proved: rows of what the definitions give and what is stated.
--- Two rows are not the paper's, and are marked so. Crates above may add rows of their own: `holds-append`.
+-- Six rows are not the paper's, and are marked so. Crates above may add rows of their own: `holds-append`.
 -- Assumes nothing.
 use mathlib.Core.Path.{_≡_}
 use mathlib.Core.Bool.{Bool, true, false}
@@ -11,7 +11,7 @@ use Rattle.standard.specs.Field.{mul}
 use Rattle.standard.specs.Photon.{serial, aes}
 use Rattle.standard.specs.Spongent.{lCounters, goesTo}
 use Rattle.standard.specs.Sponge.{startState, outputBlocks}
-use Rattle.standard.specs.Chain.{messageBits, blocksOf}
+use Rattle.standard.specs.Chain.{byteBits, messageBits, blocksOf}
 use Rattle.standard.specs.Variants.{variant, photon100, spongent88}
 use Rattle.standard.specs.LowestFreeBit.{lowestFreeBit}
 
@@ -26,7 +26,11 @@ AllHold rows = map (λ (row : Row). row .gives) rows ≡ map (λ (row : Row). ro
 
 -- the blocks of a message of bytes as numbers, their first bit the most significant
 abbrev pub blockValues : ℕ → List ℕ → List ℕ
-blockValues v m = map (valueOf high-first) (blocksOf (variant v) (messageBits m))
+blockValues v m = map (valueOf high-first) (blocksOf (variant v) (byteBits m))
+
+-- and of one of whose last byte k bits count
+abbrev pub bitBlockValues : ℕ → List ℕ → ℕ → List ℕ
+bitBlockValues v m k = map (valueOf high-first) (blocksOf (variant v) (messageBits (variant v) m k))
 
 -- the last 24 bits of the start state
 abbrev pub startEnd : ℕ → ℕ
@@ -53,6 +57,12 @@ knownValues =
     ∷ record { gives = blockValues 8 (0xab ∷ []); stated = 0xab80 ∷ [] }
     -- five bytes in variant 1: three blocks, the last 80000
     ∷ record { gives = blockValues 1 (1 ∷ 2 ∷ 3 ∷ 4 ∷ 5 ∷ []); stated = 0x01020 ∷ 0x30405 ∷ 0x80000 ∷ [] }
+    -- not the papers' (for document 02, Q-6): three bits of the byte B7, 101 in variant 2 and 111 in variant 6; 19 bits in variant 1, which the 1 bit makes a block
+    ∷ record { gives = bitBlockValues 2 (0xb7 ∷ []) 3; stated = 0xb000 ∷ [] }
+    ∷ record { gives = bitBlockValues 6 (0xb7 ∷ []) 3; stated = 0xf0 ∷ [] }
+    ∷ record { gives = bitBlockValues 1 (0xab ∷ 0xcd ∷ 0xef ∷ []) 3; stated = 0xabcdf ∷ [] }
+    -- seven 0 bits in variant 6, whose row is not that of no bits
+    ∷ record { gives = bitBlockValues 6 (0x00 ∷ []) 7; stated = 0x01 ∷ [] }
     -- the last 24 bits of the start
     ∷ record { gives = startEnd 1 ∷ startEnd 4 ∷ []; stated = 0x141410 ∷ 0x382020 ∷ [] }
     -- variant 6: the counter, and the places that 05 sets in reverse

@@ -8,6 +8,7 @@ pub mod Spongent
 pub mod Sponge
 pub mod Chain
 pub mod Variants
+pub mod PartBytes
 pub mod Values
 pub mod LowestFreeBit
 pub mod KnownValues

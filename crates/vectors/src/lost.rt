@@ -28,17 +28,23 @@ fn lost(v: u32, message: &[u8], place: usize, image: [u8; 36], k: usize, n: usiz
 }
 
 // The end state of a message, zeros behind it.
-fn end_of(v: u32, message: &[u8]) -> [u8; 36] {
+pub fn end_of(v: u32, message: &[u8]) -> [u8; 36] {
     let mut end = [0u8; 36];
     hasher::whole(v, message, Wanted::EndState, &mut end);
     end
 }
 
-// SPONGENT-88's state with byte 1 set to 01, permuted: no first block reaches that byte. Before that, an output that is too short.
-fn unreached() {
+// SPONGENT-88's state with byte 1 set to 01, permuted: no first block reaches that byte.
+pub fn unreached_image() -> [u8; 36] {
     let mut s = [0u8; 36];
     s[1] = 1;
     sponge::permute(6, &mut s[0..11]);
+    s
+}
+
+// No block leads there; before that, an output that is too short.
+fn unreached() {
+    let s = unreached_image();
     lost(6, b"", 0, s, 11, 0);
     lost(6, b"", 0, s, 11, 1);
 }

@@ -1,5 +1,6 @@
 // Runs the proved code on the examples of Annex B, on the known values and on one call of each kind that is refused, and prints a
 // line for each call: the operation, the variant, what was given, the answer's number and what came of it.
+mod bits;
 mod lists;
 mod lost;
 mod permutations;
@@ -16,5 +17,6 @@ fn main() {
     running::all();
     lists::all();
     lost::all();
+    bits::all();
     reports::all();
 }

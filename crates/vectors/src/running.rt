@@ -6,7 +6,7 @@ use hasher::Hasher;
 use hasher::Wanted;
 ghost use Prim.Native.Nat.{_≤_};
 
-fn start(v: u32) -> Hasher {
+pub fn start(v: u32) -> Hasher {
     show::word(b"start");
     show::variant(v);
     show::word(b"-");
@@ -19,7 +19,7 @@ fn start(v: u32) -> Hasher {
     h
 }
 
-fn update(h: Hasher, piece: &[u8]) -> Hasher {
+pub fn update(h: Hasher, piece: &[u8]) -> Hasher {
     show::word(b"update");
     show::variant(h.variant as u32);
     show::running(h);
@@ -35,7 +35,7 @@ fn update(h: Hasher, piece: &[u8]) -> Hasher {
     g
 }
 
-fn finish(h: Hasher) -> Hasher {
+pub fn finish(h: Hasher) -> Hasher {
     show::word(b"finish");
     show::variant(h.variant as u32);
     show::running(h);
@@ -60,7 +60,7 @@ fn read_into(h: Hasher, wanted: Wanted, out: &mut [u8]) {
 }
 
 // An output of n bytes A0.
-fn read(h: Hasher, wanted: Wanted, n: usize)
+pub fn read(h: Hasher, wanted: Wanted, n: usize)
     requires { ⌜ n ≤ 36 ⌝ }
 {
     let mut out = [0xA0u8; 36];
@@ -77,13 +77,13 @@ fn stages() {
     finish(f);
 }
 
-// After 16,777,214 bytes: bytes A0 in the state's image, and 12 bits held.
-fn near_limit() -> Hasher {
+// After 134,217,712 bits, a byte less than the longest message: bytes A0 in the state's image, and 12 bits held.
+pub fn near_limit() -> Hasher {
     let image = [0xA0u8; 13];
     let state = sponge::images::at_front(&image);
     let held = [0xA5, 0xA0, 0, 0, 0];
     Hasher {
-        total: 16777214,
+        total: 134217712,
         variant: 1,
         stage: 0,
         state: state,

@@ -52,7 +52,7 @@ pub fn whole(wanted: Wanted, v: u32, message: &[u8], n: usize)
 }
 
 // One byte at a time.
-fn by_bytes(h: Hasher, message: &[u8]) -> Hasher {
+pub fn by_bytes(h: Hasher, message: &[u8]) -> Hasher {
     let mut g = h;
     let mut i = 0;
     while i < message.len() {

@@ -4,10 +4,10 @@ ghost use lib.ListN.{length};
 ghost use Rattle.standard.specs.Rounds.{forward, backward};
 ghost use Rattle.answers.specs.Refusals.{answer};
 ghost use Rattle.sponge.specs.Images.{imageStatus, permutedImage};
-ghost use Rattle.hasher.specs.Running.{startedOver, updated, finished};
+ghost use Rattle.hasher.specs.Running.{startedOver, updated, updatedBits, finished};
 ghost use Rattle.hasher.specs.declared.Wanted.the-variants.{Digest, EndState};
-ghost use Rattle.hasher.specs.Reading.{readStatus, readInto, wholeStatus, wholeInto};
-ghost use Rattle.recover.specs.Recovering.{recoverStatus, recoverInto};
+ghost use Rattle.hasher.specs.Reading.{readStatus, readInto, wholeStatus, wholeInto, wholeBitsStatus, wholeBitsInto};
+ghost use Rattle.recover.specs.Recovering.{recoverStatus, recoverInto, recoverBitsStatus, recoverBitsInto};
 ghost use Rattle.segments.specs.Entries.{segmentStatus};
 ghost use Rattle.segments.specs.Digests.{listStatus, listInto};
 ghost use Rattle.manifest.specs.Records.{manifestStatus};
@@ -26,13 +26,22 @@ pub extern "C" fn wickslate_start(h: &mut Hasher, variant: u32) -> u32
     answers::answer_of(lent::start(h, variant))
 }
 
-// Refusals 2, 3, 4.
+// Refusals 2, 3, 16, 4.
 #[no_mangle]
 pub extern "C" fn wickslate_update(h: &mut Hasher, piece: &[u8]) -> u32
     ensures { λ r. ⌜ (r ≡ answer (updated (now (h .entry)) (now (piece .entry)) .status))
         × (now (h .exit) ≡ updated (now (h .entry)) (now (piece .entry)) .hasher) ⌝ }
 {
     answers::answer_of(lent::update(h, piece))
+}
+
+// A piece of whose last byte so many bits count: refusals 2, 3, 15, 16, 4.
+#[no_mangle]
+pub extern "C" fn wickslate_update_bits(h: &mut Hasher, piece: &[u8], bits: u32) -> u32
+    ensures { λ r. ⌜ (r ≡ answer (updatedBits (now (h .entry)) (now (piece .entry)) bits .status))
+        × (now (h .exit) ≡ updatedBits (now (h .entry)) (now (piece .entry)) bits .hasher) ⌝ }
+{
+    answers::answer_of(lent::update_bits(h, piece, bits))
 }
 
 // Refusals 2, 3.
@@ -80,6 +89,21 @@ pub extern "C" fn wickslate_whole(variant: u32, message: &[u8], wanted: u32, out
     answers::answer_of(hasher::whole(variant, message, wanted_of(wanted), out))
 }
 
+// The same of a message of whose last byte so many bits count: refusals 1, 15, 4, 5.
+#[no_mangle]
+pub extern "C" fn wickslate_whole_bits(
+    variant: u32,
+    message: &[u8],
+    bits: u32,
+    wanted: u32,
+    out: &mut [u8],
+) -> u32
+    ensures { λ r. ⌜ (r ≡ answer (wholeBitsStatus variant (now (message .entry)) bits (wantedOf wanted) (length (now (out .entry)))))
+        × (now (out .exit) ≡ wholeBitsInto variant (now (message .entry)) bits (wantedOf wanted) (now (out .entry))) ⌝ }
+{
+    answers::answer_of(hasher::whole_bits(variant, message, bits, wanted_of(wanted), out))
+}
+
 // The permutation on an image: refusals 1, 6.
 #[no_mangle]
 pub extern "C" fn wickslate_permute(variant: u32, image: &mut [u8]) -> u32
@@ -111,6 +135,22 @@ pub extern "C" fn wickslate_recover(
         × (now (out .exit) ≡ recoverInto variant (now (message .entry)) place (now (image .entry)) (now (out .entry))) ⌝ }
 {
     answers::answer_of(recover::recover(variant, message, place, image, out))
+}
+
+// The same of a message of whose last byte so many bits count: refusals 1, 15, 4, 7, 6, 5, 8.
+#[no_mangle]
+pub extern "C" fn wickslate_recover_bits(
+    variant: u32,
+    message: &[u8],
+    bits: u32,
+    place: usize,
+    image: &[u8],
+    out: &mut [u8],
+) -> u32
+    ensures { λ r. ⌜ (r ≡ answer (recoverBitsStatus variant (now (message .entry)) bits place (now (image .entry)) (length (now (out .entry)))))
+        × (now (out .exit) ≡ recoverBitsInto variant (now (message .entry)) bits place (now (image .entry)) (now (out .entry))) ⌝ }
+{
+    answers::answer_of(recover::recover_bits(variant, message, bits, place, image, out))
 }
 
 // Whether entry k names a segment of the buffer: refusals 9, 7, 10, 11.

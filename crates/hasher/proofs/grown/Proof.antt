@@ -1,11 +1,11 @@
--- `hasher::grown` meets its contract: the whole blocks of the held bits and the piece, and what is left. Assumes nothing.
-use Prim.Native.Nat.{_+_, _*_, _/_}
+-- `hasher::grown` meets its contract: the whole blocks of the held bits and those that come, and what is left. Assumes nothing.
+use Prim.Native.Nat.{_+_, _*_, _/_, _≤_, _<_}
 use native.Mathlib.Omega.{arith}
 use lib.ListN.{length}
 use borrow.Author.Needs.{needs}
 use Rattle.hasher.proofs.Owned.{Owned, owned}
 use Rattle.hasher.proofs.WellFormed.{facts, state-kept}
-use Rattle.hasher.proofs.TakenBlocks.{Small, held-fit, small, piece-taken}
+use Rattle.hasher.proofs.TakenBlocks.{Small, held-few, held-fit, small, piece-taken}
 use Rattle.hasher.proofs.grown.Statement.{statement}
 use Rattle.hasher.proofs.grown.Tie as tie
 
@@ -16,34 +16,41 @@ module _ (c : tie.After-held-count) where
   owns : Owned (entry .args .h)
   owns = owned (entry .args .h) _ (entry .good .0)
 
-  counts : Small (c .held-count .result / 4 + 2 * length (entry .args .piece .now)) (c .before .block-bits .result / 4)
-  counts = small owns (entry .pre .0) (c .held-count .ensures) (c .before .block-bits .ensures) (entry .args .piece .now) (entry .pre .1)
+  counts : Small (c .held-count .result + (8 * length (entry .args .piece .now) + entry .args .k)) (c .before .block-bits .result)
+  counts = small owns (entry .pre .0) (c .held-count .ensures) (entry .pre .1 .0 .0) (c .before .block-bits .ensures) (entry .args .piece .now) (entry .args .last) (entry .args .k) (entry .pre .1 .0 .1) (entry .pre .1 .0 .2)
+
+  fits : c .held-count .result / 4 ≤ 2 * length (entry .args .h .held)
+  fits = held-fit owns (entry .pre .0) (c .held-count .ensures) (entry .pre .1 .0 .0) (c .before .block-bits .ensures) (entry .args .piece .now) (entry .args .last) (entry .args .k)
+
+  few : c .held-count .result < 40
+  few = held-few owns (entry .pre .0) (c .held-count .ensures)
 
 held-count-requires : tie.Need-held-count-requires
 held-count-requires c κs =
     let s = c .before .before .before .before in
-    let f = facts (s .args .h) (s .pre .0 .0) in
-    (f .named, f .few)
+    facts (s .args .h) (s .pre .0 .0) .named
 
 run-blocks-requires : tie.Need-run-blocks-requires
 run-blocks-requires c κs =
     let held = c .before .before in
-    let f = facts (entry held .args .h) (entry held .pre .0 .0) in
-    (f .named, (state-kept (entry held .args .h) f (owns held), (held-fit (owns held) (entry held .pre .0) (held .held-count .ensures), omega (arith, counts held .count))))
+    let s = entry held in
+    let f = facts (s .args .h) (s .pre .0 .0) in
+    (f .named, (state-kept (s .args .h) f (owns held), (fits held, omega (arith, counts held .count))))
 
 block-at-requires : tie.Need-block-at-requires
 block-at-requires c κs =
     let held = c .before .before .before .before in
-    (held-fit (owns held) (entry held .pre .0) (held .held-count .ensures), omega (arith, counts held .left), omega (arith, counts held .place))
+    (fits held, omega (arith, counts held .left), omega (arith, counts held .place))
 
 returns : tie.Need-returns
 returns c =
     let held = c .before .before .before .before .before in
-    piece-taken (owns held) (entry held .pre .0) (held .held-count .ensures) (held .before .block-bits .ensures) (entry held .args .piece .now) _ _
-    (c .before .before .run-blocks .ensures) (c .block-at .ensures)
+    let s = entry held in
+    piece-taken (owns held) (s .pre .0) (held .held-count .ensures) (s .pre .1 .0 .0) (held .before .block-bits .ensures) (s .args .piece .now) (s .args .last) (s .args .k)
+    (s .pre .1 .0 .1) (s .pre .1 .1) _ _ (c .before .before .run-blocks .ensures) (c .block-at .ensures)
 
 pub grown-spec : {M : Type 1} → statement M
 grown-spec =
     tie.close (tie.spec (λ c κs. search needs) (λ c. search needs) held-count-requires (λ c. search needs) (λ c. search needs)
-    (λ c. counts c .some) (λ c. search needs) (λ c. search needs) (λ c. search needs) run-blocks-requires (λ c. search needs)
-    (λ c. omega (arith, counts (c .before .before .before .before) .place)) (λ c. counts (c .before .before .before .before) .some) block-at-requires returns)
+    (λ c. omega (arith, few c)) (λ c. counts c .some) (λ c. omega (arith, few c)) (λ c. counts c .some) (λ c. search needs) (λ c. search needs) (λ c. search needs)
+    run-blocks-requires (λ c. search needs) (λ c. omega (arith, counts (c .before .before .before .before) .place)) (λ c. omega (arith, counts (c .before .before .before .before) .left)) block-at-requires returns)

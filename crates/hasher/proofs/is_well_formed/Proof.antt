@@ -1,13 +1,11 @@
 -- `hasher::is_well_formed` meets its contract: the tests one by one. Assumes nothing.
-use mathlib.Core.Path.{_≡_, sym, ap, _∙_}
+use mathlib.Core.Path.{_≡_, sym, _∙_}
 use mathlib.Core.Bool.{true}
-use Prim.Native.Nat.{ℕ, _%_}
 use borrow.Author.Needs.{needs}
 use borrow.Author.Tests.{not-true, not-false, le-leb, lt-leb}
 use Rattle.standard.specs.Variants.{known}
-use Rattle.standard.proofs.Variants.{bounds}
 use Rattle.hasher.specs.Running.{wellFormed}
-use Rattle.hasher.proofs.WellFormed.{count-quarters, spare}
+use Rattle.hasher.proofs.WellFormed.{spare}
 use Rattle.hasher.proofs.is_well_formed.Statement.{statement}
 use Rattle.hasher.proofs.is_well_formed.Tie as tie
 
@@ -28,10 +26,6 @@ returns-3 c =
     let second = c .before .before in
     rw (named (second .before .before), le-leb _ _ (second .if2 .left), lt-leb _ _ (c .if3 .taken))
 
-clear-from-requires : tie.Need-clear-from-requires
-clear-from-requires c κs =
-    ap (λ (n : ℕ). n % 4) (c .state-bits .ensures) ∙ bounds _ (named (c .before .before .before .before .before .before .before)) .state-quarters
-
 returns-4 : tie.Need-returns-4
 unfolding wellFormed
 returns-4 c =
@@ -42,13 +36,7 @@ returns-4 c =
     rw (k, le-leb _ _ (second .if2 .left), le-leb _ _ (third .if3 .left), spare _ k, ← size .state-bits .ensures, sym (c .before .clear-from .ensures) ∙ not-true _ (c .if4 .taken))
 
 held-count-requires : tie.Need-held-count-requires
-held-count-requires c κs =
-    let third = c .before .before .before .before .before .before .before in
-    (named (third .before .before .before .before), third .if3 .left)
-
-clear-from-requires-2 : tie.Need-clear-from-requires-2
-clear-from-requires-2 c κs =
-    ap (λ (n : ℕ). n % 4) (c .held-count .ensures) ∙ count-quarters _ (named (c .before .before .before .before .before .before .before .before .before .before .before .before))
+held-count-requires c κs = named (c .before .before .before .before .before .before .before .before .before .before .before)
 
 returns-5 : tie.Need-returns-5
 unfolding wellFormed
@@ -63,5 +51,5 @@ returns-5 c =
 
 pub is-well-formed-spec : {M : Type 1} → statement M
 is-well-formed-spec =
-    tie.close (tie.spec (λ c. search needs) (λ c κs. search needs) returns returns-2 (λ c. search needs) returns-3 (λ c. search needs)
-    (λ c κs. search needs) clear-from-requires returns-4 (λ c. search needs) held-count-requires clear-from-requires-2 returns-5)
+    tie.close (tie.spec (λ c. search needs) (λ c κs. search needs) returns returns-2 returns-3 (λ c. search needs)
+    (λ c κs. search needs) (λ c κs. tt) returns-4 (λ c. search needs) held-count-requires (λ c κs. tt) returns-5)

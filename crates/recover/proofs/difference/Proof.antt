@@ -16,10 +16,10 @@ use Rattle.recover.proofs.difference.Tie as tie
 run-blocks-requires : tie.Need-run-blocks-requires
 run-blocks-requires c κs =
     let start = c .before .before .before in
-    let a = start .args in
+    let v = start .args .v in
     let k = start .pre .0 in
     let s = c .before .start in
-    (k, (stored-ready (a .v) k (s .result) _ (streams (a .v) k .start-length) (s .ensures), (omega arith, omega (arith, start .pre .1 .1 .0, few (a .v) k (a .message .now) (start .pre .1 .0)))))
+    (k, (stored-ready v k (s .result) _ (streams v k .start-length) (s .ensures), (omega arith, omega (arith, start .pre .1 .1 .0, few v k (start .pre .1 .0)))))
 
 permuted-requires : tie.Need-permuted-requires
 permuted-requires c κs =
@@ -27,7 +27,7 @@ permuted-requires c κs =
     let a = start .args in
     let k = start .pre .0 in
     let y = c .run-back in
-    (k, back-ready (a .v) k (a .message .now) (stateIn (variant (a .v)) (a .end)) (state-length (a .v) k (a .end) (omega arith)) (suc (a .place)) (y .result) (y .ensures))
+    (k, back-ready (a .v) k (start .pre .1 .0) (stateIn (variant (a .v)) (a .end)) (state-length (a .v) k (a .end) (omega arith)) (suc (a .place)) (y .result) (y .ensures))
 
 returns : tie.Need-returns
 returns c =
@@ -39,7 +39,7 @@ returns c =
     let a = start .args in
     let k = start .pre .0 in
     let r = c .xored in
-    difference-held (a .v) k (a .message .now) (stateIn (variant (a .v)) (a .end)) (state-length (a .v) k (a .end) (omega (arith, start .good))) (a .place) (start .pre .1 .1 .0)
+    difference-held (a .v) k (start .pre .1 .0) (stateIn (variant (a .v)) (a .end)) (state-length (a .v) k (a .end) (omega (arith, start .good))) (a .place) (start .pre .1 .1 .0)
     (begun .start .result) (forward .run-blocks .result) [] (back .run-back .result) (permuted .permuted .result) (r .result)
     (begun .start .ensures) (forward .run-blocks .ensures) (back .run-back .ensures) (permuted .permuted .ensures) (bytes-lt stateRoom (r .result) _ (r .ok)) (omega arith) (r .ensures)
 

@@ -1,31 +1,37 @@
 -- `recover::run_back` meets its contract: the blocks passed, from the last on, are taken back. Assumes nothing.
 use mathlib.Core.Path.{_≡_, ap, _∙_}
-use mathlib.Core.List.{[]}
+use mathlib.Core.List.{[], _∷_, _++_}
 use Prim.Native.Nat.{ℕ, suc, _+_, _-_, _/_, _^_, _≤_, _<_}
 use native.Mathlib.Omega.{arith}
 use lib.ListN.{length, drop}
 use Rattle.standard.specs.Sponge.{unrun, stateIn}
-use Rattle.standard.specs.Chain.{messageBits, blocksOf}
+use Rattle.standard.specs.Chain.{blocksOf}
 use Rattle.standard.specs.Variants.{variant}
 use Rattle.sponge.specs.Layout.{packedState}
-use Rattle.sponge.specs.Blocks.{heldThen, withOne}
+use Rattle.sponge.specs.Blocks.{heldThen}
 use Rattle.sponge.proofs.BlockRuns.{few-halves, block-at-ready}
 use Rattle.sponge.proofs.States.{state-length}
-use Rattle.recover.proofs.Runs.{few, place-low, place-fits, back-start, back-ready, back-more}
+use Rattle.sponge.specs.Parts.{messageIn}
+use Rattle.sponge.proofs.PartBytes.{held-length}
+use Rattle.recover.proofs.Runs.{few, place-low, place-fits, back-start, back-at, back-ready, back-more}
 use borrow.Author.Needs.{needs}
 use Rattle.recover.proofs.run_back.Statement.{statement}
 use Rattle.recover.proofs.run_back.Tie as tie
 
 -- the state before the last block that is taken back
 abbrev Inv-loop : tie.InvT-loop
-Inv-loop v message place q n s₀ i₀ t12 s i =
-    (place < i) × (i ≤ n) × (s ≡ packedState (variant v) (unrun (variant v) (stateIn (variant v) s₀) (drop (place + n - i + 1) (blocksOf (variant v) (messageBits message)))))
+Inv-loop v front last bits place q n s₀ i₀ t12 s i =
+    (place < i) × (i ≤ n) × (s ≡ packedState (variant v) (unrun (variant v) (stateIn (variant v) s₀) (drop (place + n - i + 1) (blocksOf (variant v) (messageIn front last bits)))))
 
 abbrev μ-loop : tie.MeasureT-loop
-μ-loop v message place q n s₀ i₀ t12 s i = n - i
+μ-loop v front last bits place q n s₀ i₀ t12 s i = n - i
 
-few-blocks : (s : tie.Start Inv-loop μ-loop) → length (blocksOf (variant (s .args .v)) (messageBits (s .args .message .now))) ≤ 2 ^ 32
-few-blocks s = few (s .args .v) (s .pre .0) (s .args .message .now) (s .pre .1 .0)
+-- how many blocks the message has
+abbrev blockCount : tie.Start Inv-loop μ-loop → ℕ
+blockCount s = length (blocksOf (variant (s .args .v)) (messageIn (s .args .front .now) (s .args .last) (s .args .bits)))
+
+few-blocks : (s : tie.Start Inv-loop μ-loop) → blockCount s ≤ 2 ^ 32
+few-blocks s = few (s .args .v) (s .pre .0) (s .pre .1 .0)
 
 end-long : (s : tie.Start Inv-loop μ-loop) → length (stateIn (variant (s .args .v)) (s .args .end)) ≡ variant (s .args .v) .t
 end-long s = state-length (s .args .v) (s .pre .0) (s .args .end) (omega arith)
@@ -33,35 +39,36 @@ end-long s = state-length (s .args .v) (s .pre .0) (s .args .end) (omega arith)
 quarter : (c : tie.After-block-bits Inv-loop μ-loop) → c .block-bits .result / 4 ≡ variant (c .before .before .args .v) .r / 4
 quarter c = ap (λ (n : ℕ). n / 4) (c .block-bits .ensures)
 
+counted : (c : tie.After-block-count Inv-loop μ-loop) → c .block-count .result ≡ blockCount (c .before .before .before)
+counted c = c .block-count .ensures _ (held-length (c .before .before .before .pre .1 .0))
+
 loop-holds : tie.Need-loop-holds Inv-loop μ-loop
 loop-holds c =
     let start = c .before .before .before in
     let a = start .args in
-    let k = start .pre .0 in
-    let n = c .block-count .ensures in
+    let n = counted c in
     let last : a .place + c .block-count .result - (a .place + 1) + 1 ≡ c .block-count .result = omega (arith, n, start .pre .1 .1 .0) in (
       omega arith,
       omega (arith, n, start .pre .1 .1 .0),
       start .pre .1 .1 .1
-          ∙ ap (packedState (variant (a .v))) (back-start (a .v) k (a .message .now) (stateIn (variant (a .v)) (a .end)) (end-long start) _ (last ∙ n)),
+          ∙ ap (packedState (variant (a .v))) (back-start (a .v) (start .pre .0) (start .pre .1 .0) (stateIn (variant (a .v)) (a .end)) (end-long start) _ (last ∙ n)),
     )
 
 mul-block-at : tie.Need-mul-block-at Inv-loop μ-loop
 mul-block-at c =
     let start = c .before .before .before .before .before .before in
     let r = c .before .before .before .before in
-    place-fits (start .args .v) (start .pre .0) (start .args .message .now) (r .block-bits .result / 4) (quarter r) _ (start .pre .1 .0) (omega (arith, c .before .before .loop .inv))
+    place-fits (start .args .v) (start .pre .0) (start .pre .1 .0) (r .block-bits .result / 4) (quarter r) _ (omega (arith, counted (c .before .before .before), c .before .before .loop .inv))
 
 block-at-requires : tie.Need-block-at-requires Inv-loop μ-loop
 block-at-requires c κs =
     let start = c .before .before .before .before .before .before in
-    let a = start .args in
+    let v = start .args .v in
     let k = start .pre .0 in
-    let r = c .before .before .before .before .block-bits in
-    let q = quarter (c .before .before .before .before) in (
+    let r = c .before .before .before .before in (
       omega arith,
-      omega (arith, few-halves (a .v) k (r .result / 4) q),
-      place-low (a .v) k (a .message .now) (r .result / 4) q _ (start .pre .1 .0) (omega (arith, c .before .before .loop .inv, c .before .before .before .block-count .ensures)),
+      omega (arith, few-halves v k (r .block-bits .result / 4) (quarter r)),
+      place-low v k (start .pre .1 .0) (r .block-bits .result / 4) (quarter r) _ (omega (arith, counted (c .before .before .before), c .before .before .loop .inv)),
     )
 
 unstepped-requires : tie.Need-unstepped-requires Inv-loop μ-loop
@@ -69,14 +76,13 @@ unstepped-requires c κs =
     let start = c .before .before .before .before .before .before .before in
     let a = start .args in
     let k = start .pre .0 in
-    let r = c .before .before .before .before .before .block-bits in
+    let r = c .before .before .before .before .before in
     let n = c .before .before .before .before .block-count in
-    let l = c .before .before .before .loop in
-    let x = c .block-at in (
+    let l = c .before .before .before .loop in (
       k,
       (
-        back-ready (a .v) k (a .message .now) (stateIn (variant (a .v)) (a .end)) (end-long start) (a .place + n .result - l .i + 1) (l .s) (l .inv .2),
-        block-at-ready (a .v) k (r .result / 4) (quarter (c .before .before .before .before .before)) (x .result) (withOne (heldThen [] 0 (a .message .now))) _ (x .ensures),
+        back-ready (a .v) k (start .pre .1 .0) (stateIn (variant (a .v)) (a .end)) (end-long start) (a .place + n .result - l .i + 1) (l .s) (l .inv .2),
+        block-at-ready (a .v) k (r .block-bits .result / 4) (quarter r) (c .block-at .result) (heldThen [] 0 (a .front .now ++ a .last ∷ [])) _ (c .block-at .ensures),
       ),
     )
 
@@ -84,32 +90,31 @@ loop-again : tie.Need-loop-again Inv-loop μ-loop
 loop-again c =
     let start = c .before .before .before .before .before .before .before .before in
     let a = start .args in
-    let k = start .pre .0 in
-    let r = c .before .before .before .before .before .before .block-bits in
+    let r = c .before .before .before .before .before .before in
     let n = c .before .before .before .before .before .block-count in
     let l = c .before .before .before .before .loop in
     let x = c .before .block-at in
-    let j : ℕ = a .place + n .result - l .i in
-    let e : j ≡ a .place + n .result - (l .i + 1) + 1 = omega (arith, l .inv) in (
+    let end = stateIn (variant (a .v)) (a .end) in
+    let j : ℕ = a .place + n .result - l .i in (
       omega (arith, l .inv),
       omega arith,
-      back-more (a .v) k (a .message .now) (stateIn (variant (a .v)) (a .end)) (end-long start) (r .result / 4)
-          (quarter (c .before .before .before .before .before .before)) j (l .s) [] (x .result) (c .unstepped .result) (omega (arith, n .ensures, l .inv)) (l .inv .2) (x .ensures) (c .unstepped .ensures)
-          ∙ ap (λ (i : ℕ). packedState (variant (a .v)) (unrun (variant (a .v)) (stateIn (variant (a .v)) (a .end)) (drop i (blocksOf (variant (a .v)) (messageBits (a .message .now)))))) e,
+      back-at (a .v) (start .pre .0) (start .pre .1 .0) end (end-long start) j (a .place + n .result - (l .i + 1) + 1) (omega (arith, l .inv)) (c .unstepped .result)
+          (back-more (a .v) (start .pre .0) (start .pre .1 .0) end (end-long start) (r .block-bits .result / 4) (quarter r) j (l .s) [] (x .result) (c .unstepped .result)
+          (omega (arith, counted (c .before .before .before .before .before), l .inv)) (l .inv .2) (x .ensures) (c .unstepped .ensures)),
     )
 
 returns : tie.Need-returns Inv-loop μ-loop
 returns c =
-    let a = c .before .before .before .before .before .args in
-    let n = c .before .before .block-count in
+    let start = c .before .before .before .before .before in
+    let a = start .args in
     let l = c .before .loop in
-    let e : a .place + n .result - l .i + 1 ≡ suc (a .place) = omega (arith, l .inv) in
-    l .inv .2 ∙ ap (λ (i : ℕ). packedState (variant (a .v)) (unrun (variant (a .v)) (stateIn (variant (a .v)) (a .end)) (drop i (blocksOf (variant (a .v)) (messageBits (a .message .now)))))) e
+    back-at (a .v) (start .pre .0) (start .pre .1 .0) (stateIn (variant (a .v)) (a .end)) (end-long start) (a .place + c .before .before .block-count .result - l .i + 1) (suc (a .place))
+    (omega (arith, l .inv)) (l .s) (l .inv .2)
 
 pub run-back-spec : {M : Type 1} → statement M
 run-back-spec =
-    tie.close (tie.spec Inv-loop μ-loop (λ c κs. tt) (λ c. omega arith) (λ c κs. (c .before .before .pre .0, c .before .before .pre .1 .0))
+    tie.close (tie.spec Inv-loop μ-loop (λ c κs. tt) (λ c. omega arith) (λ c κs. (c .before .before .pre .0, c .before .before .pre .1 .0 .short))
     (λ c. omega (arith, few-blocks (c .before .before .before), c .before .before .before .pre .1 .1 .0)) loop-holds
-    (λ c. omega (arith, few-blocks (c .before .before .before .before .before), c .before .before .block-count .ensures, c .before .before .before .before .before .pre .1 .1 .0))
+    (λ c. omega (arith, few-blocks (c .before .before .before .before .before), counted (c .before .before), c .before .before .before .before .before .pre .1 .1 .0))
     (λ c. omega (arith, c .before .loop .inv)) (λ c. search needs) mul-block-at block-at-requires unstepped-requires (λ c. omega arith) (λ c. omega arith)
     loop-again returns)

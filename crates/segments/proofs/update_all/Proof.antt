@@ -22,7 +22,7 @@ loop-holds : tie.Need-loop-holds Inv-loop μ-loop
 loop-holds c =
     let s = c .before .before in
     let p = s .pre in
-    (omega arith, no-segment _ (owned _ _ (s .good .0)) (p .0) _ _ (p .1 .0 .0) (p .1 .0 .1) (p .1 .1))
+    (omega arith, no-segment _ (owned _ _ (s .good .0)) (p .0) _ _ (p .1 .0 .0) (p .1 .0 .1) (p .1 .1 .0) (p .1 .1 .1))
 
 loop-again : tie.Need-loop-again Inv-loop μ-loop
 loop-again c =
@@ -31,7 +31,7 @@ loop-again c =
     let p = s .pre in (
       omega arith,
       ap (λ (u : Advanced). u .hasher) (c .before .update .ensures)
-          ∙ next-segment _ (owned _ _ (s .good .0)) (p .0) _ _ (p .1 .0 .0) (p .1 .0 .1) (p .1 .1) (at .loop .k) (omega arith) _ _ (at .loop .inv .1) (c .before .before .segment .ensures .0),
+          ∙ next-segment _ (owned _ _ (s .good .0)) (p .0) _ _ (p .1 .0 .0) (p .1 .0 .1) (p .1 .1 .0) (p .1 .1 .1) (at .loop .k) (omega arith) _ _ (at .loop .inv .1) (c .before .before .segment .ensures .0),
     )
 
 returns : tie.Need-returns Inv-loop μ-loop
@@ -42,7 +42,7 @@ returns c =
     let e : c .before .loop .k ≡ count (a .list .now) = omega arith in
     c .before .loop .inv .1
     ∙ ap (λ k. onward (a .h) (segmentsUpTo (a .list .now) (a .buffer .now) k)) e
-    ∙ every-segment (a .h) (owned _ _ (s .good .0)) (p .0) (a .list .now) (a .buffer .now) (p .1 .0 .0) (p .1 .0 .1) (p .1 .1)
+    ∙ every-segment (a .h) (owned _ _ (s .good .0)) (p .0) (a .list .now) (a .buffer .now) (p .1 .0 .0) (p .1 .0 .1) (p .1 .1 .0) (p .1 .1 .1)
 
 pub update-all-spec : {M : Type 1} → statement M
 update-all-spec =

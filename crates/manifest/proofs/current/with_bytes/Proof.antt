@@ -1,11 +1,11 @@
 -- `manifest::current::with_bytes` meets its contract: bytes taken at once are bytes taken one by one. Assumes nothing.
 use mathlib.Core.Path.{_≡_, sym, ap, _∙_}
 use mathlib.Core.List.{List, [], _∷_, foldl}
-use Prim.Native.Nat.{ℕ, _+_, _≤_, _<_}
+use Prim.Native.Nat.{ℕ, _+_, _*_, _≤_}
 use native.Mathlib.Omega.{arith}
 use lib.ListN.{length}
 use borrow.Author.Needs.{needs}
-use Rattle.answers.specs.Outputs.{most}
+use Rattle.answers.specs.Outputs.{mostBits}
 use Rattle.hasher.specs.declared.Hasher.{Hasher}
 use Rattle.hasher.specs.declared.Advanced.{Advanced}
 use Rattle.hasher.specs.Running.{updated}
@@ -16,7 +16,7 @@ use Rattle.hasher.proofs.ByteByByte.{byte-by-byte}
 use Rattle.manifest.proofs.current.with_bytes.Statement.{statement}
 use Rattle.manifest.proofs.current.with_bytes.Tie as tie
 
-some : (h : Hasher) → Sized h → (part : List ℕ) → 1 ≤ length part → (h .total < most → h .total + length part ≤ most)
+some : (h : Hasher) → Sized h → (part : List ℕ) → 1 ≤ length part → (h .total + 8 ≤ mostBits → h .total + 8 * length part ≤ mostBits)
     → updated h part .hasher ≡ foldl withByte h part
 some h z [] l room = absurd (omega arith)
 some h z (b ∷ part) l room = sym (byte-by-byte h z b part room)

@@ -1,21 +1,22 @@
 -- `sponge::blocks::run_words` meets its contract: the blocks passed have run through the state. Assumes nothing.
 use mathlib.Core.Path.{_≡_}
+use mathlib.Core.List.{[], _∷_, _++_}
 use Prim.Native.Nat.{_-_, _/_, _≤_}
 use native.Mathlib.Omega.{arith}
 use Rattle.standard.specs.Chain.{run}
 use Rattle.standard.specs.Variants.{variant}
-use Rattle.sponge.specs.Blocks.{heldThen, withOne, firstBlocks}
+use Rattle.sponge.specs.Blocks.{heldThen, firstBlocks}
 use Rattle.sponge.specs.Words.{stateInWords}
 use Rattle.sponge.proofs.BlockRuns.{quarters, place-le, run-start, run-more}
 use Rattle.sponge.proofs.blocks.run_words.Statement.{statement}
 use Rattle.sponge.proofs.blocks.run_words.Tie as tie
 
 abbrev Inv-loop : tie.InvT-loop
-Inv-loop v w₀ held p piece count table q j₀ w j =
-    (j ≤ count) × (stateInWords (variant v) w ≡ run (variant v) (stateInWords (variant v) w₀) (firstBlocks (variant v .r) j (withOne (heldThen held p piece))))
+Inv-loop v w₀ held p piece last count table q j₀ w j =
+    (j ≤ count) × (stateInWords (variant v) w ≡ run (variant v) (stateInWords (variant v) w₀) (firstBlocks (variant v .r) j (heldThen held p (piece ++ last ∷ []))))
 
 abbrev μ-loop : tie.MeasureT-loop
-μ-loop v w₀ held p piece count table q j₀ w j = count - j
+μ-loop v w₀ held p piece last count table q j₀ w j = count - j
 
 loop-holds : tie.Need-loop-holds Inv-loop μ-loop
 loop-holds c =

@@ -33,7 +33,7 @@ returns c =
     c .step-words .ensures
     ∙ ap (step (variant (a .v)) _)
     (ap (λ (n : ℕ). take n (drop (4 * (a .first - a .p)) (bitsIn high-first (a .piece .now)))) (sym (start .pre .0 .1))
-    ∙ inside (a .held .now) (a .p) (a .piece .now) (start .pre .0 .2) (a .first) (a .q) (i .0) (i .1))
+    ∙ inside (a .held .now) (a .p) (a .piece .now) (a .last) (start .pre .0 .2) (a .first) (a .q) (i .0) (i .1))
 
 block-at-requires : tie.Need-block-at-requires
 block-at-requires c κs =

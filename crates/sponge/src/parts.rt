@@ -1,0 +1,84 @@
+// A message that may end inside a byte: which bits of its last byte count, and the byte that they and the padding's 1 bit make.
+ghost use mathlib.Core.Path.{_≡_};
+ghost use mathlib.Core.Bool.{true, false};
+ghost use mathlib.Core.List.{[], _∷_, _++_};
+ghost use Prim.Native.Nat.{_-_, _^_, _≤_, _<_};
+ghost use lib.ListN.{length, take, replicate};
+ghost use Rattle.standard.specs.Bits.{high-first, bitsOf};
+ghost use Rattle.standard.specs.Chain.{countedOf, messageBits};
+ghost use Rattle.standard.specs.Variants.{variant, known};
+ghost use Rattle.answers.specs.Outputs.{most};
+ghost use Rattle.sponge.specs.Parts.{isBitNumber, Marked};
+
+// The byte behind whole bytes: the padding's 1 bit, and zeros.
+pub const ONE_ALONE: u8 = 0x80;
+
+// Whether so many bits may be said to count of the last of n bytes.
+pub fn is_bit_number(bits: u32, n: usize) -> bool
+    ensures { λ r. ⌜ r ≡ isBitNumber bits n ⌝ }
+{
+    if n == 0 {
+        return false;
+    }
+    if bits == 0 {
+        return false;
+    }
+    bits <= 8
+}
+
+// The number that the k counting bits of a byte make: the high ones in PHOTON, the low ones in SPONGENT.
+fn counted(v: u8, b: u8, k: usize) -> u32
+    requires { ⌜ (known v ≡ true) × (k ≤ 8) ⌝ }
+    ensures { λ r. ⌜ (r ≡ countedOf (variant v .family) k b) × (r < 2 ^ k) ⌝ }
+{
+    let x = b as u32;
+    if v <= 5 {
+        return x >> (8 - k);
+    }
+    x % (1 << k)
+}
+
+// A byte with its counting bits from the high end on, and zeros behind them.
+pub fn counted_byte(v: u8, b: u8, k: usize) -> u8
+    requires { ⌜ (known v ≡ true) × (k ≤ 8) ⌝ }
+    ensures { λ r. ⌜ bitsOf high-first 8 r ≡ bitsOf high-first k (countedOf (variant v .family) k b) ++ replicate (8 - k) false ⌝ }
+{
+    (counted(v, b, k) << (8 - k)) as u8
+}
+
+// The k bits of a number from the high end of a byte on, the padding's 1 bit, and zeros.
+pub fn with_one(n: u32, k: usize) -> u8
+    requires { ⌜ (k ≤ 7) × (n < 2 ^ k) ⌝ }
+    ensures { λ r. ⌜ bitsOf high-first 8 r ≡ bitsOf high-first k n ++ true ∷ replicate (7 - k) false ⌝ }
+{
+    ((n << (8 - k)) + (1 << (7 - k))) as u8
+}
+
+// How a message ends: so many of its bytes are whole, the byte behind them has the rest of its bits and the padding's 1 bit, and it has so many bits.
+pub struct Ending {
+    pub front: usize,
+    pub last: u8,
+    pub bits: usize,
+}
+
+// The ending of a message of whose last byte k bits count.
+pub fn ending_of(v: u8, message: &[u8], k: usize) -> Ending
+    requires { ⌜ (known v ≡ true) × (isBitNumber k (length (now message)) ≡ true) × (length (now message) ≤ most) ⌝ }
+    ensures { λ r. ⌜ (r .front ≤ length (now (message .entry))) × (r .bits ≡ length (messageBits (variant v) (now (message .entry)) k)) ⌝ }
+    ensures { λ r. ⌜ Marked (messageBits (variant v) (now (message .entry)) k) (take (r .front) (now (message .entry)) ++ r .last ∷ []) ⌝ }
+{
+    let n = message.len();
+    // A whole last byte leaves no room for the 1 bit, which stands behind it.
+    if k == 8 {
+        return Ending {
+            front: n,
+            last: ONE_ALONE,
+            bits: 8 * n,
+        };
+    }
+    Ending {
+        front: n - 1,
+        last: with_one(counted(v, message[n - 1], k), k),
+        bits: 8 * (n - 1) + k,
+    }
+}
