@@ -14,6 +14,18 @@
  * numbers, and every field of a lent running hash or cursor, as they were; it
  * may store the same values there again.
  *
+ * BITS. A message is a string of up to 134,217,720 bits. The functions whose
+ * names end in _bits take one that may end inside a byte: behind the bytes
+ * comes a bit number, how many bits of the last byte count, 1 to 8. They
+ * are its high bits for PHOTON and its low bits for SPONGENT, and the highest
+ * of them comes first in the string. Its other bits change nothing, and the
+ * bytes before it count whole, each from its high bit on. So the eleven bits
+ * 1011 0110 011 are lent as
+ *     0xb6, 0x60 and the bit number 3 for PHOTON:   1011 0110  011. ....
+ *     0xb6, 0x03 and the bit number 3 for SPONGENT: 1011 0110  .... .011
+ * with 0 or 1 wherever a dot is. The padding's 1 is the next bit of the string.
+ * To the functions without a bit number all bits count.
+ *
  * WHAT IS PROVED. Each function below is proved in its source language, for
  * every variant number, running hash, length and content: it ends, touches
  * nothing but what was lent, and its answer and each byte it writes are those
@@ -73,7 +85,7 @@
 #define WICKSLATE_UNKNOWN_VARIANT 1  /* the variant is not 1 to 10 */
 #define WICKSLATE_MALFORMED 2        /* the running hash is not well formed */
 #define WICKSLATE_WRONG_STAGE 3      /* it is closed, or for a read still open */
-#define WICKSLATE_TOO_LONG 4         /* more than 16,777,215 message bytes */
+#define WICKSLATE_TOO_LONG 4         /* more than 134,217,720 message bits */
 #define WICKSLATE_OUTPUT_TOO_SHORT 5 /* the output cannot hold the result */
 #define WICKSLATE_BAD_IMAGE 6        /* wrong length, or spare bits not zero */
 #define WICKSLATE_OUT_OF_RANGE 7     /* the place or entry is past the end */
@@ -84,6 +96,8 @@
 #define WICKSLATE_BAD_MANIFEST 12    /* not whole records, or more than 512 */
 #define WICKSLATE_BAD_RECORD 13      /* no such variant, or filler not zero */
 #define WICKSLATE_NOT_RISING 14      /* axis number not above the one before */
+#define WICKSLATE_BAD_BIT_NUMBER 15  /* not 1 to 8, or given with no bytes */
+#define WICKSLATE_INSIDE_BYTE 16     /* the last piece ended inside a byte */
 
 /* ---- Sizes in bytes ---------------------------------------------------- */
 
@@ -133,14 +147,18 @@
 #define WICKSLATE_SPONGENT_272_BLOCK_BYTES 2
 #define WICKSLATE_MOST_BLOCK_BYTES 5
 
-/* The longest message, the longest segment list, and the longest manifest. */
+/*
+ * The longest message, in bytes and in bits; the longest segment list, and the
+ * longest manifest.
+ */
 #define WICKSLATE_MOST_MESSAGE_BYTES 16777215
+#define WICKSLATE_MOST_MESSAGE_BITS 134217720
 #define WICKSLATE_ENTRY_BYTES 8
 #define WICKSLATE_MOST_ENTRIES 512
 #define WICKSLATE_RECORD_BYTES 35
 #define WICKSLATE_MOST_RECORDS 512
 
-/* What wickslate_whole and wickslate_digest_list are asked for. */
+/* What a call with the argument `wanted` is asked for. */
 #define WICKSLATE_DIGEST 0
 #define WICKSLATE_END_STATE 1
 
@@ -152,17 +170,21 @@
 /*
  * A message taken in pieces. Any 48 bytes may be lent as one: what is not
  * well formed is refused with 2. Well formed means: the variant is 1 to 10,
- * the stage open or closed, the total at most 16,777,215, the state's bits
- * past the variant's state zero, the held bits past those of a part-filled
- * block zero, and none held when closed.
+ * the stage open or closed, the total at most 134,217,720 bits, the state's
+ * bits past the variant's state zero, the held bits past those of a
+ * part-filled block zero, and none held when closed. A part-filled block has
+ * the bits that the total leaves over whole blocks; they are held from the
+ * high bit of the first byte on, in both families.
  *
  * It can be copied, stored and brought back; calls go on from what it holds.
+ * One that was stored by a version whose total counted bytes cannot be told
+ * apart, and would go on wrongly: finish or drop those first.
  * The byte behind the fields means nothing and is outside the proof. No call
  * looks at it; one that may write `h` may put anything there, even what lay on
  * the stack: send or store the fields, or clear that byte first.
  */
 typedef struct wickslate_hasher {
-    uint32_t total;    /* the message bytes taken so far */
+    uint32_t total;    /* the message bits taken so far */
     uint8_t variant;   /* 1 to 10 */
     uint8_t stage;     /* WICKSLATE_OPEN or WICKSLATE_CLOSED */
     uint8_t state[36]; /* the state's image, and zeros */
@@ -225,11 +247,12 @@ extern "C" {
 WICKSLATE_CALL uint32_t wickslate_start(wickslate_hasher *h, uint32_t variant);
 
 /*
- * Takes the next piece of the message. Where a message is cut into pieces
- * makes no difference to its digest and its end state, and a piece may be
- * empty.
+ * Takes the next piece of the message, with all its bits. Where a message is
+ * cut into pieces makes no difference to its digest and its end state, and a
+ * piece may be empty.
  *
- * Refusals: 2; 3 if closed; 4 if the total would pass 16,777,215.
+ * Refusals: 2; 3 if closed; 16 if the total is no multiple of 8, for an empty
+ *           piece too; 4 if the total would pass 134,217,720.
  * Writes:   `h`, if done. `piece` is only read.
  * Stack:    21,504 bytes.
  *
@@ -238,6 +261,31 @@ WICKSLATE_CALL uint32_t wickslate_start(wickslate_hasher *h, uint32_t variant);
  *         return give_up();
  */
 WICKSLATE_CALL uint32_t wickslate_update(wickslate_hasher *h, const uint8_t *piece, size_t piece_length);
+
+/*
+ * Takes a piece of whose last byte only `bits` bits count, 1 to 8: the high
+ * ones for PHOTON, the low ones for SPONGENT. With fewer than 8 it is the last
+ * piece, and wickslate_finish comes next. With 8 all bits count, and it does
+ * what wickslate_update does.
+ *
+ * A trace of n bits, n not 0, has (n + 7) / 8 bytes, and (n - 1) % 8 + 1 bits
+ * of the last one count. A trace of no bits has no last byte, and needs no
+ * piece at all. A trace that is packed from the high bit on can be lent to
+ * PHOTON as it is; for SPONGENT its last byte has to be shifted down by
+ * 8 - bits first, as examples/bit_trace.c does.
+ *
+ * Refusals: 2; 3 if closed; 15 if `bits` is not 1 to 8 or the piece is empty;
+ *           16 if the total is no multiple of 8; 4 if the total would pass
+ *           134,217,720.
+ * Writes:   `h`, if done. `piece` is only read.
+ * Stack:    21,504 bytes.
+ *
+ *     uint32_t bits = (uint32_t)((switches - 1) % 8 + 1);
+ *     if (wickslate_update_bits(&h, trace, (switches + 7) / 8, bits) != WICKSLATE_DONE)
+ *         return -1;
+ */
+WICKSLATE_CALL uint32_t wickslate_update_bits(wickslate_hasher *h, const uint8_t *piece, size_t piece_length,
+                                              uint32_t bits);
 
 /*
  * Ends the message: pads it and takes its last block. `h` is closed then, and
@@ -254,8 +302,8 @@ WICKSLATE_CALL uint32_t wickslate_finish(wickslate_hasher *h);
 
 /*
  * Writes the image of a finished message's end state over the front of `out`.
- * It can be read any number of times. Two messages of equal length that differ
- * only within one block always have different end states.
+ * It can be read any number of times. Two messages of equally many bits that
+ * differ only within one block always have different end states.
  *
  * Refusals: 2; 3 if still open; 5.
  * Writes:   the variant's image bytes, if done. What lies behind them in
@@ -301,6 +349,26 @@ WICKSLATE_CALL uint32_t wickslate_digest(const wickslate_hasher *h, uint8_t *out
  */
 WICKSLATE_CALL uint32_t wickslate_whole(uint32_t variant, const uint8_t *message, size_t message_length,
                                         uint32_t wanted, uint8_t *out, size_t out_length);
+
+/*
+ * wickslate_whole for a message of whose last byte only `bits` bits count, 1 to
+ * 8: the high ones for PHOTON, the low ones for SPONGENT. With 8 all bits
+ * count. A message of no bits has no last byte, and wickslate_whole takes it.
+ *
+ * Refusals: 1; 15 if `bits` is not 1 to 8 or the message is empty; 4; 5.
+ * Writes:   the result over the front of `out`, if done. What lies behind it
+ *           stays. `message` is only read.
+ * Stack:    21,504 bytes.
+ *
+ *     const uint8_t eleven_bits[2] = {0xb6, 0x03};
+ *     uint8_t digest[WICKSLATE_SPONGENT_176_DIGEST_BYTES] = {0};
+ *     uint32_t answer = wickslate_whole_bits(WICKSLATE_SPONGENT_176, eleven_bits, sizeof eleven_bits, 3,
+ *                                            WICKSLATE_DIGEST, digest, sizeof digest);
+ *     if (answer != WICKSLATE_DONE)
+ *         return -1;
+ */
+WICKSLATE_CALL uint32_t wickslate_whole_bits(uint32_t variant, const uint8_t *message, size_t message_length,
+                                             uint32_t bits, uint32_t wanted, uint8_t *out, size_t out_length);
 
 /*
  * Runs the variant's permutation on an image.
@@ -351,6 +419,32 @@ WICKSLATE_CALL uint32_t wickslate_unpermute(uint32_t variant, uint8_t *image, si
 WICKSLATE_CALL uint32_t wickslate_recover(uint32_t variant, const uint8_t *message, size_t message_length,
                                           size_t place, const uint8_t *image, size_t image_length,
                                           uint8_t *out, size_t out_length);
+
+/*
+ * wickslate_recover for a message of whose last byte only `bits` bits count, 1
+ * to 8: the high ones for PHOTON, the low ones for SPONGENT. L bytes are then
+ * B = 8 (L - 1) + `bits` bits, and make B / r + 1 blocks, rounded down, for
+ * blocks of r bits. A block holds the bits of the string from its high bit on,
+ * in both families: that at place 1 of 0xb6, 0x03 with the bit number 3, for
+ * SPONGENT-88, is 0x70: 011, the padding's 1, and zeros.
+ *
+ * Refusals: 1; 15 if `bits` is not 1 to 8 or the message is empty; 4; 7 if
+ *           `place` is not below the number of blocks; 6; 5; 8 if no block
+ *           leads to that state.
+ * Writes:   the variant's block bytes over the front of `out`, if done. What
+ *           lies behind them stays. `message` and `image` are only read.
+ * Stack:    21,504 bytes.
+ *
+ *     uint8_t block[WICKSLATE_MOST_BLOCK_BYTES] = {0};
+ *     uint32_t bits = (uint32_t)((switches - 1) % 8 + 1);
+ *     uint32_t answer = wickslate_recover_bits(WICKSLATE_PHOTON_256, trace, (switches + 7) / 8, bits, 7,
+ *                                              image, WICKSLATE_PHOTON_256_IMAGE_BYTES, block, sizeof block);
+ *     if (answer == WICKSLATE_NO_BLOCK)
+ *         puts("more than that block is wrong");
+ */
+WICKSLATE_CALL uint32_t wickslate_recover_bits(uint32_t variant, const uint8_t *message, size_t message_length,
+                                               uint32_t bits, size_t place, const uint8_t *image,
+                                               size_t image_length, uint8_t *out, size_t out_length);
 
 /*
  * A segment list names the parts of a buffer that count. Each entry has eight

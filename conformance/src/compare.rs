@@ -97,6 +97,14 @@ pub fn update(h: Hasher, piece: &[u8]) -> (u32, Hasher) {
     })
 }
 
+/// Takes a piece of whose last byte so many bits count.
+pub fn update_bits(h: Hasher, piece: &[u8], bits: u32) -> (u32, Hasher) {
+    let expected = fields(&h).update_bits(piece, bits);
+    only_read(&[piece], || {
+        expect_hasher(h, expected, |h| wickslate::update_bits(h, piece, bits))
+    })
+}
+
 /// Ends the message.
 pub fn finish(h: Hasher) -> (u32, Hasher) {
     expect_hasher(h, fields(&h).finish(), wickslate::finish)
@@ -119,23 +127,42 @@ pub fn read(h: Hasher, end_state: bool, before: &[u8]) -> (u32, Vec<u8>) {
     answer
 }
 
-/// The result of a whole message in the Rust version.
-fn result_of(variant: u32, message: &[u8], wanted: u32) -> Result<Vec<u8>, u8> {
-    match wanted {
-        0 => reference::digest(variant, message),
-        _ => reference::end_state(variant, message),
-    }
+/// What the result of the Rust version leaves in a copy of the output.
+fn with_result(before: &[u8], result: Result<Vec<u8>, u8>) -> (u32, Vec<u8>) {
+    with_copy(before, |out| match result {
+        Ok(result) => running::write_front(&result, out),
+        Err(refusal) => refusal,
+    })
 }
 
 /// A whole message, into an output holding `before`.
 pub fn whole(variant: u32, message: &[u8], wanted: u32, before: &[u8]) -> (u32, Vec<u8>) {
-    let expected = with_copy(before, |out| match result_of(variant, message, wanted) {
-        Ok(result) => running::write_front(&result, out),
-        Err(refusal) => refusal,
-    });
+    let result = match wanted {
+        0 => reference::digest(variant, message),
+        _ => reference::end_state(variant, message),
+    };
     only_read(&[message], || {
-        expect_bytes(before, expected, |out| {
+        expect_bytes(before, with_result(before, result), |out| {
             wickslate::whole(variant, message, wanted, out)
+        })
+    })
+}
+
+/// The same for a message of whose last byte so many bits count.
+pub fn whole_bits(
+    variant: u32,
+    message: &[u8],
+    bits: u32,
+    wanted: u32,
+    before: &[u8],
+) -> (u32, Vec<u8>) {
+    let result = match wanted {
+        0 => reference::digest_bits(variant, message, bits),
+        _ => reference::end_state_bits(variant, message, bits),
+    };
+    only_read(&[message], || {
+        expect_bytes(before, with_result(before, result), |out| {
+            wickslate::whole_bits(variant, message, bits, wanted, out)
         })
     })
 }
@@ -165,6 +192,25 @@ pub fn recover(
     only_read(&[message, image], || {
         expect_bytes(before, expected, |out| {
             wickslate::recover(variant, message, place, image, out)
+        })
+    })
+}
+
+/// The same for a message of whose last byte so many bits count.
+pub fn recover_bits(
+    variant: u32,
+    message: &[u8],
+    bits: u32,
+    place: usize,
+    image: &[u8],
+    before: &[u8],
+) -> (u32, Vec<u8>) {
+    let expected = with_copy(before, |out| {
+        reference::recover::recover_bits(variant, message, bits, place, image, out)
+    });
+    only_read(&[message, image], || {
+        expect_bytes(before, expected, |out| {
+            wickslate::recover_bits(variant, message, bits, place, image, out)
         })
     })
 }

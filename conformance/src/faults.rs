@@ -5,12 +5,12 @@ use std::sync::LazyLock;
 
 use wickslate_reference::manifest::{RECORD_BYTES, RECORD_LIMIT};
 use wickslate_reference::padding::block_count;
-use wickslate_reference::{end_state, Variant, MESSAGE_LIMIT};
+use wickslate_reference::{end_state, end_state_bits, Variant, BIT_LIMIT, MESSAGE_LIMIT};
 
 use crate::compare::at;
 use crate::make::{
-    block_bytes, filled_manifest, image, list, result_bytes, spare_held, spare_state, well_formed,
-    Entry,
+    bits_of, block_bytes, filled_manifest, image, list, result_bytes, spare_held, spare_state,
+    well_formed, Entry,
 };
 use crate::random::Random;
 use crate::wickslate::Hasher;
@@ -32,6 +32,8 @@ pub struct Call {
     pub h: Hasher,
     /// Also a piece, and the buffer of a list.
     pub message: &'static [u8],
+    /// How many bits of its last byte count, where that is said.
+    pub bits: u32,
     /// That of the lost block.
     pub place: usize,
     /// Of the message's end state.
@@ -60,8 +62,9 @@ impl Call {
         let mut random = Random::of_test("a sound call");
         Call {
             number: variant.number,
-            h: well_formed(&mut random, variant, 0, 11),
+            h: well_formed(&mut random, variant, 0, 8 * 11),
             message,
+            bits: 8,
             place: 3,
             image: end_state(variant.number, message).expect("within the limit"),
             entries: vec![(0, 2), (3, 2)],
@@ -69,6 +72,16 @@ impl Call {
             entry: 1,
             manifest: filled_manifest(variant, AXIS..AXIS + 2),
             out: 36,
+        }
+    }
+
+    /// The same about a message of whose last byte so many bits count.
+    pub fn with_bits(self, bits: u32) -> Call {
+        let end = end_state_bits(self.number, self.message, bits);
+        Call {
+            bits,
+            image: end.expect("some bytes, within the limit"),
+            ..self
         }
     }
 
@@ -132,7 +145,7 @@ fn malformed(variant: &Variant) -> Vec<Fault<'_>> {
         fault(2, |call| call.h.variant = 0),
         fault(2, |call| call.h.variant = 11),
         fault(2, |call| call.h.stage = 2),
-        fault(2, |call| call.h.total = MESSAGE_LIMIT as u32 + 1),
+        fault(2, |call| call.h.total = BIT_LIMIT as u32 + 1),
         fault(2, |call| {
             let spare = spare_held(variant, call.h.stage, call.h.total);
             let (byte, bit) = spare[0];
@@ -151,6 +164,41 @@ fn already_closed() -> Vec<Fault<'static>> {
 
 fn still_open() -> Vec<Fault<'static>> {
     vec![fault(3, |call| call.h.stage = 0)]
+}
+
+/// Numbers that are none, one of which looks like 3 in its low byte, and one
+/// that has no byte.
+fn bad_bit_number() -> Vec<Fault<'static>> {
+    let mut faults: Vec<_> = [0, 9, 256 + 3, u32::MAX]
+        .map(|bits| fault(15, move |call| call.bits = bits))
+        .into();
+    faults.push(fault(15, |call| call.message = b""));
+    faults
+}
+
+/// Running hashes that ended a bit behind a byte, a bit before one, and a bit
+/// before the limit, where every piece is too long as well.
+fn ended_inside(variant: &Variant) -> [Hasher; 3] {
+    let mut random = Random::of_test("ended inside");
+    [8 * 11 + 1, 8 * 11 + 7, BIT_LIMIT as u32 - 1]
+        .map(|total| well_formed(&mut random, variant, 0, total))
+}
+
+fn inside_byte(variant: &Variant) -> Vec<Fault<'_>> {
+    ended_inside(variant)
+        .map(|h| fault(16, move |call| call.h = h))
+        .into()
+}
+
+/// The same for a piece of no bytes.
+fn empty_inside_byte(variant: &Variant) -> Vec<Fault<'_>> {
+    let empty = |h| {
+        fault(16, move |call| {
+            call.h = h;
+            call.message = b"";
+        })
+    };
+    ended_inside(variant).map(empty).into()
 }
 
 fn too_long() -> Vec<Fault<'static>> {
@@ -186,7 +234,7 @@ fn bad_image(variant: &Variant) -> Vec<Fault<'_>> {
 }
 
 fn no_such_place(variant: &Variant) -> Vec<Fault<'_>> {
-    let count = move |call: &Call| block_count(variant, call.message.len());
+    let count = move |call: &Call| block_count(variant, bits_of(call.message, call.bits));
     vec![
         fault(7, move |call| call.place = count(call)),
         fault(7, |call| call.place = usize::MAX),
@@ -271,7 +319,24 @@ pub fn of_start(variant: &Variant) -> Vec<Fault<'_>> {
 
 /// The faults of `update`.
 pub fn of_update(variant: &Variant) -> Vec<Fault<'_>> {
-    row([malformed(variant), already_closed(), too_long()])
+    row([
+        malformed(variant),
+        already_closed(),
+        empty_inside_byte(variant),
+        inside_byte(variant),
+        too_long(),
+    ])
+}
+
+/// The faults of `update_bits`.
+pub fn of_update_bits(variant: &Variant) -> Vec<Fault<'_>> {
+    row([
+        malformed(variant),
+        already_closed(),
+        bad_bit_number(),
+        inside_byte(variant),
+        too_long(),
+    ])
 }
 
 /// The faults of `finish`.
@@ -291,6 +356,13 @@ pub fn of_whole(variant: &Variant, wanted: u32) -> Vec<Fault<'_>> {
     row([unknown_variant(variant), too_long(), short])
 }
 
+/// The faults of `whole_bits`.
+pub fn of_whole_bits(variant: &Variant, wanted: u32) -> Vec<Fault<'_>> {
+    let short = too_short(result_bytes(variant, wanted));
+    let unknown = unknown_variant(variant);
+    row([unknown, bad_bit_number(), too_long(), short])
+}
+
 /// The faults of `permute` and `unpermute`.
 pub fn of_permute(variant: &Variant) -> Vec<Fault<'_>> {
     row([unknown_variant(variant), bad_image(variant)])
@@ -300,6 +372,19 @@ pub fn of_permute(variant: &Variant) -> Vec<Fault<'_>> {
 pub fn of_recover(variant: &Variant) -> Vec<Fault<'_>> {
     row([
         unknown_variant(variant),
+        too_long(),
+        no_such_place(variant),
+        bad_image(variant),
+        too_short(block_bytes(variant)),
+        no_block(variant),
+    ])
+}
+
+/// The faults of `recover_bits`.
+pub fn of_recover_bits(variant: &Variant) -> Vec<Fault<'_>> {
+    row([
+        unknown_variant(variant),
+        bad_bit_number(),
         too_long(),
         no_such_place(variant),
         bad_image(variant),

@@ -6,7 +6,7 @@ use std::ops::Range;
 
 use wickslate_reference::manifest::RECORD_BYTES;
 use wickslate_reference::running::Running;
-use wickslate_reference::{digest, Family, Variant, MESSAGE_LIMIT, VARIANTS};
+use wickslate_reference::{digest, Family, Variant, BIT_LIMIT, VARIANTS};
 
 use crate::compare::hasher;
 use crate::lent::filled_behind;
@@ -25,6 +25,21 @@ pub const UNKNOWN: [u32; 9] = [
     0x1_0005,
     0x100_000a,
     0xffff_ff06,
+];
+
+/// Bit numbers that no byte has. The low byte of the last four is that of one
+/// that a byte can have.
+pub const BAD_BIT_NUMBERS: [u32; 10] = [
+    0,
+    9,
+    16,
+    128,
+    255,
+    u32::MAX,
+    256 + 3,
+    0x1_0001,
+    0x100_0008,
+    0xffff_ff07,
 ];
 
 /// An offset and a length.
@@ -53,6 +68,19 @@ pub fn result_bytes(variant: &Variant, wanted: u32) -> usize {
     }
 }
 
+/// The bits of a message of some bytes, of the last of which so many count.
+pub fn bits_of(message: &[u8], bits: u32) -> usize {
+    8 * (message.len() - 1) + bits as usize
+}
+
+/// The bits of a last byte that count.
+pub fn counting(family: Family, bits: u32) -> u8 {
+    match family {
+        Family::Photon => 0xff << (8 - bits),
+        Family::Spongent => 0xff >> (8 - bits),
+    }
+}
+
 /// Lengths of messages that end a byte before a block does, with it, and a
 /// byte behind it, for blocks 1 to 9 and some more behind.
 pub fn block_edges(variant: &Variant) -> Vec<usize> {
@@ -78,7 +106,7 @@ pub fn bits_from(family: Family, first: usize, bytes: usize) -> Vec<(usize, u8)>
 /// The held bits of a running hash that must be zero.
 pub fn spare_held(variant: &Variant, stage: u8, total: u32) -> Vec<(usize, u8)> {
     let count = match stage {
-        0 => 8 * total as usize % variant.block_bits,
+        0 => total as usize % variant.block_bits,
         _ => 0,
     };
     // Held bits are packed from the high bit in both families.
@@ -108,11 +136,16 @@ pub fn well_formed(random: &mut Random, variant: &Variant, stage: u8, total: u32
     })
 }
 
-/// A total at either end of the range, or anywhere.
+/// A total at either end of the range, or anywhere; in one of two cases it
+/// ends with a byte.
 pub fn total(random: &mut Random) -> u32 {
-    let near = random.below(40);
-    let any = random.below(MESSAGE_LIMIT + 1);
-    random.pick(&[near, MESSAGE_LIMIT - near, any]) as u32
+    let near = random.below(320);
+    let any = random.below(BIT_LIMIT + 1);
+    let total = random.pick(&[near, BIT_LIMIT - near, any]) as u32;
+    match random.once_in(2) {
+        true => total / 8 * 8,
+        false => total,
+    }
 }
 
 /// An image of the variant.

@@ -45,7 +45,8 @@ impl Stack {
     }
 
     /// Calls the function on this stack, which grows down from its end. The
-    /// convention on x86-64 has six words in registers and two on the stack.
+    /// convention on x86-64 has six words in registers and the others on the
+    /// stack, which is aligned to a line.
     ///
     /// # Safety
     ///
@@ -53,11 +54,11 @@ impl Stack {
     unsafe fn call(&mut self, function: Function, words: &[usize]) -> Answer {
         let word = |k: usize| words.get(k).copied().unwrap_or(0);
         let mut top = self.lines.as_mut_ptr_range().end;
-        if words.len() > 6 {
-            // SAFETY: the last line holds two words.
+        for k in (6..words.len()).step_by(2).rev() {
+            // SAFETY: a line holds two words, and there are lines enough.
             unsafe {
                 top = top.sub(1);
-                top.cast::<[usize; 2]>().write([word(6), word(7)]);
+                top.cast::<[usize; 2]>().write([word(k), word(k + 1)]);
             }
         }
         let answer: u32;

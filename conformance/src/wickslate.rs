@@ -32,7 +32,7 @@ impl Answer {
 #[repr(C)]
 #[derive(Clone, Copy, Debug, PartialEq, Eq)]
 pub struct Hasher {
-    /// The bytes taken so far.
+    /// The bits taken so far.
     pub total: u32,
     /// The variant's number.
     pub variant: u8,
@@ -116,6 +116,12 @@ mod archive {
     extern "C" {
         pub fn wickslate_start(h: *mut Hasher, variant: u32) -> Answer;
         pub fn wickslate_update(h: *mut Hasher, piece: *const u8, bytes: usize) -> Answer;
+        pub fn wickslate_update_bits(
+            h: *mut Hasher,
+            piece: *const u8,
+            bytes: usize,
+            bits: u32,
+        ) -> Answer;
         pub fn wickslate_finish(h: *mut Hasher) -> Answer;
         pub fn wickslate_digest(h: *const Hasher, out: *mut u8, bytes: usize) -> Answer;
         pub fn wickslate_end_state(h: *const Hasher, out: *mut u8, bytes: usize) -> Answer;
@@ -127,12 +133,32 @@ mod archive {
             out: *mut u8,
             out_bytes: usize,
         ) -> Answer;
+        pub fn wickslate_whole_bits(
+            variant: u32,
+            message: *const u8,
+            message_bytes: usize,
+            bits: u32,
+            wanted: u32,
+            out: *mut u8,
+            out_bytes: usize,
+        ) -> Answer;
         pub fn wickslate_permute(variant: u32, image: *mut u8, bytes: usize) -> Answer;
         pub fn wickslate_unpermute(variant: u32, image: *mut u8, bytes: usize) -> Answer;
         pub fn wickslate_recover(
             variant: u32,
             message: *const u8,
             message_bytes: usize,
+            place: usize,
+            image: *const u8,
+            image_bytes: usize,
+            out: *mut u8,
+            out_bytes: usize,
+        ) -> Answer;
+        pub fn wickslate_recover_bits(
+            variant: u32,
+            message: *const u8,
+            message_bytes: usize,
+            bits: u32,
             place: usize,
             image: *const u8,
             image_bytes: usize,
@@ -178,10 +204,17 @@ pub fn start(h: &mut Hasher, variant: u32) -> Answer {
     unsafe { archive::wickslate_start(h, variant) }
 }
 
-/// Takes a piece: refusals 2, 3, 4.
+/// Takes a piece: refusals 2, 3, 16, 4.
 pub fn update(h: &mut Hasher, piece: &[u8]) -> Answer {
     // SAFETY: see above.
     unsafe { archive::wickslate_update(h, piece.as_ptr(), piece.len()) }
+}
+
+/// Takes a piece of whose last byte `bits` bits count, the high ones for PHOTON
+/// and the low ones for SPONGENT: refusals 2, 3, 15, 16, 4.
+pub fn update_bits(h: &mut Hasher, piece: &[u8], bits: u32) -> Answer {
+    // SAFETY: see above.
+    unsafe { archive::wickslate_update_bits(h, piece.as_ptr(), piece.len(), bits) }
 }
 
 /// Ends the message: refusals 2, 3.
@@ -218,6 +251,23 @@ pub fn whole(variant: u32, message: &[u8], wanted: u32, out: &mut [u8]) -> Answe
     }
 }
 
+/// A whole message of whose last byte `bits` bits count, as for
+/// [`update_bits`]: refusals 1, 15, 4, 5.
+pub fn whole_bits(variant: u32, message: &[u8], bits: u32, wanted: u32, out: &mut [u8]) -> Answer {
+    // SAFETY: see above.
+    unsafe {
+        archive::wickslate_whole_bits(
+            variant,
+            message.as_ptr(),
+            message.len(),
+            bits,
+            wanted,
+            out.as_mut_ptr(),
+            out.len(),
+        )
+    }
+}
+
 /// The permutation on an image: refusals 1, 6.
 pub fn permute(variant: u32, image: &mut [u8]) -> Answer {
     // SAFETY: see above.
@@ -238,6 +288,32 @@ pub fn recover(variant: u32, message: &[u8], place: usize, image: &[u8], out: &m
             variant,
             message.as_ptr(),
             message.len(),
+            place,
+            image.as_ptr(),
+            image.len(),
+            out.as_mut_ptr(),
+            out.len(),
+        )
+    }
+}
+
+/// The lost block of a message of whose last byte `bits` bits count, as for
+/// [`update_bits`]: refusals 1, 15, 4, 7, 6, 5, 8.
+pub fn recover_bits(
+    variant: u32,
+    message: &[u8],
+    bits: u32,
+    place: usize,
+    image: &[u8],
+    out: &mut [u8],
+) -> Answer {
+    // SAFETY: see above.
+    unsafe {
+        archive::wickslate_recover_bits(
+            variant,
+            message.as_ptr(),
+            message.len(),
+            bits,
             place,
             image.as_ptr(),
             image.len(),

@@ -7,7 +7,7 @@ use wickslate_conformance::random::Random;
 use wickslate_conformance::settings::amount;
 use wickslate_conformance::wickslate::Hasher;
 use wickslate_reference::padding::{block, block_count};
-use wickslate_reference::{Padding, Variant, VARIANTS};
+use wickslate_reference::{Message, Padding, Variant, VARIANTS};
 
 /// The offsets at which a value of two bytes lies in one block, and after how
 /// many bytes they come again.
@@ -26,9 +26,10 @@ const OFFSETS: [(&[usize], usize); 10] = [
 
 /// The places of the blocks in which two messages of equal length differ.
 fn changed_blocks(variant: &Variant, first: &[u8], second: &[u8]) -> Vec<usize> {
+    let [first, second] = [first, second].map(|m| Message::whole(m).bits(variant.family));
     let of = |message, place| block(variant, Padding::NextBit, message, place);
     (0..block_count(variant, first.len()))
-        .filter(|&place| of(first, place) != of(second, place))
+        .filter(|&place| of(&first, place) != of(&second, place))
         .collect()
 }
 

@@ -1,5 +1,6 @@
 //! Empty slices, whose address is that of no memory at all.
 
+use wickslate_conformance::lent::filled_behind;
 use wickslate_conformance::make::list;
 use wickslate_conformance::wickslate::{self, Hasher};
 use wickslate_reference::{digest, VARIANTS};
@@ -28,6 +29,28 @@ fn an_empty_message_or_piece() {
     }
 }
 
+/// No byte has any of its bits, whatever number is given.
+#[test]
+fn an_empty_message_or_piece_with_a_bit_number() {
+    for variant in &VARIANTS {
+        let number = variant.number;
+        let image = vec![0; variant.image_bytes()];
+        let mut h = Hasher::default();
+        assert!(wickslate::start(&mut h, number).is_done());
+        let begun = filled_behind(h);
+        for bits in 0..=9 {
+            let none = nowhere();
+            let mut h = begun;
+            assert_eq!(wickslate::update_bits(&mut h, &none, bits).0, 15);
+            assert_eq!(filled_behind(h), begun);
+            let (out, block) = (&mut [0; 36], &mut [0; 5]);
+            assert_eq!(wickslate::whole_bits(number, &none, bits, 1, out).0, 15);
+            let recover = wickslate::recover_bits(number, &none, bits, 0, &image, block);
+            assert_eq!(recover.0, 15);
+        }
+    }
+}
+
 #[test]
 fn an_empty_output_or_image() {
     for variant in &VARIANTS {
@@ -38,6 +61,8 @@ fn an_empty_output_or_image() {
         assert_eq!(wickslate::digest(&h, &mut nowhere()).0, 5);
         assert_eq!(wickslate::end_state(&h, &mut nowhere()).0, 5);
         assert_eq!(wickslate::whole(number, b"abc", 1, &mut nowhere()).0, 5);
+        let bits = wickslate::whole_bits(number, b"abc", 3, 1, &mut nowhere());
+        assert_eq!(bits.0, 5);
         assert_eq!(wickslate::permute(number, &mut nowhere()).0, 6);
         assert_eq!(wickslate::unpermute(number, &mut nowhere()).0, 6);
         let (message, image) = (nowhere(), vec![0; variant.image_bytes()]);
@@ -45,6 +70,10 @@ fn an_empty_output_or_image() {
             |image: &[u8]| wickslate::recover(number, &message, 0, image, &mut nowhere()).0;
         assert_eq!(recover(&nowhere()), 6);
         assert_eq!(recover(&image), 5);
+        let recover_bits =
+            |image: &[u8]| wickslate::recover_bits(number, b"a", 3, 0, image, &mut nowhere()).0;
+        assert_eq!(recover_bits(&nowhere()), 6);
+        assert_eq!(recover_bits(&image), 5);
     }
 }
 

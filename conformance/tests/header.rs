@@ -17,14 +17,18 @@ extern \"C\" {
 #endif
 uint32_t wickslate_start(wickslate_hasher *, uint32_t);
 uint32_t wickslate_update(wickslate_hasher *, const uint8_t *, size_t);
+uint32_t wickslate_update_bits(wickslate_hasher *, const uint8_t *, size_t, uint32_t);
 uint32_t wickslate_finish(wickslate_hasher *);
 uint32_t wickslate_digest(const wickslate_hasher *, uint8_t *, size_t);
 uint32_t wickslate_end_state(const wickslate_hasher *, uint8_t *, size_t);
 uint32_t wickslate_whole(uint32_t, const uint8_t *, size_t, uint32_t, uint8_t *, size_t);
+uint32_t wickslate_whole_bits(uint32_t, const uint8_t *, size_t, uint32_t, uint32_t, uint8_t *, size_t);
 uint32_t wickslate_permute(uint32_t, uint8_t *, size_t);
 uint32_t wickslate_unpermute(uint32_t, uint8_t *, size_t);
 uint32_t wickslate_recover(uint32_t, const uint8_t *, size_t, size_t, const uint8_t *, size_t,
                            uint8_t *, size_t);
+uint32_t wickslate_recover_bits(uint32_t, const uint8_t *, size_t, uint32_t, size_t,
+                                const uint8_t *, size_t, uint8_t *, size_t);
 uint32_t wickslate_entry(const uint8_t *, size_t, size_t, uint32_t *, uint32_t *);
 uint32_t wickslate_advance(wickslate_cursor *);
 uint32_t wickslate_check_entry(const uint8_t *, size_t, const uint8_t *, size_t, size_t);
@@ -68,6 +72,8 @@ fn constants() -> Vec<(String, usize)> {
         ("BAD_MANIFEST", reference::BAD_MANIFEST),
         ("BAD_RECORD", reference::BAD_RECORD),
         ("NOT_RISING", reference::NOT_RISING),
+        ("BAD_BIT_NUMBER", reference::BAD_BIT_NUMBER),
+        ("INSIDE_BYTE", reference::INSIDE_BYTE),
     ] {
         constants.push((name.into(), number.into()));
     }
@@ -76,6 +82,7 @@ fn constants() -> Vec<(String, usize)> {
         ("MOST_IMAGE_BYTES", 36),
         ("MOST_BLOCK_BYTES", 5),
         ("MOST_MESSAGE_BYTES", reference::MESSAGE_LIMIT),
+        ("MOST_MESSAGE_BITS", reference::BIT_LIMIT),
         ("ENTRY_BYTES", 8),
         ("MOST_ENTRIES", 512),
         ("RECORD_BYTES", reference::manifest::RECORD_BYTES),
@@ -152,8 +159,8 @@ const CALLER: &str = "
 #include <stdio.h>
 #include \"wickslate.h\"
 extern wickslate_hasher h;
-extern const uint8_t *table, *buffer, *list;
-extern size_t table_length, buffer_length, list_length, received;
+extern const uint8_t *table, *buffer, *list, *trace;
+extern size_t table_length, buffer_length, list_length, received, switches;
 extern uint8_t image[WICKSLATE_MOST_IMAGE_BYTES];
 int give_up(void);
 void keep(const uint8_t *bytes, size_t length);
@@ -223,16 +230,19 @@ fn every_constant_is_compared() {
 }
 
 /// A sound call of every function, word by word.
-const CALLS: [(&str, &str); 14] = [
+const CALLS: [(&str, &str); 17] = [
     ("start", "&h 1"),
     ("update", "&h in 9"),
+    ("update_bits", "&h in 9 3"),
     ("finish", "&h"),
     ("digest", "&h out 9"),
     ("end_state", "&h out 9"),
     ("whole", "1 in 9 0 out 9"),
+    ("whole_bits", "1 in 9 3 0 out 9"),
     ("permute", "1 out 9"),
     ("unpermute", "1 out 9"),
     ("recover", "1 in 9 0 in 9 out 9"),
+    ("recover_bits", "1 in 9 3 0 in 9 out 9"),
     ("entry", "in 8 0 &number &number"),
     ("advance", "&c"),
     ("check_entry", "in 8 in 9 0"),

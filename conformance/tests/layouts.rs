@@ -155,12 +155,12 @@ fn ends_and_digests() {
     let mut random = Random::of_test("ends_and_digests");
     for variant in &VARIANTS {
         // These totals give every number of held bits.
-        for total in (0..9).cycle().take(amount(180, 9)) {
-            let before = well_formed(&mut random, variant, 0, total);
+        for total in (0..variant.block_bits).cycle().take(amount(180, 36)) {
+            let before = well_formed(&mut random, variant, 0, total as u32);
             let (answer, after) = finish(before);
             assert_eq!(answer, 0);
             let mut last = before.held;
-            let (byte, bit) = bits(5)[8 * total as usize % variant.block_bits];
+            let (byte, bit) = bits(5)[total];
             last[byte] |= bit;
             let mut image = image_of(variant, &before);
             step(variant, &mut image, &last, &bits(5)[..variant.block_bits]);

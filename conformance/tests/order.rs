@@ -39,6 +39,16 @@ fn update() {
 }
 
 #[test]
+fn update_bits() {
+    for variant in &VARIANTS {
+        let sound = Call::sound(variant).with_bits(3);
+        expect_order(&sound, &faults::of_update_bits(variant), |call| {
+            compare::update_bits(call.h, call.message, call.bits).0
+        });
+    }
+}
+
+#[test]
 fn finish() {
     for variant in &VARIANTS {
         expect_order(&Call::sound(variant), &faults::of_finish(variant), |call| {
@@ -72,6 +82,20 @@ fn whole() {
 }
 
 #[test]
+fn whole_bits() {
+    for variant in &VARIANTS {
+        for wanted in [0, 1] {
+            let sound = Call::sound(variant).with_bits(3);
+            let faults = faults::of_whole_bits(variant, wanted);
+            expect_order(&sound, &faults, |call| {
+                let (number, message, bits) = (call.number, call.message, call.bits);
+                compare::whole_bits(number, message, bits, wanted, &call.output()).0
+            });
+        }
+    }
+}
+
+#[test]
 fn permute_and_unpermute() {
     for variant in &VARIANTS {
         for back in [false, true] {
@@ -90,6 +114,19 @@ fn recover() {
         expect_order(&Call::sound(variant), &faults, |call| {
             let (number, message, place) = (call.number, call.message, call.place);
             compare::recover(number, message, place, &call.image, &call.output()).0
+        });
+    }
+}
+
+#[test]
+fn recover_bits() {
+    for variant in &VARIANTS {
+        let sound = Call::sound(variant).with_bits(3);
+        let faults = faults::of_recover_bits(variant);
+        expect_order(&sound, &faults, |call| {
+            let (number, message, bits) = (call.number, call.message, call.bits);
+            let (place, image, out) = (call.place, &call.image, call.output());
+            compare::recover_bits(number, message, bits, place, image, &out).0
         });
     }
 }

@@ -10,7 +10,7 @@ use wickslate_conformance::wickslate::{self, Answer, Hasher};
 use wickslate_conformance::{compare, settings};
 use wickslate_reference::manifest::RECORD_BYTES;
 use wickslate_reference::padding::block_count;
-use wickslate_reference::{digest, Variant, MESSAGE_LIMIT};
+use wickslate_reference::{digest, digest_bits, Variant, MESSAGE_LIMIT};
 
 /// The variant that takes the least time for a byte.
 const FAST: u32 = 5;
@@ -18,14 +18,24 @@ const FAST: u32 = 5;
 /// A random call: its answer.
 type Call = fn(&mut Random) -> u32;
 
-const CALLS: [Call; 7] = [
-    whole, image, running, one_entry, whole_list, lost_block, records,
+/// The running hash has five calls, and comes twice.
+const CALLS: [Call; 10] = [
+    whole,
+    whole_bits,
+    image,
+    running,
+    running,
+    one_entry,
+    whole_list,
+    lost_block,
+    lost_block_bits,
+    records,
 ];
 
 #[test]
 fn random_calls() {
     let mut random = Random::of_test("random_calls");
-    let mut seen = [0; 15];
+    let mut seen = [0; 17];
     match settings::minutes() {
         None => {
             for _ in 0..settings::amount(30_000, 6000) {
@@ -40,7 +50,7 @@ fn random_calls() {
             }
         }
     }
-    println!("answers 0 to 14: {seen:?}");
+    println!("answers 0 to 16: {seen:?}");
     assert!(!seen.contains(&0), "an answer did not come up: {seen:?}");
 }
 
@@ -61,6 +71,15 @@ fn number(random: &mut Random, variant: &Variant) -> u32 {
     match random.once_in(12) {
         true => random.pick(&make::UNKNOWN),
         false => variant.number,
+    }
+}
+
+/// How many bits of a last byte count, or now and then a number of them that
+/// no byte has.
+fn bit_number(random: &mut Random) -> u32 {
+    match random.once_in(12) {
+        true => random.pick(&make::BAD_BIT_NUMBERS),
+        false => 1 + random.below(8) as u32,
     }
 }
 
@@ -94,6 +113,14 @@ fn whole(random: &mut Random) -> u32 {
     compare::whole(number(random, variant), &message, wanted, &out).0
 }
 
+fn whole_bits(random: &mut Random) -> u32 {
+    let variant = make::variant(random);
+    let (message, bits) = (message(random), bit_number(random));
+    let wanted = random.pick(&[0, 0, 1, 2, 256]);
+    let out = output(random, make::result_bytes(variant, wanted));
+    compare::whole_bits(number(random, variant), &message, bits, wanted, &out).0
+}
+
 fn image(random: &mut Random) -> u32 {
     let variant = make::variant(random);
     let image = near_image(random, variant);
@@ -103,12 +130,16 @@ fn image(random: &mut Random) -> u32 {
 
 fn running(random: &mut Random) -> u32 {
     let h = near_hasher(random);
-    match random.below(4) {
+    match random.below(5) {
         0 => compare::start(h, random.below(14) as u32).0,
         1 => compare::finish(h).0,
         2 => {
             let out = output(random, 36);
             compare::read(h, random.once_in(2), &out).0
+        }
+        3 => {
+            let (piece, bits) = (message(random), bit_number(random));
+            compare::update_bits(h, &piece, bits).0
         }
         _ => {
             let piece = message(random);
@@ -171,7 +202,7 @@ fn lost_block(random: &mut Random) -> u32 {
     let variant = make::variant(random);
     let message = message(random);
     let number = number(random, variant);
-    let place = random.below(block_count(variant, message.len()) + 1);
+    let place = random.below(block_count(variant, 8 * message.len()) + 1);
     let mut image = near_image(random, variant);
     if random.once_in(2) {
         // Its own end state, which a block leads to.
@@ -180,6 +211,21 @@ fn lost_block(random: &mut Random) -> u32 {
     }
     let out = output(random, make::block_bytes(variant));
     compare::recover(number, &message, place, &image, &out).0
+}
+
+fn lost_block_bits(random: &mut Random) -> u32 {
+    let variant = make::variant(random);
+    let (message, bits) = (message(random), bit_number(random));
+    let number = number(random, variant);
+    let place = random.below(block_count(variant, 8 * message.len()) + 1);
+    let mut own = vec![0; variant.image_bytes()];
+    let image = match wickslate::whole_bits(variant.number, &message, bits, 1, &mut own) {
+        // Its own end state, which a block leads to.
+        Answer(0) if random.once_in(2) => own,
+        _ => near_image(random, variant),
+    };
+    let out = output(random, make::block_bytes(variant));
+    compare::recover_bits(number, &message, bits, place, &image, &out).0
 }
 
 /// A manifest or, in one of two cases, one with a byte changed or lost, or with
@@ -198,7 +244,8 @@ fn records(random: &mut Random) -> u32 {
     compare::check_manifest(&list)
 }
 
-/// 16,777,215 bytes: whole, in pieces, and as that of a list of two segments.
+/// 16,777,215 bytes: whole, in pieces, and as that of a list of two segments;
+/// and a bit less than they have.
 fn longest_messages(random: &mut Random) {
     let (entries, buffer) = two_segments(random, MESSAGE_LIMIT - 2 - 16);
     let message = make::list_message(&entries, &buffer);
@@ -214,6 +261,10 @@ fn longest_messages(random: &mut Random) {
     expect_same(&mut |out| wickslate::digest(&h, out));
     let list = make::list(&entries);
     expect_same(&mut |out| wickslate::digest_list(FAST, &list, &buffer, 0, out));
+    let expected = digest_bits(FAST, &message, 7).expect("not too long");
+    let mut out = vec![0; expected.len()];
+    assert!(wickslate::whole_bits(FAST, &message, 7, 0, &mut out).is_done());
+    assert_eq!(out, expected);
 }
 
 /// The running hash of a message of the greatest length.

@@ -8,14 +8,17 @@ use wickslate_conformance::settings::amount;
 use wickslate_conformance::wickslate;
 use wickslate_reference::bits::{pack, Order};
 use wickslate_reference::padding::{block, block_count};
-use wickslate_reference::{end_state, permute, Padding, Variant, MESSAGE_LIMIT, VARIANTS};
+use wickslate_reference::{
+    end_state, permute, Message, Padding, Variant, BIT_LIMIT, MESSAGE_LIMIT, VARIANTS,
+};
 
 const MESSAGE: &[u8] = b"Bar 14, 6.20 m, 0.4 m/s";
 const OUT: [u8; 6] = [0x5e; 6];
 
 /// The block of a message at a place, packed, and the rest of the output.
 fn own_block(variant: &Variant, message: &[u8], place: usize) -> Vec<u8> {
-    let bits = block(variant, Padding::NextBit, message, place);
+    let message = Message::whole(message).bits(variant.family);
+    let bits = block(variant, Padding::NextBit, &message, place);
     let mut packed = pack(Order::HighestFirst, &bits);
     packed.extend(&OUT[packed.len()..]);
     packed
@@ -28,7 +31,7 @@ fn every_block_of_a_message() {
         for bytes in 0..amount(14, 5) {
             let message = random.bytes(bytes);
             let end = end_state(variant.number, &message).expect("a short message");
-            for place in 0..block_count(variant, bytes) {
+            for place in 0..block_count(variant, 8 * bytes) {
                 let own = own_block(variant, &message, place);
                 let mut forgotten = message.clone();
                 for byte in forgotten_bytes(variant, place, bytes) {
@@ -66,11 +69,13 @@ fn blocks_of_another_message() {
         let changed = |place: &usize| {
             own_block(variant, &message, *place) != own_block(variant, &other, *place)
         };
-        let place = (0..block_count(variant, bytes)).find(changed).expect("one");
+        let place = (0..block_count(variant, 8 * bytes))
+            .find(changed)
+            .expect("one");
         let given = recover(variant.number, &message, place, &end, &OUT);
         assert_eq!(given, (0, own_block(variant, &other, place)));
         for elsewhere in [place.wrapping_sub(1), place + 1] {
-            if elsewhere < block_count(variant, bytes) {
+            if elsewhere < block_count(variant, 8 * bytes) {
                 let given = recover(variant.number, &message, elsewhere, &end, &OUT);
                 assert_eq!(given, (8, OUT.to_vec()));
             }
@@ -87,7 +92,7 @@ fn any_end_states() {
         let bytes = random.below(30);
         let message = random.bytes(bytes);
         let end = image(&mut random, variant);
-        let place = random.below(block_count(variant, bytes));
+        let place = random.below(block_count(variant, 8 * bytes));
         assert_eq!(recover(variant.number, &message, place, &end, &OUT).0, 8);
     }
 }
@@ -212,7 +217,7 @@ fn too_long_comes_before_the_place() {
 #[test]
 fn the_place_comes_before_the_image() {
     for variant in &VARIANTS {
-        let count = block_count(variant, MESSAGE.len());
+        let count = block_count(variant, 8 * MESSAGE.len());
         for place in [count, count + 1, 1 << 32, usize::MAX] {
             let call = Call {
                 place,
@@ -245,7 +250,7 @@ fn the_place_comes_before_the_image() {
 fn places_of_the_longest_message() {
     let longest = vec![0; MESSAGE_LIMIT];
     for variant in &VARIANTS {
-        let count = block_count(variant, MESSAGE_LIMIT);
+        let count = block_count(variant, BIT_LIMIT);
         for (place, refusal) in [(count - 1, 6), (count, 7)] {
             let call = Call {
                 message: &longest,

@@ -1,5 +1,5 @@
-//! The running hash: pieces cut anywhere, the stages, and the refusals 2, 3,
-//! 4 and 5 alone and against their neighbours.
+//! The running hash: pieces of whole bytes cut anywhere, the stages, and the
+//! refusals 2, 3, 16, 4 and 5 alone and against their neighbours.
 
 use wickslate_conformance::compare::{finish, read, start, update, whole};
 use wickslate_conformance::make::{
@@ -8,9 +8,10 @@ use wickslate_conformance::make::{
 use wickslate_conformance::random::Random;
 use wickslate_conformance::settings::amount;
 use wickslate_conformance::wickslate::Hasher;
-use wickslate_reference::{Variant, MESSAGE_LIMIT, VARIANTS};
+use wickslate_reference::{Variant, BIT_LIMIT, MESSAGE_LIMIT, VARIANTS};
 
-const LIMIT: u32 = MESSAGE_LIMIT as u32;
+/// The greatest total, which is one of bits.
+const LIMIT: u32 = BIT_LIMIT as u32;
 
 fn begun(variant: &Variant) -> Hasher {
     let (answer, h) = start(none(), variant.number);
@@ -74,8 +75,12 @@ fn calls_go_on_from_any_well_formed_state() {
         let h = well_formed(&mut random, variant, 0, total);
         let length = random.below(20);
         let piece = random.bytes(length);
-        let fits = total as usize + length <= MESSAGE_LIMIT;
-        assert_eq!(update(h, &piece).0, if fits { 0 } else { 4 });
+        let expected = match total as usize + 8 * length {
+            _ if !total.is_multiple_of(8) => 16,
+            ..=BIT_LIMIT => 0,
+            _ => 4,
+        };
+        assert_eq!(update(h, &piece).0, expected);
         let (answer, ended) = finish(h);
         assert_eq!(answer, 0);
         for image in [false, true] {
@@ -160,7 +165,7 @@ fn stages_past_closed_are_malformed() {
     let mut random = Random::of_test("stages_past_closed_are_malformed");
     for stage in 2..=255 {
         let variant = variant(&mut random);
-        let h = well_formed(&mut random, variant, 1, 9);
+        let h = well_formed(&mut random, variant, 1, 8 * 9);
         expect_malformed(Hasher { stage, ..h });
     }
 }
@@ -169,7 +174,7 @@ fn stages_past_closed_are_malformed() {
 fn totals_past_the_limit_are_malformed() {
     let mut random = Random::of_test("totals_past_the_limit_are_malformed");
     for variant in &VARIANTS {
-        for total in [LIMIT + 1, LIMIT + 2, 1 << 25, 1 << 31, u32::MAX] {
+        for total in [LIMIT + 1, LIMIT + 2, LIMIT + 8, 1 << 28, 1 << 31, u32::MAX] {
             for stage in [0, 1] {
                 // As many held bits as the total says, so that only the
                 // total can be at fault.
@@ -185,7 +190,7 @@ fn each_state_bit_past_the_state_is_malformed() {
     for variant in &VARIANTS {
         for (byte, bit) in spare_state(variant) {
             for stage in [0, 1] {
-                let mut h = well_formed(&mut random, variant, stage, 5);
+                let mut h = well_formed(&mut random, variant, stage, 8 * 5);
                 h.state[byte] |= bit;
                 expect_malformed(h);
             }
@@ -198,7 +203,8 @@ fn each_held_bit_past_those_held_is_malformed() {
     let mut random = Random::of_test("each_held_bit_past_those_held");
     for variant in &VARIANTS {
         // These totals give every number of held bits.
-        let open = (0..9).chain([LIMIT]).map(|total| (0, total));
+        let every = 0..variant.block_bits as u32;
+        let open = every.chain([LIMIT - 1, LIMIT]).map(|total| (0, total));
         for (stage, total) in open.chain([(1, 1)]) {
             for (byte, bit) in spare_held(variant, stage, total) {
                 let mut h = well_formed(&mut random, variant, stage, total);
@@ -214,7 +220,7 @@ fn a_closed_one_takes_nothing_more() {
     let mut random = Random::of_test("a_closed_one_takes_nothing_more");
     let long = vec![0; MESSAGE_LIMIT + 1];
     for variant in &VARIANTS {
-        for total in [0, 1, LIMIT] {
+        for total in [0, 1, 8, LIMIT - 1, LIMIT] {
             let h = well_formed(&mut random, variant, 1, total);
             assert_eq!(update(h, b"").0, 3);
             assert_eq!(update(h, b"\xff").0, 3);
@@ -229,7 +235,7 @@ fn a_closed_one_takes_nothing_more() {
 fn an_open_one_cannot_be_read() {
     let mut random = Random::of_test("an_open_one_cannot_be_read");
     for variant in &VARIANTS {
-        for total in [0, 1, LIMIT] {
+        for total in [0, 1, 8, LIMIT - 1, LIMIT] {
             let h = well_formed(&mut random, variant, 0, total);
             for image in [false, true] {
                 assert_eq!(read(h, image, &[0x5e; 36]).0, 3);
@@ -245,12 +251,12 @@ fn the_total_stops_at_the_limit() {
     let long = vec![0; MESSAGE_LIMIT + 1];
     for variant in &VARIANTS {
         for left in [0, 1, 2, 5] {
-            let h = well_formed(&mut random, variant, 0, LIMIT - left);
-            let (answer, full) = update(h, &long[..left as usize]);
+            let h = well_formed(&mut random, variant, 0, LIMIT - 8 * left as u32);
+            let (answer, full) = update(h, &long[..left]);
             assert_eq!((answer, full.total), (0, LIMIT));
             assert_eq!(update(full, b"\xff").0, 4);
             assert_eq!(update(full, b"").0, 0);
-            assert_eq!(update(h, &long[..left as usize + 1]).0, 4);
+            assert_eq!(update(h, &long[..left + 1]).0, 4);
         }
         assert_eq!(update(begun(variant), &long).0, 4);
     }

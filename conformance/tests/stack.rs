@@ -8,7 +8,7 @@ use std::path::Path;
 use std::sync::LazyLock;
 
 use wickslate_conformance::faults::{self, Call, Fault, LONG};
-use wickslate_conformance::make::{filled_manifest, well_formed};
+use wickslate_conformance::make::{bits_of, filled_manifest, well_formed};
 use wickslate_conformance::random::Random;
 use wickslate_conformance::settings;
 use wickslate_conformance::stack::{depth, Function};
@@ -20,13 +20,16 @@ use wickslate_reference::{Variant, MESSAGE_LIMIT, VARIANTS};
 extern "C" {
     fn wickslate_start();
     fn wickslate_update();
+    fn wickslate_update_bits();
     fn wickslate_finish();
     fn wickslate_digest();
     fn wickslate_end_state();
     fn wickslate_whole();
+    fn wickslate_whole_bits();
     fn wickslate_permute();
     fn wickslate_unpermute();
     fn wickslate_recover();
+    fn wickslate_recover_bits();
     fn wickslate_entry();
     fn wickslate_advance();
     fn wickslate_check_entry();
@@ -40,8 +43,8 @@ const ROOM: usize = 64;
 /// The lengths of messages, of which the last has many blocks.
 const LENGTHS: [usize; 10] = [0, 1, 2, 3, 4, 5, 9, 18, 36, 500];
 
-/// The totals below this one hold bits in every number that can be: PHOTON-196
-/// holds none again after nine bytes, and the others sooner.
+/// The totals in bytes below this one hold bits in every number that whole
+/// bytes leave: PHOTON-196 holds none again after nine, and the others sooner.
 const TOTALS: u32 = 9;
 
 static MESSAGE: LazyLock<Vec<u8>> = LazyLock::new(|| Random::of_test("stack").bytes(500));
@@ -82,6 +85,13 @@ impl Most {
         self.call("update", wickslate_update, &words)
     }
 
+    fn update_bits(&mut self, call: &Call) -> u32 {
+        let mut h = call.h;
+        let (piece, bits) = (read(call.message), call.bits as usize);
+        let words = [&raw mut h as usize, piece[0], piece[1], bits];
+        self.call("update_bits", wickslate_update_bits, &words)
+    }
+
     fn finish(&mut self, call: &Call) -> u32 {
         let mut h = call.h;
         self.call("finish", wickslate_finish, &[&raw mut h as usize])
@@ -103,6 +113,14 @@ impl Most {
         let (message, out) = (read(call.message), lent(&mut out));
         let words = [number, message[0], message[1], wanted, out[0], out[1]];
         self.call("whole", wickslate_whole, &words)
+    }
+
+    fn whole_bits(&mut self, call: &Call, wanted: u32) -> u32 {
+        let mut out = call.output();
+        let (number, bits, wanted) = (call.number as usize, call.bits as usize, wanted as usize);
+        let (message, out) = (read(call.message), lent(&mut out));
+        let words = [number, message[0], message[1], bits, wanted, out[0], out[1]];
+        self.call("whole_bits", wickslate_whole_bits, &words)
     }
 
     fn permute(&mut self, call: &Call) -> u32 {
@@ -127,6 +145,16 @@ impl Most {
             number, message[0], message[1], place, image[0], image[1], out[0], out[1],
         ];
         self.call("recover", wickslate_recover, &words)
+    }
+
+    fn recover_bits(&mut self, call: &Call) -> u32 {
+        let mut out = call.output();
+        let (number, bits, place) = (call.number as usize, call.bits as usize, call.place);
+        let (message, image, out) = (read(call.message), read(&call.image), lent(&mut out));
+        let words = [
+            number, message[0], message[1], bits, place, image[0], image[1], out[0], out[1],
+        ];
+        self.call("recover_bits", wickslate_recover_bits, &words)
     }
 
     fn entry(&mut self, call: &Call) -> u32 {
@@ -188,6 +216,10 @@ impl Most {
         self.each(&sound, &faults::of_check_entry(), Most::check_entry);
         let faults = faults::of_check_manifest(variant);
         self.each(&sound, &faults, Most::check_manifest);
+        let ending = sound.clone().with_bits(3);
+        self.each(&ending, &faults::of_update_bits(variant), Most::update_bits);
+        let faults = faults::of_recover_bits(variant);
+        self.each(&ending, &faults, Most::recover_bits);
         for wanted in [0, 1] {
             let faults = faults::of_read(variant, wanted);
             self.each(&Call::closed(variant), &faults, |most, call| {
@@ -195,23 +227,25 @@ impl Most {
             });
             let faults = faults::of_whole(variant, wanted);
             self.each(&sound, &faults, |most, call| most.whole(call, wanted));
+            let faults = faults::of_whole_bits(variant, wanted);
+            self.each(&ending, &faults, |most, call| most.whole_bits(call, wanted));
             let faults = faults::of_digest_list(variant, wanted);
             self.each(&sound, &faults, |most, call| most.digest_list(call, wanted));
         }
     }
 
     /// A message in one piece behind so many bytes before it, a whole one, and
-    /// a list of 512 segments, of which the last is all of it; a manifest of 512
-    /// records.
+    /// a list of 512 segments, of which the last is all of it that is not too
+    /// long with the list; a manifest of 512 records.
     fn message_calls(&mut self, call: &mut Call, variant: &Variant, totals: u32) {
         let mut random = Random::of_test("message_calls");
         for total in 0..totals {
-            call.h = well_formed(&mut random, variant, 0, total);
+            call.h = well_formed(&mut random, variant, 0, 8 * total);
             assert_eq!(self.update(call), 0);
             assert_eq!(self.finish(call), 0);
         }
         call.entries = vec![(0, 0); 512];
-        call.entries[511].1 = call.message.len() as u32;
+        call.entries[511].1 = call.message.len().min(MESSAGE_LIMIT - 2 - 8 * 512) as u32;
         call.entry = 511;
         for wanted in [0, 1] {
             assert_eq!(self.whole(call, wanted), 0);
@@ -227,10 +261,32 @@ impl Most {
     /// The first block lost, one in the middle and the last, of the message
     /// and of none.
     fn recover_calls(&mut self, call: &mut Call, variant: &Variant) {
-        let count = block_count(variant, call.message.len());
+        let count = block_count(variant, 8 * call.message.len());
         for place in [0, count / 2, count - 1] {
             call.place = place;
             self.each(call, &faults::no_block(variant), Most::recover);
+        }
+    }
+
+    /// The same calls of a message of some bytes, of the last of which some
+    /// bits count, and the end of a message after each number of bits.
+    fn bits_calls(&mut self, call: &mut Call, variant: &Variant, totals: u32) {
+        let mut random = Random::of_test("bits_calls");
+        for total in 0..totals {
+            call.h = well_formed(&mut random, variant, 0, 8 * total);
+            assert_eq!(self.update_bits(call), 0);
+        }
+        for total in 0..variant.block_bits {
+            call.h = well_formed(&mut random, variant, 0, total as u32);
+            assert_eq!(self.finish(call), 0);
+        }
+        for wanted in [0, 1] {
+            assert_eq!(self.whole_bits(call, wanted), 0);
+        }
+        let count = block_count(variant, bits_of(call.message, call.bits));
+        for place in [0, count / 2, count - 1] {
+            call.place = place;
+            self.each(call, &faults::no_block(variant), Most::recover_bits);
         }
     }
 }
@@ -264,6 +320,12 @@ fn every_call_leaves_some_of_what_the_header_says() {
             most.message_calls(&mut call, variant, TOTALS);
             most.recover_calls(&mut call, variant);
         }
+        for bytes in LENGTHS.into_iter().filter(|&bytes| bytes > 0) {
+            for bits in [1, 7, 8] {
+                let mut call = Call::about(variant, &MESSAGE[..bytes]).with_bits(bits);
+                most.bits_calls(&mut call, variant, TOTALS);
+            }
+        }
     }
     if settings::minutes().is_some() {
         // The variant that takes the least time for a byte.
@@ -271,6 +333,7 @@ fn every_call_leaves_some_of_what_the_header_says() {
         let mut call = Call::about(variant, &LONG[..MESSAGE_LIMIT]);
         most.message_calls(&mut call, variant, 1);
         most.recover_calls(&mut call, variant);
+        most.bits_calls(&mut call.with_bits(7), variant, 1);
     }
     let stated = stated();
     assert_eq!(stated.len(), most.0.len(), "a function is left out");

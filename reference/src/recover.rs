@@ -2,6 +2,7 @@
 //! padded blocks.
 
 use crate::bits::{pack, Order};
+use crate::message::Message;
 use crate::padding::{block, block_count, Padding};
 use crate::running::write_front;
 use crate::{image, message_check, sponge};
@@ -10,11 +11,28 @@ use crate::{BAD_IMAGE, DONE, NO_BLOCK, OUTPUT_TOO_SHORT, OUT_OF_RANGE};
 /// Writes the block at `place` that leads to the end state over the front of
 /// `out`. Refusals 1, 4, 7, 6, 5 and 8.
 pub fn recover(number: u32, message: &[u8], place: usize, end: &[u8], out: &mut [u8]) -> u8 {
-    let variant = match message_check(number, message.len()) {
+    recover_of(number, Message::whole(message), place, end, out)
+}
+
+/// The same for a message of whose last byte `bits` bits count. Refusals 1,
+/// 15, 4, 7, 6, 5 and 8.
+pub fn recover_bits(
+    number: u32,
+    message: &[u8],
+    bits: u32,
+    place: usize,
+    end: &[u8],
+    out: &mut [u8],
+) -> u8 {
+    recover_of(number, Message::ending(message, bits), place, end, out)
+}
+
+fn recover_of(number: u32, message: Message, place: usize, end: &[u8], out: &mut [u8]) -> u8 {
+    let variant = match message_check(number, message) {
         Ok(variant) => variant,
         Err(refusal) => return refusal,
     };
-    let count = block_count(variant, message.len());
+    let count = block_count(variant, message.length() as usize);
     if place >= count {
         return OUT_OF_RANGE;
     }
@@ -24,7 +42,8 @@ pub fn recover(number: u32, message: &[u8], place: usize, end: &[u8], out: &mut 
     if out.len() < variant.block_bits.div_ceil(8) {
         return OUTPUT_TOO_SHORT;
     }
-    let of = |index| block(variant, Padding::NextBit, message, index);
+    let bits = message.bits(variant.family);
+    let of = |index| block(variant, Padding::NextBit, &bits, index);
     let mut forth = sponge::start_state(variant);
     for index in 0..place {
         sponge::block_step(variant, &mut forth, &of(index));

@@ -3,10 +3,12 @@
 //! packs them again.
 
 use crate::bits::{pack, unpack, Order};
+use crate::message::Message;
 use crate::variants::{variant, Variant};
 use crate::{image, sponge};
 use crate::{
-    DONE, MALFORMED, MESSAGE_LIMIT, OUTPUT_TOO_SHORT, TOO_LONG, UNKNOWN_VARIANT, WRONG_STAGE,
+    BAD_BIT_NUMBER, BIT_LIMIT, DONE, INSIDE_BYTE, MALFORMED, OUTPUT_TOO_SHORT, TOO_LONG,
+    UNKNOWN_VARIANT, WRONG_STAGE,
 };
 
 /// A running hash, well formed or not.
@@ -16,11 +18,12 @@ pub struct Running {
     pub variant: u8,
     /// 0 while it takes pieces, 1 once it is closed.
     pub stage: u8,
-    /// The bytes taken so far.
+    /// The bits taken so far.
     pub total: u32,
     /// The state's image, and zeros.
     pub state: [u8; 36],
-    /// The bits that do not fill a block yet, and zeros.
+    /// The bits that do not fill a block yet, from the high end of the first
+    /// byte, and zeros.
     pub held: [u8; 5],
 }
 
@@ -55,19 +58,35 @@ pub fn start(number: u32) -> (u8, Running) {
 }
 
 impl Running {
-    /// Takes a piece. Refusals 2, 3 and 4, with the hash as it was.
+    /// Takes a piece. Refusals 2, 3, 16 and 4, with the hash as it was.
     pub fn update(self, piece: &[u8]) -> (u8, Running) {
+        self.taken(Message::whole(piece))
+    }
+
+    /// Takes a piece of whose last byte `bits` bits count. Refusals 2, 3, 15,
+    /// 16 and 4, with the hash as it was.
+    pub fn update_bits(self, piece: &[u8], bits: u32) -> (u8, Running) {
+        self.taken(Message::ending(piece, bits))
+    }
+
+    fn taken(self, piece: Message) -> (u8, Running) {
         let Some(mut parts) = self.parts() else {
             return (MALFORMED, self);
         };
         if self.stage != 0 {
             return (WRONG_STAGE, self);
         }
-        let total = self.total as usize + piece.len();
-        if total > MESSAGE_LIMIT {
+        if !piece.is_sound() {
+            return (BAD_BIT_NUMBER, self);
+        }
+        if !self.total.is_multiple_of(8) {
+            return (INSIDE_BYTE, self);
+        }
+        let total = u128::from(self.total) + piece.length();
+        if total > BIT_LIMIT as u128 {
             return (TOO_LONG, self);
         }
-        parts.take(unpack(Order::HighestFirst, piece));
+        parts.take(piece.bits(parts.variant.family));
         (DONE, self.with(&parts, 0, total as u32))
     }
 
@@ -107,14 +126,14 @@ impl Running {
     fn parts(&self) -> Option<Open> {
         let variant = variant(self.variant.into())?;
         let total = self.total as usize;
-        if self.stage > 1 || total > MESSAGE_LIMIT {
+        if self.stage > 1 || total > BIT_LIMIT {
             return None;
         }
         let (front, behind) = self.state.split_at(variant.image_bytes());
         let state = image::to_state(variant, front)?;
         let mut held = unpack(Order::HighestFirst, &self.held);
         let count = match self.stage {
-            0 => 8 * total % variant.block_bits,
+            0 => total % variant.block_bits,
             _ => 0,
         };
         let past = held.split_off(count);
@@ -141,11 +160,12 @@ impl Open {
     /// Adds bits behind the held ones and runs every block that they fill.
     fn take(&mut self, bits: Vec<bool>) {
         self.held.extend(bits);
-        while self.held.len() >= self.variant.block_bits {
-            let rest = self.held.split_off(self.variant.block_bits);
-            sponge::block_step(self.variant, &mut self.state, &self.held);
-            self.held = rest;
+        let blocks = self.held.chunks_exact(self.variant.block_bits);
+        let rest = blocks.remainder().to_vec();
+        for block in blocks {
+            sponge::block_step(self.variant, &mut self.state, block);
         }
+        self.held = rest;
     }
 }
 

@@ -2,8 +2,9 @@
 //! segments of a buffer.
 
 use crate::running::write_front;
-use crate::{digest, end_state, message_check};
-use crate::{BAD_LIST, DONE, MISORDERED, OUT_OF_RANGE, PAST_END};
+use crate::variants::variant;
+use crate::{digest, end_state};
+use crate::{BAD_LIST, DONE, MISORDERED, OUT_OF_RANGE, PAST_END, UNKNOWN_VARIANT};
 
 /// The greatest number of bytes of a list.
 const LIST_LIMIT: usize = 4096;
@@ -69,7 +70,7 @@ pub fn digest_list(
     out: &mut [u8],
 ) -> Result<(), Refusal> {
     let plain = |refusal| (refusal, None);
-    message_check(number, 0).map_err(plain)?;
+    variant(number).ok_or(plain(UNKNOWN_VARIANT))?;
     let message = message(list, buffer)?;
     let result = match image {
         true => end_state(number, &message),

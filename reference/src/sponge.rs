@@ -59,8 +59,8 @@ pub fn block_step(variant: &Variant, state: &mut [bool], block: &[bool]) {
     permute_state(variant, state);
 }
 
-/// The state after all blocks of the padded message.
-pub fn absorb_message(variant: &Variant, padding: Padding, message: &[u8]) -> Vec<bool> {
+/// The state after all blocks of the padded message, which is given in bits.
+pub fn absorb_message(variant: &Variant, padding: Padding, message: &[bool]) -> Vec<bool> {
     let mut state = start_state(variant);
     for index in 0..block_count(variant, message.len()) {
         let block = block(variant, padding, message, index);

@@ -10,7 +10,7 @@ use wickslate_reference::sponge::{
     block_step, permute_state, read_block, squeeze, start_state, unpermute_state, xor_block,
 };
 use wickslate_reference::{
-    digest, end_state, image, unpermute, variant, Padding, Variant, VARIANTS,
+    digest, end_state, image, unpermute, variant, Message, Padding, Variant, VARIANTS,
 };
 
 const SEED: u64 = 0x0005_2919_2abc_def1;
@@ -20,12 +20,17 @@ fn below(generator: &mut Generator, bound: usize) -> usize {
     usize::from(generator.bytes(1)[0]) % bound
 }
 
+/// Block `index` of a message of whole bytes.
+fn block_at(variant: &Variant, message: &[u8], index: usize) -> Vec<bool> {
+    let bits = Message::whole(message).bits(variant.family);
+    block(variant, Padding::NextBit, &bits, index)
+}
+
 /// The state after the first `count` blocks of a message.
 fn after_blocks(variant: &Variant, message: &[u8], count: usize) -> Vec<bool> {
     let mut state = start_state(variant);
     for index in 0..count {
-        let bits = block(variant, Padding::NextBit, message, index);
-        block_step(variant, &mut state, &bits);
+        block_step(variant, &mut state, &block_at(variant, message, index));
     }
     state
 }
@@ -82,10 +87,9 @@ fn pieces_lead_to_the_end_state_and_digest_of_the_whole() {
 /// added, and takes the state before that block out of it.
 fn difference_at(variant: &Variant, message: &[u8], place: usize, end: &[bool]) -> Vec<bool> {
     let mut state = end.to_vec();
-    for index in (place + 1..block_count(variant, message.len())).rev() {
+    for index in (place + 1..block_count(variant, 8 * message.len())).rev() {
         unpermute_state(variant, &mut state);
-        let bits = block(variant, Padding::NextBit, message, index);
-        xor_block(variant, &mut state, &bits);
+        xor_block(variant, &mut state, &block_at(variant, message, index));
     }
     unpermute_state(variant, &mut state);
     let before = after_blocks(variant, message, place);
@@ -97,11 +101,11 @@ fn every_block_comes_back_from_the_end_state() {
     let mut generator = Generator::new(SEED);
     for variant in &VARIANTS {
         let message = generator.bytes(11);
-        let count = block_count(variant, message.len());
+        let count = block_count(variant, 8 * message.len());
         let end = after_blocks(variant, &message, count);
         for place in 0..count {
             let mut difference = difference_at(variant, &message, place, &end);
-            let expected = block(variant, Padding::NextBit, &message, place);
+            let expected = block_at(variant, &message, place);
             let found = read_block(variant, &difference, variant.block_bits);
             assert_eq!(found, expected, "{}, place {place}", variant.name);
             xor_block(variant, &mut difference, &expected);

@@ -6,7 +6,7 @@ mod hexadecimal;
 use hexadecimal::bytes;
 use wickslate_reference::bits::{pack, Order};
 use wickslate_reference::padding::{block, block_count};
-use wickslate_reference::{digest_with, padding_table, variant, Padding};
+use wickslate_reference::{digest_with, padding_table, variant, Message, Padding};
 
 /// Clause, variant and digest of the SPONGENT examples, all of one message.
 const ANNEX_B_2: [(&str, u32, &str); 5] = [
@@ -64,8 +64,9 @@ fn blocks(number: u32, padding: Padding, message: &[u8]) -> Vec<String> {
         let all: String = bytes.iter().map(|byte| format!("{byte:02X}")).collect();
         all[..bits.len() / 4].to_string()
     };
+    let message = Message::whole(message).bits(variant.family);
     (0..block_count(variant, message.len()))
-        .map(|index| digits(&block(variant, padding, message, index)))
+        .map(|index| digits(&block(variant, padding, &message, index)))
         .collect()
 }
 

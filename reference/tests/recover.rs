@@ -2,7 +2,7 @@
 
 use wickslate_reference::padding::{block, block_count};
 use wickslate_reference::recover::recover;
-use wickslate_reference::{bits, end_state, permute, Padding, Variant, VARIANTS};
+use wickslate_reference::{bits, end_state, permute, Message, Padding, Variant, VARIANTS};
 
 const MESSAGE: &[u8] = b"Bar 14, 6.20 m, 0.4 m/s";
 
@@ -10,16 +10,22 @@ fn block_bytes(variant: &Variant) -> usize {
     variant.block_bits.div_ceil(8)
 }
 
+/// The block of a message at a place, packed.
+fn own_block(variant: &Variant, message: &[u8], place: usize) -> Vec<u8> {
+    let message = Message::whole(message).bits(variant.family);
+    let own = block(variant, Padding::NextBit, &message, place);
+    bits::pack(bits::Order::HighestFirst, &own)
+}
+
 #[test]
 fn a_message_has_its_own_blocks_at_every_place() {
     for variant in &VARIANTS {
         let end = end_state(variant.number, MESSAGE).unwrap();
-        for place in 0..block_count(variant, MESSAGE.len()) {
-            let own = block(variant, Padding::NextBit, MESSAGE, place);
+        for place in 0..block_count(variant, 8 * MESSAGE.len()) {
             let mut out = [0xa0; 6];
             assert_eq!(recover(variant.number, MESSAGE, place, &end, &mut out), 0);
             let (front, behind) = out.split_at(block_bytes(variant));
-            assert_eq!(front, bits::pack(bits::Order::HighestFirst, &own));
+            assert_eq!(front, own_block(variant, MESSAGE, place));
             assert!(behind.iter().all(|&byte| byte == 0xa0));
         }
     }
@@ -34,8 +40,7 @@ fn a_changed_block_is_found() {
         let end = end_state(variant.number, &other).unwrap();
         let mut out = vec![0; block_bytes(variant)];
         assert_eq!(recover(variant.number, MESSAGE, 0, &end, &mut out), 0);
-        let changed = block(variant, Padding::NextBit, &other, 0);
-        assert_eq!(out, bits::pack(bits::Order::HighestFirst, &changed));
+        assert_eq!(out, own_block(variant, &other, 0));
     }
 }
 
@@ -54,7 +59,7 @@ fn no_block_of_spongent_88_reaches_the_second_byte() {
 fn refusals_come_in_order() {
     let long = vec![0; 16_777_216];
     let good = end_state(1, MESSAGE).unwrap();
-    let count = block_count(&VARIANTS[0], MESSAGE.len());
+    let count = block_count(&VARIANTS[0], 8 * MESSAGE.len());
     let mut spare = good.clone();
     spare[12] |= 1;
     let wrong = vec![0xa0; 13];

@@ -1,7 +1,7 @@
 //! Which calls are refused, with which number, and that they change nothing.
 
 use wickslate_reference::{
-    digest, digest_with, end_state, message_check, permute, unpermute, Padding, VARIANTS,
+    digest, digest_with, end_state, message_check, permute, unpermute, Message, Padding, VARIANTS,
 };
 
 /// Number, name, image bytes and digest bytes of each variant.
@@ -111,10 +111,12 @@ fn messages_past_the_limit_are_refused() {
 /// By the check alone: to hash so long a message takes too long for a test.
 #[test]
 fn messages_of_the_limit_pass() {
+    let long = vec![0; 16_777_216];
     for (number, ..) in SIZES {
-        let variant = message_check(number, 16_777_215).expect("not refused");
+        let check = |bytes| message_check(number, Message::whole(bytes));
+        let variant = check(&long[1..]).expect("not refused");
         assert_eq!(variant.number, number);
-        assert_eq!(message_check(number, 16_777_216), Err(4));
+        assert_eq!(check(&long), Err(4));
     }
 }
 

@@ -2,7 +2,7 @@
 //! apart.
 
 use wickslate_reference::segments::{digest_list, message};
-use wickslate_reference::{digest, message_check, MESSAGE_LIMIT};
+use wickslate_reference::{digest, message_check, Message, MESSAGE_LIMIT};
 
 const SIX: &[u8] = &[0, 1, 2, 3, 4, 5];
 
@@ -65,7 +65,7 @@ fn the_added_bytes_count() {
     let longest = list(&[(0, MESSAGE_LIMIT as u32 - 10)]);
     let message = message(&longest, &buffer).expect("a sound list");
     assert_eq!(message.len(), MESSAGE_LIMIT);
-    assert!(message_check(1, message.len()).is_ok());
+    assert!(message_check(1, Message::whole(&message)).is_ok());
     let longer = list(&[(0, MESSAGE_LIMIT as u32 - 9)]);
     assert_eq!(
         digest_list(1, &longer, &buffer, false, &mut []),

@@ -86,7 +86,7 @@ fn every_answer_has_a_line() {
             words[0] == operation && number == Some(refusal.to_string().as_str())
         })
     };
-    let answers: [(&str, &[u8]); 18] = [
+    let answers: [(&str, &[u8]); 23] = [
         ("permute", &[0, 1, 6]),
         ("unpermute", &[0, 1, 6]),
         ("round", &[0]),
@@ -95,13 +95,18 @@ fn every_answer_has_a_line() {
         ("end-state", &[0, 1, 5]),
         ("pieces", &[0]),
         ("start", &[0, 1]),
-        ("update", &[0, 2, 3, 4]),
+        ("update", &[0, 2, 3, 16, 4]),
         ("finish", &[0, 2, 3]),
         ("read-digest", &[0, 2, 3, 5]),
         ("read-end-state", &[0, 2, 3, 5]),
         ("segment", &[0, 9, 7, 10, 11]),
         ("list-digest", &[0, 1, 9, 10, 11, 5]),
         ("recover", &[0, 1, 7, 6, 5, 8]),
+        ("digest-bits", &[0, 1, 15, 5]),
+        ("end-state-bits", &[0, 1, 15, 5]),
+        ("pieces-bits", &[0]),
+        ("recover-bits", &[0, 1, 15, 7, 6, 5, 8]),
+        ("update-bits", &[0, 2, 3, 15, 16, 4]),
         ("check-manifest", &[0, 12, 13, 14]),
         ("report", &[0, 12, 14]),
         ("report-strayed", &[0]),
@@ -126,7 +131,7 @@ fn refused_calls_leave_their_bytes() {
         match operation {
             _ if status == "0" => {}
             "permute" | "unpermute" | "finish" => assert_eq!(output, input),
-            "update" => assert_eq!(Some(output), input.split('+').next()),
+            "update" | "update-bits" => assert_eq!(Some(output), input.split('+').next()),
             "start" => assert_eq!(
                 output,
                 format!("0:0:0:{}:{}", "00".repeat(36), "00".repeat(5))

@@ -8,10 +8,10 @@ use crate::recover::recover;
 use crate::variants::VARIANTS;
 use crate::{end_state, permute};
 
-const MESSAGE: &[u8] = b"Bar 7 hold.";
+pub const MESSAGE: &[u8] = b"Bar 7 hold.";
 
 /// An output that is long enough for any block.
-const LONG: usize = 6;
+pub const LONG: usize = 6;
 
 pub fn add(lines: &mut String) {
     let unreached = unreached();
@@ -29,12 +29,12 @@ pub fn add(lines: &mut String) {
     add_line(lines, 0, MESSAGE, 1, &image, LONG);
 }
 
-fn end_of(number: u32, message: &[u8]) -> Vec<u8> {
+pub fn end_of(number: u32, message: &[u8]) -> Vec<u8> {
     end_state(number, message).expect("the variant exists and the message is short")
 }
 
 /// The image of SPONGENT-88 that no block leads to from its start.
-fn unreached() -> [u8; 11] {
+pub fn unreached() -> [u8; 11] {
     let mut image = [0; 11];
     image[1] = 1;
     permute(6, &mut image);

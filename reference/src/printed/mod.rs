@@ -1,6 +1,7 @@
 //! The lines that the programs print. A line of the program `vectors` has
 //! the form `OP VARIANT INPUT STATUS OUTPUT`.
 
+mod bits;
 mod lists;
 mod lost;
 mod permutations;
@@ -33,6 +34,7 @@ pub fn vector_lines() -> String {
     running::add(&mut lines);
     lists::add(&mut lines);
     lost::add(&mut lines);
+    bits::add(&mut lines);
     reports::add(&mut lines);
     lines
 }

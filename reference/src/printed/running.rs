@@ -5,7 +5,7 @@ use std::fmt::Write;
 
 use super::{hexadecimal, name, result_hexadecimal};
 use crate::running::{start, Running};
-use crate::MESSAGE_LIMIT;
+use crate::BIT_LIMIT;
 
 pub fn add(lines: &mut String) {
     add_stages(lines);
@@ -18,7 +18,7 @@ pub fn add(lines: &mut String) {
 }
 
 /// A running hash in one word.
-fn word(running: &Running) -> String {
+pub fn word(running: &Running) -> String {
     let Running {
         variant,
         stage,
@@ -30,14 +30,14 @@ fn word(running: &Running) -> String {
     format!("{variant}:{stage}:{total}:{state}:{held}")
 }
 
-fn add_start(lines: &mut String, number: u32) -> Running {
+pub fn add_start(lines: &mut String, number: u32) -> Running {
     let (status, begun) = start(number);
     let after = word(&begun);
     writeln!(lines, "start {number} - {status} {after}").expect("memory");
     begun
 }
 
-fn add_update(lines: &mut String, running: Running, piece: &[u8]) -> Running {
+pub fn add_update(lines: &mut String, running: Running, piece: &[u8]) -> Running {
     let (status, taken) = running.update(piece);
     let number = running.variant;
     let [before, after] = [running, taken].map(|r| word(&r));
@@ -46,7 +46,7 @@ fn add_update(lines: &mut String, running: Running, piece: &[u8]) -> Running {
     taken
 }
 
-fn add_finish(lines: &mut String, running: Running) -> Running {
+pub fn add_finish(lines: &mut String, running: Running) -> Running {
     let (status, closed) = running.finish();
     let number = running.variant;
     let [before, after] = [running, closed].map(|r| word(&r));
@@ -55,7 +55,7 @@ fn add_finish(lines: &mut String, running: Running) -> Running {
 }
 
 /// A read into an output of so many bytes a0.
-fn add_read(lines: &mut String, running: Running, image: bool, bytes: usize) {
+pub fn add_read(lines: &mut String, running: Running, image: bool, bytes: usize) {
     let mut out = vec![0xa0; bytes];
     let status = running.read(image, &mut out);
     let number = running.variant;
@@ -75,15 +75,20 @@ fn add_stages(lines: &mut String) {
     add_finish(lines, closed);
 }
 
+/// One that lacks a byte of the longest message.
+pub fn near() -> Running {
+    let mut near = start(1).1;
+    near.total = BIT_LIMIT as u32 - 8;
+    near.state[..13].fill(0xa0);
+    near.held = [0xa5, 0xa0, 0, 0, 0];
+    near
+}
+
 /// At the limit: one byte passes, no byte more does, and the longest message
 /// is closed and read, also into outputs a byte too short.
 fn add_limit(lines: &mut String) {
-    let mut near = start(1).1;
-    near.total = MESSAGE_LIMIT as u32 - 1;
-    near.state[..13].fill(0xa0);
-    near.held = [0xa5, 0xa0, 0, 0, 0];
-    add_update(lines, near, b"\xff\xff");
-    let full = add_update(lines, near, b"\xff");
+    add_update(lines, near(), b"\xff\xff");
+    let full = add_update(lines, near(), b"\xff");
     add_update(lines, full, b"\xff");
     let closed = add_finish(lines, full);
     for (image, bytes) in [(false, 10), (true, 13), (false, 9), (true, 12)] {
