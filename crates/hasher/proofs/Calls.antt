@@ -6,8 +6,8 @@ use mathlib.Core.List.{List, _++_}
 use mathlib.Core.Logic.{⊎-elim}
 use Prim.Native.Nat.{ℕ, _+_, _-_, _*_, _≤_, _<_, _/_, _%_}
 use lib.Dec.{ltb}
-use lib.ListN.{length, take, drop, length-append}
-use borrow.Author.Tests.{ltb-false, not-true, lt-ltb, le-ltb, le-leb, eqb-true}
+use lib.ListN.{length, take, drop}
+use borrow.Author.Tests.{ltb-false, not-true, lt-ltb, le-ltb, eqb-true}
 use native.Mathlib.Omega.{arith}
 use Rattle.standard.specs.Chain.{byteBits, messageBits, run, endState}
 use Rattle.standard.specs.Variants.{known, variant}
@@ -18,7 +18,7 @@ use Rattle.answers.specs.declared.Status.the-variants.{Done, Refused}
 use Rattle.answers.specs.Checks.{Check, firstRefusal, Pass}
 use Rattle.answers.specs.Outputs.{most, mostBits, whenDone, written}
 use Rattle.answers.proofs.Statuses.{not-done}
-use Rattle.answers.proofs.Rows.{passing-says, row-first, row-second}
+use Rattle.answers.proofs.Rows.{passing-says, row-first, row-second, row-both}
 use Rattle.standard.specs.Bits.{high-first, pack}
 use Rattle.standard.specs.Sponge.{Variant, order, squeezed, imageSize, imageOf}
 use Rattle.standard.proofs.BitLaws.{length-pack, take-pack}
@@ -28,15 +28,19 @@ use Rattle.standard.proofs.Variants.{Bounds, bounds}
 use Rattle.sponge.specs.Layout.{stateRoom, packedState}
 use Rattle.sponge.specs.Words.{outcome}
 use Rattle.sponge.specs.Blocks.{firstBlocks}
-use Rattle.sponge.specs.Parts.{isBitNumber}
+use Rattle.sponge.specs.Parts.{isBitNumber, messageChecks, messageBitsChecks}
 use Rattle.sponge.proofs.BlockRuns.{run-start}
-use Rattle.sponge.proofs.PartBytes.{BitNumber, bit-number, number-fits, limit-same}
+use Rattle.sponge.proofs.PartBytes.{BitNumber, bit-number, number-fits, BitsAsked, message-passed, bits-passed}
 use Rattle.hasher.specs.declared.Hasher.{Hasher}
 use Rattle.hasher.specs.declared.Advanced.{Advanced}
 use Rattle.hasher.specs.Running.{closed, Open, blank, fresh, grown, ended, wholeSoFar, finishChecks, followChecks, updateChecks, updateBitsChecks, startedOver, started, updated, updatedBits, finished, variantOf, wellFormed}
 use Rattle.hasher.specs.declared.Wanted.{Wanted}
 use Rattle.hasher.specs.declared.Wanted.the-variants.{Digest, EndState}
-use Rattle.hasher.specs.Reading.{resultOf, resultSize, isDigest, readChecks, readStatus, wholeChecks, wholeBitsChecks}
+use Rattle.hasher.specs.Reading.{resultOf, resultSize, isDigest, roomChecks, readChecks, readStatus, wholeChecks, wholeBitsChecks}
+
+-- what a row in front refuses, the whole row refuses
+pub refused-first : (row rest : List Check) (s : Status) (r : Refusal) → s ≡ firstRefusal row → s ≡ Refused r → s ≡ firstRefusal (row ++ rest)
+refused-first row rest s r e d = e ∙ sym (row-first row rest (λ f. not-done r (sym d ∙ e ∙ f)))
 
 abbrev pub done : Hasher → Advanced
 done h = record { status = Done; hasher = h }
@@ -75,10 +79,6 @@ module _ (h : Hasher) where
   follow-says : (n : ℕ) → Open h → Pass (followChecks h n) → Followed n
   follow-says n o p =
       record { opened = o; whole = p .0; few = ltb-false mostBits (h .total + n) (not-true (ltb mostBits (h .total + n)) (p .1 .0)) }
-
-  -- the checks of a piece are those of the end, and others behind them
-  pub not-open : (rest : List Check) (s : Status) (r : Refusal) → s ≡ firstRefusal (finishChecks h) → s ≡ Refused r → s ≡ firstRefusal (finishChecks h ++ rest)
-  not-open rest s r e d = e ∙ sym (row-first (finishChecks h) rest (λ f. not-done r (sym d ∙ e ∙ f)))
 
   module _ (n : ℕ) where
     pub update-says : firstRefusal (updateChecks h n) ≡ Done → Followed n
@@ -245,6 +245,10 @@ module _ (h : Hasher) (wanted : Wanted) (n : ℕ) where
 
 -- ---- a whole message
 
+-- the result has room
+room-says : (H : Variant) (wanted : Wanted) (size : ℕ) → firstRefusal (roomChecks H wanted size) ≡ Done → resultSize H wanted ≤ size
+room-says H wanted size e = ltb-false size _ (not-true _ (passing-says (roomChecks H wanted size) e .0))
+
 module _ (v n : ℕ) (wanted : Wanted) (size : ℕ) where
   -- a message of n bytes may be hashed into so many bytes
   pub record Hashable : Type 0 where
@@ -254,8 +258,9 @@ module _ (v n : ℕ) (wanted : Wanted) (size : ℕ) where
 
   pub whole-says : firstRefusal (wholeChecks v n wanted size) ≡ Done → Hashable
   whole-says e =
-      let p = passing-says (wholeChecks v n wanted size) e in
-      record { named = p .0; few = ltb-false most n (not-true (ltb most n) (p .1 .0)); room = ltb-false size _ (not-true _ (p .1 .1 .0)) }
+      let p = row-both (messageChecks v n) (roomChecks (variant v) wanted size) e in
+      let m = message-passed v n (p .0) in
+      record { named = m .0; few = m .1; room = room-says (variant v) wanted size (p .1) }
 
 -- a bit number that fits some bytes fits any that are not none
 pub numbered-too : (m last : List ℕ) (k : ℕ) → isBitNumber k (length m) ≡ true → 0 < length last → isBitNumber k (length last) ≡ true
@@ -264,27 +269,12 @@ numbered-too m last k e some =
     number-fits k (length last) (b .least) (b .most) some
 
 module _ (v : ℕ) (m : List ℕ) (k : ℕ) (wanted : Wanted) (size : ℕ) where
-  -- a message with a bit number passes as one of whole bytes does
-  pub same-whole : known v ≡ true → isBitNumber k (length m) ≡ true
-      → firstRefusal (wholeChecks v (length m) wanted size) ≡ firstRefusal (wholeBitsChecks v m k wanted size)
-  same-whole n e = rw (n, e, limit-same (variant v) m k e)
-
-  -- it may be hashed
+  -- one with a bit number may be
   pub record HashableBits : Type 0 where
-    pub named : known v ≡ true
-    pub numbered : isBitNumber k (length m) ≡ true
-    pub few : length (messageBits (variant v) m k) ≤ mostBits
-    pub few-bytes : length m ≤ most
+    pub asked : BitsAsked v m k
     pub room : resultSize (variant v) wanted ≤ size
 
   pub whole-bits-say : firstRefusal (wholeBitsChecks v m k wanted size) ≡ Done → HashableBits
   whole-bits-say e =
-      let p = passing-says (wholeBitsChecks v m k wanted size) e in
-      let limit : ltb mostBits (length (messageBits (variant v) m k)) ≡ false = not-true _ (p .1 .1 .0) in
-      record {
-        named = p .0;
-        numbered = p .1 .0;
-        few = ltb-false mostBits _ limit;
-        few-bytes = ltb-false most (length m) (sym (limit-same (variant v) m k (p .1 .0)) ∙ limit);
-        room = ltb-false size _ (not-true _ (p .1 .1 .1 .0));
-      }
+      let p = row-both (messageBitsChecks v m k) (roomChecks (variant v) wanted size) e in
+      record { asked = bits-passed v m k (p .0); room = room-says (variant v) wanted size (p .1) }

@@ -1,18 +1,18 @@
 -- What is read from a finished running hash into the caller's bytes, and the whole message in one call.
 -- Assumes nothing.
 use mathlib.Core.Bool.{Bool, true, false}
-use mathlib.Core.List.{List, [], _∷_}
+use mathlib.Core.List.{List, [], _∷_, _++_}
 use Prim.Native.Nat.{ℕ, _/_}
 use lib.Dec.{ltb}
 use lib.ListN.{length}
 use Rattle.standard.specs.Sponge.{Variant, digestFrom, imageSize, imageOf}
 use Rattle.standard.specs.Chain.{byteBits, messageBits, endState}
-use Rattle.standard.specs.Variants.{variant, known}
-use Rattle.answers.specs.declared.Refusal.the-variants.{UnknownVariant, Malformed, WrongStage, TooLong, OutputTooShort, BadBitNumber}
+use Rattle.standard.specs.Variants.{variant}
+use Rattle.answers.specs.declared.Refusal.the-variants.{Malformed, WrongStage, OutputTooShort}
 use Rattle.answers.specs.declared.Status.{Status}
 use Rattle.answers.specs.Checks.{Check, unless, when, firstRefusal}
-use Rattle.answers.specs.Outputs.{written, most, mostBits}
-use Rattle.sponge.specs.Parts.{isBitNumber}
+use Rattle.answers.specs.Outputs.{written}
+use Rattle.sponge.specs.Parts.{messageChecks, messageBitsChecks}
 use Rattle.hasher.specs.declared.Hasher.{Hasher}
 use Rattle.hasher.specs.declared.Wanted.{Wanted}
 use Rattle.hasher.specs.declared.Wanted.the-variants.{Digest, EndState}
@@ -33,13 +33,16 @@ abbrev pub isDigest : Wanted → Bool
 isDigest Digest = true
 isDigest EndState = false
 
+-- the result has room in so many bytes: 5
+abbrev pub roomChecks : Variant → Wanted → ℕ → List Check
+roomChecks H wanted room = when (ltb room (resultSize H wanted)) OutputTooShort ∷ []
+
 -- Read digest or end state, into n bytes: 2, 3, 5
 abbrev pub readChecks : Hasher → Wanted → ℕ → List Check
 readChecks h wanted n =
     unless (wellFormed h) Malformed
     ∷ unless (closed h) WrongStage
-    ∷ when (ltb n (resultSize (variantOf h) wanted)) OutputTooShort
-    ∷ []
+    ∷ roomChecks (variantOf h) wanted n
 
 -- the answer of a read
 unfoldable pub readStatus : Hasher → Wanted → ℕ → Status
@@ -51,11 +54,7 @@ readInto h wanted out = written (readStatus h wanted (length out)) (resultOf (va
 
 -- Whole message of n bytes, into so many bytes: 1, 4, 5
 abbrev pub wholeChecks : ℕ → ℕ → Wanted → ℕ → List Check
-wholeChecks v n wanted room =
-    unless (known v) UnknownVariant
-    ∷ when (ltb most n) TooLong
-    ∷ when (ltb room (resultSize (variant v) wanted)) OutputTooShort
-    ∷ []
+wholeChecks v n wanted room = messageChecks v n ++ roomChecks (variant v) wanted room
 
 -- the answer for a whole message, and the caller's output after it
 unfoldable pub wholeStatus : ℕ → List ℕ → Wanted → ℕ → Status
@@ -67,12 +66,7 @@ wholeInto v m wanted out =
 
 -- Whole message of whose last byte k bits count, into so many bytes: 1, 15, 4, 5
 abbrev pub wholeBitsChecks : ℕ → List ℕ → ℕ → Wanted → ℕ → List Check
-wholeBitsChecks v m k wanted room =
-    unless (known v) UnknownVariant
-    ∷ unless (isBitNumber k (length m)) BadBitNumber
-    ∷ when (ltb mostBits (length (messageBits (variant v) m k))) TooLong
-    ∷ when (ltb room (resultSize (variant v) wanted)) OutputTooShort
-    ∷ []
+wholeBitsChecks v m k wanted room = messageBitsChecks v m k ++ roomChecks (variant v) wanted room
 
 -- the answer for it, and the caller's output after it
 unfoldable pub wholeBitsStatus : ℕ → List ℕ → ℕ → Wanted → ℕ → Status

@@ -14,7 +14,7 @@ ghost use Rattle.answers.specs.Outputs.{written, most, mostBits};
 ghost use Rattle.sponge.specs.Layout.{blockRoom, Holds, clear};
 ghost use Rattle.sponge.specs.Parts.{isBitNumber, messageIn, HoldsMessage};
 ghost use Rattle.hasher.specs.Running.{variantOf, heldCount, wholeSoFar, wellFormed, Open, fresh, grown, ended, finishChecks, followChecks, updateChecks, updateBitsChecks, startedOver, started, updated, updatedBits, finished};
-ghost use Rattle.hasher.specs.Reading.{resultOf, resultSize, isDigest, readStatus, readInto, wholeChecks, wholeStatus, wholeInto, wholeBitsChecks, wholeBitsStatus, wholeBitsInto};
+ghost use Rattle.hasher.specs.Reading.{resultOf, resultSize, isDigest, roomChecks, readStatus, readInto, wholeChecks, wholeStatus, wholeInto, wholeBitsChecks, wholeBitsStatus, wholeBitsInto};
 ghost use Rattle.hasher.specs.declared.Wanted.the-variants.{Digest, EndState};
 use answers::MOST;
 use answers::MOST_BITS;
@@ -139,6 +139,16 @@ pub fn check_update_bits(h: Hasher, piece: &[u8], bits: u32) -> Status
     status
 }
 
+// Whether a result has room in so many bytes: refusal 5.
+fn check_room(v: u8, wanted: Wanted, room: usize) -> Status
+    ensures { λ r. ⌜ r ≡ firstRefusal (roomChecks (variant v) wanted room) ⌝ }
+{
+    if room < result_size(v, wanted) {
+        return Status::Refused(Refusal::OutputTooShort);
+    }
+    Status::Done
+}
+
 // Whether a result may be read into n bytes: refusals 2, 3, 5.
 pub fn check_read(h: Hasher, wanted: Wanted, n: usize) -> Status
     ensures { λ r. ⌜ r ≡ readStatus h wanted n ⌝ }
@@ -149,10 +159,7 @@ pub fn check_read(h: Hasher, wanted: Wanted, n: usize) -> Status
     if h.stage != 1 {
         return Status::Refused(Refusal::WrongStage);
     }
-    if n < result_size(h.variant, wanted) {
-        return Status::Refused(Refusal::OutputTooShort);
-    }
-    Status::Done
+    check_room(h.variant, wanted, n)
 }
 
 // ---- start
@@ -385,16 +392,11 @@ pub fn end_state(h: Hasher, out: &mut [u8]) -> Status
 pub fn check_whole(variant: u32, n: usize, wanted: Wanted, room: usize) -> Status
     ensures { λ r. ⌜ r ≡ firstRefusal (wholeChecks variant n wanted room) ⌝ }
 {
-    if !sponge::sizes::is_known(variant) {
-        return Status::Refused(Refusal::UnknownVariant);
+    let status = sponge::parts::check_message(variant, n);
+    if let Status::Done = status {
+        return check_room(variant as u8, wanted, room);
     }
-    if MOST < n {
-        return Status::Refused(Refusal::TooLong);
-    }
-    if room < result_size(variant as u8, wanted) {
-        return Status::Refused(Refusal::OutputTooShort);
-    }
-    Status::Done
+    status
 }
 
 // Whether a message of whose last byte so many bits count may be hashed into `room` bytes: refusals 1, 15, 4, 5.
@@ -407,14 +409,11 @@ pub fn check_whole_bits(
 ) -> Status
     ensures { λ r. ⌜ r ≡ firstRefusal (wholeBitsChecks variant (now (message .entry)) bits wanted room) ⌝ }
 {
-    if !sponge::sizes::is_known(variant) {
-        return Status::Refused(Refusal::UnknownVariant);
+    let status = sponge::parts::check_message_bits(variant, message, bits);
+    if let Status::Done = status {
+        return check_room(variant as u8, wanted, room);
     }
-    if !sponge::parts::is_bit_number(bits, message.len()) {
-        return Status::Refused(Refusal::BadBitNumber);
-    }
-    // Bits pass their limit just where bytes pass theirs.
-    check_whole(variant, message.len(), wanted, room)
+    status
 }
 
 // Whether the digest is wanted.

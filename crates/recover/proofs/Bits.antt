@@ -4,19 +4,18 @@ use mathlib.Core.Path.{_≡_}
 use mathlib.Core.Bool.{true}
 use mathlib.Core.List.{List, [], _∷_, _++_}
 use Prim.Native.Nat.{ℕ, _<_}
-use native.Mathlib.Omega.{arith}
 use lib.ListN.{length}
 use Rattle.standard.specs.Chain.{countedOf}
 use Rattle.standard.specs.Variants.{variant}
 use Rattle.standard.proofs.PartBytes.{bits-eight, uncounted, same-bytes}
 use Rattle.sponge.specs.Parts.{isBitNumber}
 use Rattle.recover.specs.Recovering.{recoverStatus, recoverInto, recoverBitsStatus, recoverBitsInto}
-use Rattle.sponge.proofs.PartBytes.{number-fits, limit-same}
+use Rattle.sponge.proofs.PartBytes.{eight-fits, limit-same}
 
 -- All eight bits of the last byte count: the message is its whole bytes.
 module _ (v : ℕ) (m : List ℕ) (some : 0 < length m) (place : ℕ) (image : List ℕ) where
   number : isBitNumber 8 (length m) ≡ true
-  number = number-fits 8 (length m) (omega arith) (omega arith) some
+  number = eight-fits (length m) some
 
   pub recover-eight : (n : ℕ) → recoverBitsStatus v m 8 place image n ≡ recoverStatus v m place image n
   unfolding recoverBitsStatus recoverStatus

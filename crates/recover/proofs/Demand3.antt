@@ -18,7 +18,8 @@ use Rattle.standard.specs.Sponge.{Variant, stateIn}
 use Rattle.standard.specs.Chain.{byteBits, messageBits}
 use Rattle.standard.specs.Variants.{variant, known}
 use Rattle.recover.specs.Leading.{NoneLeads, OnlyLeads}
-use Rattle.recover.specs.Recovering.{blockSize, recoveredBlock, messageChecks, askedChecks, recoverStatus, messageBitsChecks, askedBitsChecks, recoverBitsStatus}
+use Rattle.sponge.specs.Parts.{messageChecks, messageBitsChecks}
+use Rattle.recover.specs.Recovering.{blockSize, recoveredBlock, askedChecks, recoverStatus, askedBitsChecks, recoverBitsStatus}
 use Rattle.recover.proofs.LostBlock.{answer-or-done, answer-eight, answer-given}
 
 -- ---- a message all of whose bits count

@@ -15,9 +15,9 @@ use borrow.Author.Tests.{le-ltb}
 use Rattle.standard.specs.Sponge.{Variant, imageOf}
 use Rattle.standard.specs.Chain.{byteBits, messageBits, blocksOf, endState}
 use Rattle.standard.specs.Variants.{variant, known}
-use Rattle.sponge.specs.Parts.{isBitNumber}
+use Rattle.sponge.specs.Parts.{isBitNumber, messageChecks, messageBitsChecks}
 use Rattle.recover.specs.Leading.{endStateWith, NoneLeads, OnlyLeads}
-use Rattle.recover.specs.Recovering.{blockSize, messageChecks, askedChecks, recoverStatus, recoverInto, messageBitsChecks, askedBitsChecks, recoverBitsStatus, recoverBitsInto}
+use Rattle.recover.specs.Recovering.{blockSize, askedChecks, recoverStatus, recoverInto, askedBitsChecks, recoverBitsStatus, recoverBitsInto}
 use Rattle.recover.proofs.LostBlock.{Found, Ready, any-asked, any-or-done, any-eight, any-kept, any-given, any-found, any-own}
 
 -- ---- a message all of whose bits count

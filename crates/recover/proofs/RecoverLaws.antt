@@ -6,7 +6,6 @@ use mathlib.Core.List.{List, [], _∷_, _++_, headD}
 use Prim.Native.Nat.{ℕ, zero, suc, _+_, _-_, _*_, _≤_, _<_}
 use native.Mathlib.Nat.{not-suc-le-zero, le-of-suc-le-suc}
 use native.Mathlib.Omega.{arith}
-use lib.Dec.{ltb}
 use lib.ListN.{length, take, drop, getD, replicate, length-drop}
 use lib.Seq.{length-take-le, take-add, drop-append-le}
 use borrow.Author.Tests.{ltb-true, ltb-false, not-true}
@@ -14,54 +13,28 @@ use Rattle.answers.specs.declared.Refusal.the-variants.{NoBlock}
 use Rattle.answers.specs.declared.Status.{Status}
 use Rattle.answers.specs.declared.Status.the-variants.{Done, Refused}
 use Rattle.answers.specs.Checks.{Check, firstRefusal}
-use Rattle.answers.specs.Outputs.{written, most, mostBits}
+use Rattle.answers.specs.Outputs.{written}
 use Rattle.answers.proofs.Statuses.{kept}
 use Rattle.answers.proofs.Rows.{passing-says, row-first, row-second}
 use Rattle.answers.proofs.ByteLaws.{take-bytes}
 use Rattle.standard.specs.Bits.{high-first, bitsIn, pack, unpack}
 use Rattle.standard.specs.Sponge.{Variant, order, stateIn}
-use Rattle.standard.specs.Chain.{messageBits, blocksOf}
+use Rattle.standard.specs.Chain.{blocksOf}
 use Rattle.standard.specs.Variants.{variant, known}
 use Rattle.standard.proofs.BitLaws.{length-bitsIn, length-pack, bitsIn-take, image-eq, pack-bytes}
 use Rattle.standard.proofs.Tests.{true-not-false}
 use Rattle.standard.proofs.Variants.{Bounds, bounds, streams, sponge}
 use Rattle.sponge.specs.Layout.{packedState, clear, Holds}
 use Rattle.sponge.specs.Images.{isImage}
-use Rattle.sponge.specs.Parts.{isBitNumber}
 use Rattle.sponge.proofs.ImageLaws.{image-ready, image-state, image-read}
 use Rattle.sponge.proofs.Clear.{clear-append, clear-zeros, zeros-clear, clear-order}
 use Rattle.sponge.proofs.LayoutLaws.{packed-bits}
 use Rattle.sponge.proofs.SqueezeLaws.{output-bits}
 use Rattle.recover.specs.Difference.{difference}
-use Rattle.recover.specs.Recovering.{isEmpty, blockSize, placedChecks, leadingTo, foundChecks, recoveredBlock, messageChecks, messageBitsChecks}
-use Rattle.sponge.proofs.PartBytes.{limit-same}
+use Rattle.recover.specs.Recovering.{isEmpty, blockSize, placedChecks, leadingTo, foundChecks, recoveredBlock}
 use Rattle.recover.proofs.LeadingLaws.{InBlock, blockFrom, difference-length, leading-none, leading-one}
 
 -- ---- what passing the checks says
-
--- of a message all of whose bits count
-pub message-passed : (v n : ℕ) → firstRefusal (messageChecks v n) ≡ Done → (known v ≡ true) × (n ≤ most)
-message-passed v n e =
-    let p = passing-says (messageChecks v n) e in
-    (p .0, ltb-false _ _ (not-true _ (p .1 .0)))
-
--- of one of whose last byte k bits count
-pub record BitsAsked (v : ℕ) (m : List ℕ) (k : ℕ) : Type 0 where
-  pub number : known v ≡ true
-  pub bit-number : isBitNumber k (length m) ≡ true
-  pub short : length m ≤ most
-  pub few : length (messageBits (variant v) m k) ≤ mostBits
-
-pub bits-passed : (v : ℕ) (m : List ℕ) (k : ℕ) → firstRefusal (messageBitsChecks v m k) ≡ Done → BitsAsked v m k
-bits-passed v m k e =
-    let p = passing-says (messageBitsChecks v m k) e in
-    let over : ltb mostBits (length (messageBits (variant v) m k)) ≡ false = not-true _ (p .1 .1 .0) in
-    record {
-      number = p .0;
-      bit-number = p .1 .0;
-      short = ltb-false _ _ (sym (limit-same (variant v) m k (p .1 .0)) ∙ over);
-      few = ltb-false _ _ over;
-    }
 
 -- of a place of a message, an image and an output, of a known variant
 pub record Placed (v : ℕ) (m : List Bool) (place : ℕ) (image : List ℕ) (n : ℕ) : Type 0 where

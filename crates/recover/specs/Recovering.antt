@@ -8,13 +8,13 @@ use lib.ListN.{length}
 use Rattle.standard.specs.Bits.{high-first, pack, bytesFor}
 use Rattle.standard.specs.Sponge.{Variant, stateIn}
 use Rattle.standard.specs.Chain.{byteBits, messageBits, blocksOf}
-use Rattle.standard.specs.Variants.{variant, known}
-use Rattle.answers.specs.declared.Refusal.the-variants.{UnknownVariant, TooLong, OutputTooShort, BadImage, OutOfRange, NoBlock, BadBitNumber}
+use Rattle.standard.specs.Variants.{variant}
+use Rattle.answers.specs.declared.Refusal.the-variants.{OutputTooShort, BadImage, OutOfRange, NoBlock}
 use Rattle.answers.specs.declared.Status.{Status}
 use Rattle.answers.specs.Checks.{Check, unless, when, firstRefusal}
-use Rattle.answers.specs.Outputs.{written, most, mostBits}
+use Rattle.answers.specs.Outputs.{written}
 use Rattle.sponge.specs.Images.{isImage}
-use Rattle.sponge.specs.Parts.{isBitNumber}
+use Rattle.sponge.specs.Parts.{messageChecks, messageBitsChecks}
 use Rattle.recover.specs.Leading.{leading}
 
 -- whether a row has no block
@@ -50,10 +50,6 @@ recoveredBlock v m place image = pack high-first (blockSize (variant v)) (headD 
 
 -- ---- of a message all of whose bits count
 
--- the variant and a message of n bytes: 1; 4
-abbrev pub messageChecks : ℕ → ℕ → List Check
-messageChecks v n = unless (known v) UnknownVariant ∷ when (ltb most n) TooLong ∷ []
-
 -- Lost block, before the search: 1; 4; 7; 6; 5
 abbrev pub askedChecks : ℕ → List ℕ → ℕ → List ℕ → ℕ → List Check
 askedChecks v m place image n = messageChecks v (length m) ++ placedChecks (variant v) (byteBits m) place image n
@@ -71,14 +67,6 @@ unfoldable pub recoverInto : ℕ → List ℕ → ℕ → List ℕ → List ℕ 
 recoverInto v m place image out = written (recoverStatus v m place image (length out)) (recoveredBlock v (byteBits m) place image) out
 
 -- ---- of a message of whose last byte k bits count (document 02, Q-6)
-
--- the variant, the bit number and the message: 1; 15; 4
-abbrev pub messageBitsChecks : ℕ → List ℕ → ℕ → List Check
-messageBitsChecks v m k =
-    unless (known v) UnknownVariant
-    ∷ unless (isBitNumber k (length m)) BadBitNumber
-    ∷ when (ltb mostBits (length (messageBits (variant v) m k))) TooLong
-    ∷ []
 
 -- Lost block, before the search: 1; 15; 4; 7; 6; 5
 abbrev pub askedBitsChecks : ℕ → List ℕ → ℕ → ℕ → List ℕ → ℕ → List Check

@@ -14,7 +14,7 @@ ghost use Rattle.answers.specs.Outputs.{written, mostBits};
 ghost use Rattle.sponge.specs.Layout.{packedState, Holds};
 ghost use Rattle.sponge.specs.Parts.{messageIn, HoldsMessage};
 ghost use Rattle.recover.specs.Difference.{stateBehind, difference};
-ghost use Rattle.recover.specs.Recovering.{blockSize, placedChecks, foundChecks, recoveredBlock, messageChecks, recoverStatus, recoverInto, messageBitsChecks, recoverBitsStatus, recoverBitsInto};
+ghost use Rattle.recover.specs.Recovering.{blockSize, placedChecks, foundChecks, recoveredBlock, recoverStatus, recoverInto, recoverBitsStatus, recoverBitsInto};
 use answers::Refusal;
 use answers::Status;
 use sponge::Direction;
@@ -156,25 +156,12 @@ fn recover_at(
     put_block(v, front, last, bits, place, image, out)
 }
 
-// Whether a message of n bytes may be asked about: refusals 1, 4.
-fn check_message(variant: u32, n: usize) -> Status
-    ensures { λ r. ⌜ r ≡ firstRefusal (messageChecks variant n) ⌝ }
-{
-    if !sizes::is_known(variant) {
-        return Status::Refused(Refusal::UnknownVariant);
-    }
-    if answers::MOST < n {
-        return Status::Refused(Refusal::TooLong);
-    }
-    Status::Done
-}
-
 // Refusals 1, 4, 7, 6, 5, 8. The message's own block at the place is ignored.
 pub fn recover(variant: u32, message: &[u8], place: usize, image: &[u8], out: &mut [u8]) -> Status
     ensures { λ r. ⌜ (r ≡ recoverStatus variant (now (message .entry)) place (now (image .entry)) (length (now (out .entry))))
         × (now (out .exit) ≡ recoverInto variant (now (message .entry)) place (now (image .entry)) (now (out .entry))) ⌝ }
 {
-    let s = check_message(variant, message.len());
+    let s = parts::check_message(variant, message.len());
     let Status::Done = s else {
         return s;
     };
@@ -190,20 +177,6 @@ pub fn recover(variant: u32, message: &[u8], place: usize, image: &[u8], out: &m
     )
 }
 
-// Whether a message of whose last byte so many bits count may be asked about: refusals 1, 15, 4.
-fn check_message_bits(variant: u32, message: &[u8], bits: u32) -> Status
-    ensures { λ r. ⌜ r ≡ firstRefusal (messageBitsChecks variant (now (message .entry)) bits) ⌝ }
-{
-    if !sizes::is_known(variant) {
-        return Status::Refused(Refusal::UnknownVariant);
-    }
-    if !parts::is_bit_number(bits, message.len()) {
-        return Status::Refused(Refusal::BadBitNumber);
-    }
-    // Bits pass their limit just where bytes pass theirs.
-    check_message(variant, message.len())
-}
-
 // The same with a message of whose last byte so many bits count: refusals 1, 15, 4, 7, 6, 5, 8.
 pub fn recover_bits(
     variant: u32,
@@ -216,7 +189,7 @@ pub fn recover_bits(
     ensures { λ r. ⌜ (r ≡ recoverBitsStatus variant (now (message .entry)) bits place (now (image .entry)) (length (now (out .entry))))
         × (now (out .exit) ≡ recoverBitsInto variant (now (message .entry)) bits place (now (image .entry)) (now (out .entry))) ⌝ }
 {
-    let s = check_message_bits(variant, message, bits);
+    let s = parts::check_message_bits(variant, message, bits);
     let Status::Done = s else {
         return s;
     };

@@ -11,18 +11,21 @@ use lib.Dec.{ltb, leb}
 use lib.ListN.{length, take, replicate, length-append, length-take}
 use lib.Seq.{take-length, take-at}
 use lib.Pow.{pow-pos, shl-lt, shl-exact}
-use borrow.Author.Tests.{ltb-true, ltb-false, lt-ltb, le-ltb, leb-true, le-leb}
+use borrow.Author.Tests.{ltb-true, ltb-false, not-true, lt-ltb, le-ltb, leb-true, le-leb}
+use Rattle.answers.specs.declared.Status.the-variants.{Done}
+use Rattle.answers.specs.Checks.{firstRefusal}
 use Rattle.answers.specs.Outputs.{most, mostBits}
+use Rattle.answers.proofs.Rows.{passing-says}
 use Rattle.standard.specs.Bits.{high-first, lowBits, ordered, bitsOf, bitsIn, unpack}
 use Rattle.standard.specs.Sponge.{Variant}
 use Rattle.standard.specs.Chain.{byteBits, countedOf, messageBits}
 use Rattle.standard.specs.PartBytes.{beforeLast, lastOf}
-use Rattle.standard.specs.Variants.{variant}
+use Rattle.standard.specs.Variants.{variant, known}
 use Rattle.standard.proofs.Tests.{and-true, either, one-to-five, six-to-ten}
 use Rattle.standard.proofs.BitLaws.{length-bitsOf, length-bitsIn, bitsIn-append}
 use Rattle.standard.proofs.HighBits.{top-bits, top-one}
 use Rattle.standard.proofs.PartBytes.{bits-are, bits-eight, bits-length}
-use Rattle.sponge.specs.Parts.{isBitNumber, Marked, messageIn, HoldsMessage}
+use Rattle.sponge.specs.Parts.{isBitNumber, messageChecks, messageBitsChecks, Marked, messageIn, HoldsMessage}
 
 -- ---- bit numbers
 
@@ -39,6 +42,10 @@ bit-number k n e =
 
 pub number-fits : (k n : ℕ) → 1 ≤ k → k ≤ 8 → 0 < n → isBitNumber k n ≡ true
 number-fits k n least most some = rw (lt-ltb 0 n some, lt-ltb 0 k least, le-leb k 8 most)
+
+-- 8 fits whatever has a byte
+pub eight-fits : (n : ℕ) → 0 < n → isBitNumber 8 n ≡ true
+eight-fits n some = number-fits 8 n (omega arith) (omega arith) some
 
 -- ---- which bits count, by number
 
@@ -181,3 +188,29 @@ module _ (H : Variant) (m : List ℕ) (k : ℕ) (e : isBitNumber k (length m) �
 
   pub within-limit : length m ≤ most → length (messageBits H m k) ≤ mostBits
   within-limit l = omega (arith, many, number)
+
+-- ---- what passing the checks says
+
+-- of a message all of whose bits count
+pub message-passed : (v n : ℕ) → firstRefusal (messageChecks v n) ≡ Done → (known v ≡ true) × (n ≤ most)
+message-passed v n e =
+    let p = passing-says (messageChecks v n) e in
+    (p .0, ltb-false _ _ (not-true _ (p .1 .0)))
+
+-- of one of whose last byte k bits count
+pub record BitsAsked (v : ℕ) (m : List ℕ) (k : ℕ) : Type 0 where
+  pub number : known v ≡ true
+  pub bit-number : isBitNumber k (length m) ≡ true
+  pub short : length m ≤ most
+  pub few : length (messageBits (variant v) m k) ≤ mostBits
+
+pub bits-passed : (v : ℕ) (m : List ℕ) (k : ℕ) → firstRefusal (messageBitsChecks v m k) ≡ Done → BitsAsked v m k
+bits-passed v m k e =
+    let p = passing-says (messageBitsChecks v m k) e in
+    let over : ltb mostBits (length (messageBits (variant v) m k)) ≡ false = not-true _ (p .1 .1 .0) in
+    record {
+      number = p .0;
+      bit-number = p .1 .0;
+      short = ltb-false _ _ (sym (limit-same (variant v) m k (p .1 .0)) ∙ over);
+      few = ltb-false _ _ over;
+    }

@@ -10,12 +10,12 @@ use native.Mathlib.Numerals.{add-one}
 use native.Mathlib.Omega.{arith}
 use lib.ListN.{length, take, drop, length-append, length-drop, length-take, length-replicate, replicate}
 use lib.Seq.{length-take-le, take-add, take-all, take-take, take-append-le}
-use Rattle.standard.specs.Bits.{Order, high-first, bitsOf, bitsIn, pack, unpack, filled, bytesFor, reordered}
+use Rattle.standard.specs.Bits.{Order, high-first, bitsOf, bitsIn, pack, unpack, bytesFor, reordered}
 use Rattle.standard.specs.Rounds.{forward, iterate}
 use Rattle.standard.specs.Sponge.{Variant, order, permutation, spongeStep, outputs, outputCount, outputBlocks, squeezed}
 use Rattle.standard.specs.Chain.{step}
 use Rattle.standard.specs.Variants.{variant, known}
-use Rattle.standard.proofs.BitLaws.{length-bitsIn, length-unpack, length-pack, bitsOf-valueOf, bitsIn-take, bitsIn-pack, bitsIn-zeros, take-pack, pack-bitsIn, pack-bytes, pack-none, xorInto-zeros}
+use Rattle.standard.proofs.BitLaws.{length-bitsIn, length-unpack, length-pack, bitsOf-valueOf, bitsIn-take, bitsIn-zeros, take-pack, pack-none, xorInto-zeros}
 use Rattle.standard.proofs.Sponge.{step-sponge}
 use Rattle.standard.proofs.Variants.{Bounds, bounds, WholeBytes, layouts, permutation-length}
 use Rattle.standard.proofs.Reordered.{reordered-same}

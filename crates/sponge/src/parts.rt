@@ -1,4 +1,4 @@
-// A message that may end inside a byte: which bits of its last byte count, and the byte that they and the padding's 1 bit make.
+// A message that may end inside a byte: whether it may be taken, which bits of its last byte count, and the byte that they and the padding's 1 bit make.
 ghost use mathlib.Core.Path.{_≡_};
 ghost use mathlib.Core.Bool.{true, false};
 ghost use mathlib.Core.List.{[], _∷_, _++_};
@@ -7,8 +7,13 @@ ghost use lib.ListN.{length, take, replicate};
 ghost use Rattle.standard.specs.Bits.{high-first, bitsOf};
 ghost use Rattle.standard.specs.Chain.{countedOf, messageBits};
 ghost use Rattle.standard.specs.Variants.{variant, known};
+ghost use Rattle.answers.specs.Checks.{firstRefusal};
 ghost use Rattle.answers.specs.Outputs.{most};
-ghost use Rattle.sponge.specs.Parts.{isBitNumber, Marked};
+ghost use Rattle.sponge.specs.Parts.{isBitNumber, messageChecks, messageBitsChecks, Marked};
+use crate::sizes;
+use answers::MOST;
+use answers::Refusal;
+use answers::Status;
 
 // The byte behind whole bytes: the padding's 1 bit, and zeros.
 pub const ONE_ALONE: u8 = 0x80;
@@ -24,6 +29,33 @@ pub fn is_bit_number(bits: u32, n: usize) -> bool
         return false;
     }
     bits <= 8
+}
+
+// Whether a message of n bytes may be taken: refusals 1, 4.
+pub fn check_message(variant: u32, n: usize) -> Status
+    ensures { λ r. ⌜ r ≡ firstRefusal (messageChecks variant n) ⌝ }
+{
+    if !sizes::is_known(variant) {
+        return Status::Refused(Refusal::UnknownVariant);
+    }
+    if MOST < n {
+        return Status::Refused(Refusal::TooLong);
+    }
+    Status::Done
+}
+
+// Whether a message of whose last byte so many bits count may be taken: refusals 1, 15, 4.
+pub fn check_message_bits(variant: u32, message: &[u8], bits: u32) -> Status
+    ensures { λ r. ⌜ r ≡ firstRefusal (messageBitsChecks variant (now (message .entry)) bits) ⌝ }
+{
+    if !sizes::is_known(variant) {
+        return Status::Refused(Refusal::UnknownVariant);
+    }
+    if !is_bit_number(bits, message.len()) {
+        return Status::Refused(Refusal::BadBitNumber);
+    }
+    // Bits pass their limit just where bytes pass theirs.
+    check_message(variant, message.len())
 }
 
 // The number that the k counting bits of a byte make: the high ones in PHOTON, the low ones in SPONGENT.

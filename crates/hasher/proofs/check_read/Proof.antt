@@ -1,7 +1,7 @@
 -- `hasher::check_read` meets its contract: the checks in order. Assumes nothing.
 use mathlib.Core.Path.{sym, _∙_}
 use borrow.Author.Needs.{needs}
-use borrow.Author.Tests.{not-true, not-false, eq-eqb, ne-eqb, lt-ltb, le-ltb}
+use borrow.Author.Tests.{not-true, not-false, eq-eqb, ne-eqb}
 use Rattle.hasher.specs.Reading.{readStatus}
 use Rattle.hasher.proofs.check_read.Statement.{statement}
 use Rattle.hasher.proofs.check_read.Tie as tie
@@ -19,16 +19,9 @@ returns-2 c =
 returns-3 : tie.Need-returns-3
 unfolding readStatus
 returns-3 c =
-    let second = c .before .before in
+    let second = c .before in
     let first = second .before .before in
-    rw (← c .before .result-size .ensures, sym (first .before .is-well-formed .ensures) ∙ not-false _ (first .if1 .left), eq-eqb _ 1 (second .if2 .left), lt-ltb _ _ (c .if3 .taken))
-
-returns-4 : tie.Need-returns-4
-unfolding readStatus
-returns-4 c =
-    let second = c .before .before in
-    let first = second .before .before in
-    rw (← c .before .result-size .ensures, sym (first .before .is-well-formed .ensures) ∙ not-false _ (first .if1 .left), eq-eqb _ 1 (second .if2 .left), le-ltb _ _ (c .if3 .left))
+    rw (sym (first .before .is-well-formed .ensures) ∙ not-false _ (first .if1 .left), eq-eqb _ 1 (second .if2 .left)) (c .check-room .ensures)
 
 pub check-read-spec : {M : Type 1} → statement M
-check-read-spec = tie.close (tie.spec (λ c κs. search needs) returns returns-2 (λ c κs. search needs) returns-3 returns-4)
+check-read-spec = tie.close (tie.spec (λ c κs. search needs) returns returns-2 (λ c κs. search needs) returns-3)

@@ -2,9 +2,9 @@
 use mathlib.Core.Path.{sym, _∙_}
 use Prim.Native.Nat.{_*_}
 use borrow.Author.Needs.{needs}
-use Rattle.hasher.specs.Running.{Open, followChecks}
+use Rattle.hasher.specs.Running.{Open, finishChecks, followChecks}
 use Rattle.hasher.proofs.WellFormed.{facts}
-use Rattle.hasher.proofs.Calls.{open-says, not-open, update-answer}
+use Rattle.hasher.proofs.Calls.{refused-first, open-says, update-answer}
 use Rattle.hasher.proofs.check_update.Statement.{statement}
 use Rattle.hasher.proofs.check_update.Tie as tie
 
@@ -23,7 +23,7 @@ returns c =
 returns-2 : tie.Need-returns-2
 returns-2 c =
     let s = c .before .before in
-    not-open (s .before .args .h) (followChecks (s .before .args .h) (8 * s .before .args .n)) _ _ (s .check-open .ensures) (c .enum-told2 .given .1)
+    refused-first (finishChecks (s .before .args .h)) (followChecks (s .before .args .h) (8 * s .before .args .n)) _ _ (s .check-open .ensures) (c .enum-told2 .given .1)
 
 pub check-update-spec : {M : Type 1} → statement M
 check-update-spec =

@@ -8,9 +8,9 @@ use Rattle.standard.specs.Chain.{messageBits}
 use Rattle.answers.specs.declared.Refusal.the-variants.{BadBitNumber}
 use Rattle.answers.specs.Checks.{unless}
 use Rattle.sponge.specs.Parts.{isBitNumber}
-use Rattle.hasher.specs.Running.{variantOf, Open, followChecks}
+use Rattle.hasher.specs.Running.{variantOf, Open, finishChecks, followChecks}
 use Rattle.hasher.proofs.WellFormed.{facts}
-use Rattle.hasher.proofs.Calls.{open-says, not-open, bad-number, bits-answer, same-room}
+use Rattle.hasher.proofs.Calls.{refused-first, open-says, bad-number, bits-answer, same-room}
 use Rattle.hasher.proofs.check_update_bits.Statement.{statement}
 use Rattle.hasher.proofs.check_update_bits.Tie as tie
 
@@ -41,7 +41,7 @@ returns-3 : tie.Need-returns-3
 returns-3 c =
     let s = c .before .before in
     let a = s .before .before .args in
-    not-open (a .h) (unless (isBitNumber (a .bits) (length (a .piece .now))) BadBitNumber ∷ followChecks (a .h) (length (messageBits (variantOf (a .h)) (a .piece .now) (a .bits)))) _ _ (s .check-open .ensures) (c .enum-told2 .given .1)
+    refused-first (finishChecks (a .h)) (unless (isBitNumber (a .bits) (length (a .piece .now))) BadBitNumber ∷ followChecks (a .h) (length (messageBits (variantOf (a .h)) (a .piece .now) (a .bits)))) _ _ (s .check-open .ensures) (c .enum-told2 .given .1)
 
 pub check-update-bits-spec : {M : Type 1} → statement M
 check-update-bits-spec =

@@ -1,36 +1,46 @@
--- `hasher::check_whole` meets its contract: the checks in order. Assumes nothing.
-use mathlib.Core.Path.{sym, _∙_}
+-- `hasher::check_whole` meets its contract: the checks of the message, and then that of the output. Assumes nothing.
+use mathlib.Core.Path.{_≡_, sym, _∙_}
+use mathlib.Core.List.{List}
 use native.Mathlib.Omega.{arith}
 use borrow.Author.Needs.{needs}
-use borrow.Author.Tests.{not-true, not-false, lt-ltb, le-ltb}
+use Rattle.answers.specs.declared.Status.the-variants.{Done}
+use Rattle.answers.specs.Checks.{Check, firstRefusal}
+use Rattle.answers.proofs.Rows.{row-second}
+use Rattle.standard.specs.Variants.{variant}
 use Rattle.standard.proofs.Variants.{known-high}
+use Rattle.sponge.specs.Parts.{messageChecks}
+use Rattle.sponge.proofs.PartBytes.{message-passed}
+use Rattle.hasher.specs.Reading.{roomChecks}
+use Rattle.hasher.proofs.Calls.{refused-first}
 use Rattle.hasher.proofs.check_whole.Statement.{statement}
 use Rattle.hasher.proofs.check_whole.Tie as tie
 
+-- the checks of the message, and that of the output
+abbrev message : tie.Start → List Check
+message s = messageChecks (s .args .variant) (s .args .n)
+
+abbrev room : tie.Start → List Check
+room s = roomChecks (variant (s .args .variant)) (s .args .wanted) (s .args .room)
+
+-- the first have passed
+passed : (c : tie.After-enum-told) → firstRefusal (message (c .before .before .before)) ≡ Done
+passed c = sym (c .before .before .check-message .ensures) ∙ c .enum-told .given .1
+
+cast-check-room : tie.Need-cast-check-room
+cast-check-room c =
+    let a = c .before .before .before .args in
+    omega (arith, known-high (a .variant) (message-passed (a .variant) (a .n) (passed c) .0))
+
 returns : tie.Need-returns
-returns c = rw (sym (c .before .is-known .ensures) ∙ not-true _ (c .if1 .taken))
+returns c =
+    let s = c .before .before .before .before in
+    c .check-room .ensures ∙ sym (row-second (message s) (room s) (passed (c .before)))
 
 returns-2 : tie.Need-returns-2
 returns-2 c =
-    let first = c .before in
-    rw (sym (first .before .is-known .ensures) ∙ not-false _ (first .if1 .left), lt-ltb _ _ (c .if2 .taken))
-
-cast-result-size : tie.Need-cast-result-size
-cast-result-size c =
-    let first = c .before in
-    omega (arith, known-high (first .before .before .args .variant) (sym (first .before .is-known .ensures) ∙ not-false _ (first .if1 .left)))
-
-returns-3 : tie.Need-returns-3
-returns-3 c =
-    let second = c .before .before in
-    let first = second .before in
-    rw (← c .before .result-size .ensures, sym (first .before .is-known .ensures) ∙ not-false _ (first .if1 .left), le-ltb _ _ (second .if2 .left), lt-ltb _ _ (c .if3 .taken))
-
-returns-4 : tie.Need-returns-4
-returns-4 c =
-    let second = c .before .before in
-    let first = second .before in
-    rw (← c .before .result-size .ensures, sym (first .before .is-known .ensures) ∙ not-false _ (first .if1 .left), le-ltb _ _ (second .if2 .left), le-ltb _ _ (c .if3 .left))
+    let checked = c .before .before in
+    refused-first (message (checked .before)) (room (checked .before)) _ _ (checked .check-message .ensures) (c .enum-told2 .given .1)
 
 pub check-whole-spec : {M : Type 1} → statement M
-check-whole-spec = tie.close (tie.spec (λ c κs. search needs) returns returns-2 cast-result-size (λ c κs. search needs) returns-3 returns-4)
+check-whole-spec =
+    tie.close (tie.spec (λ c κs. search needs) (λ c. search needs) cast-check-room (λ c κs. search needs) returns (λ c. search needs) returns-2)

@@ -25,14 +25,14 @@ module _ (c : tie.After-enum-told) where
   hashable = whole-bits-say (entry .args .variant) (entry .args .message .now) (entry .args .bits) (entry .args .wanted) (length (entry .args .out .now)) passed
 
 cast-v : tie.Need-cast-v
-cast-v c = omega (arith, known-high (entry c .args .variant) (hashable c .named))
+cast-v c = omega (arith, known-high (entry c .args .variant) (hashable c .asked .number))
 
 copy-front-requires : tie.Need-copy-front-requires
 copy-front-requires c κs =
     let told = c .before .before .before .before in
     let a = entry told .args in
     let n = c .before .result-size in
-    (omega (arith, result-fits (a .variant) (hashable told .named) (a .wanted) _ (n .ensures)), omega (arith, n .ensures, hashable told .room))
+    (omega (arith, result-fits (a .variant) (hashable told .asked .number) (a .wanted) _ (n .ensures)), omega (arith, n .ensures, hashable told .room))
 
 returns : tie.Need-returns
 unfolding wholeBitsInto
@@ -41,7 +41,7 @@ returns c =
     let told = copy .before .before .before .before .before in
     let n = copy .before .before .result-size in
     let a = entry told .args in
-    whole-read (a .variant) (hashable told .named) (a .wanted) (n .result) (n .ensures) _ _ (a .out .now) _ (copy .copy-front .ensures)
+    whole-read (a .variant) (hashable told .asked .number) (a .wanted) (n .result) (n .ensures) _ _ (a .out .now) _ (copy .copy-front .ensures)
     (messageBits (variant (a .variant)) (a .message .now) (a .bits)) _ refl (passed told) (copy .before .before .before .before .end-of-bits .ensures)
 
 returns-2 : tie.Need-returns-2
@@ -52,5 +52,5 @@ returns-2 c =
 
 pub whole-bits-spec : {M : Type 1} → statement M
 whole-bits-spec =
-    tie.close (tie.spec (λ c κs. search needs) (λ c. search needs) cast-v (λ c κs. (hashable c .named, hashable c .numbered, hashable c .few-bytes)) (λ c. search needs)
+    tie.close (tie.spec (λ c κs. search needs) (λ c. search needs) cast-v (λ c κs. let w = hashable c .asked in (w .number, w .bit-number, w .short)) (λ c. search needs)
     (λ c κs. search needs) copy-front-requires (λ c. search needs) returns (λ c. search needs) returns-2)

@@ -13,9 +13,10 @@ use Rattle.answers.proofs.Statuses.{tag-refused}
 use Rattle.standard.specs.Chain.{byteBits}
 use Rattle.standard.specs.Variants.{known}
 use Rattle.standard.proofs.Variants.{known-high}
-use Rattle.recover.specs.Recovering.{messageChecks, recoverStatus, recoverInto}
-use Rattle.sponge.proofs.PartBytes.{whole-held, holds-whole}
-use Rattle.recover.proofs.RecoverLaws.{message-passed, left-refused, left-behind}
+use Rattle.sponge.specs.Parts.{messageChecks}
+use Rattle.sponge.proofs.PartBytes.{whole-held, holds-whole, message-passed}
+use Rattle.recover.specs.Recovering.{recoverStatus, recoverInto}
+use Rattle.recover.proofs.RecoverLaws.{left-refused, left-behind}
 use Rattle.recover.proofs.recover.Statement.{statement}
 use Rattle.recover.proofs.recover.Tie as tie
 

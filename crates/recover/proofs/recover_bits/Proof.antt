@@ -12,9 +12,10 @@ use Rattle.answers.proofs.Statuses.{tag-refused}
 use Rattle.standard.specs.Chain.{messageBits}
 use Rattle.standard.specs.Variants.{variant}
 use Rattle.standard.proofs.Variants.{known-high}
-use Rattle.recover.specs.Recovering.{messageBitsChecks, recoverBitsStatus, recoverBitsInto}
-use Rattle.sponge.proofs.PartBytes.{message-held, holds-message}
-use Rattle.recover.proofs.RecoverLaws.{BitsAsked, bits-passed, left-refused, left-behind}
+use Rattle.sponge.specs.Parts.{messageBitsChecks}
+use Rattle.sponge.proofs.PartBytes.{message-held, holds-message, BitsAsked, bits-passed}
+use Rattle.recover.specs.Recovering.{recoverBitsStatus, recoverBitsInto}
+use Rattle.recover.proofs.RecoverLaws.{left-refused, left-behind}
 use Rattle.recover.proofs.recover_bits.Statement.{statement}
 use Rattle.recover.proofs.recover_bits.Tie as tie
 

@@ -1,14 +1,14 @@
--- `recover::check_message_bits` meets its contract: 1, 15, and then the checks of whole bytes. Assumes nothing.
+-- `sponge::parts::check_message_bits` meets its contract: 1, 15, and then the checks of whole bytes. Assumes nothing.
 use mathlib.Core.Path.{_≡_, sym, _∙_}
 use mathlib.Core.Bool.{true}
 use borrow.Author.Tests.{not-true, not-false}
 use borrow.Author.Needs.{needs}
 use lib.ListN.{length}
 use Rattle.standard.specs.Variants.{variant, known}
 use Rattle.sponge.specs.Parts.{isBitNumber}
 use Rattle.sponge.proofs.PartBytes.{limit-same}
-use Rattle.recover.proofs.check_message_bits.Statement.{statement}
-use Rattle.recover.proofs.check_message_bits.Tie as tie
+use Rattle.sponge.proofs.parts.check_message_bits.Statement.{statement}
+use Rattle.sponge.proofs.parts.check_message_bits.Tie as tie
 
 -- past the first check
 named : (c : tie.Else1) → known (c .before .before .before .args .variant) ≡ true

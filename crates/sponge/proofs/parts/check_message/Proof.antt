@@ -1,11 +1,11 @@
--- `recover::check_message` meets its contract: the checks in order. Assumes nothing.
+-- `sponge::parts::check_message` meets its contract: the checks in order. Assumes nothing.
 use mathlib.Core.Path.{_≡_, sym, _∙_}
 use mathlib.Core.Bool.{true}
 use borrow.Author.Tests.{not-true, not-false, lt-ltb, le-ltb}
 use borrow.Author.Needs.{needs}
 use Rattle.standard.specs.Variants.{known}
-use Rattle.recover.proofs.check_message.Statement.{statement}
-use Rattle.recover.proofs.check_message.Tie as tie
+use Rattle.sponge.proofs.parts.check_message.Statement.{statement}
+use Rattle.sponge.proofs.parts.check_message.Tie as tie
 
 -- past the first check
 named : (c : tie.Else1) → known (c .before .before .args .variant) ≡ true
