@@ -62,6 +62,10 @@ row-append (c ∷ cs) ys = put-behind (c .passes) (c .refusal) (firstRefusal cs)
 pub row-first : (xs ys : List Check) → (firstRefusal xs ≡ Done → ⊥) → firstRefusal (xs ++ ys) ≡ firstRefusal xs
 row-first xs ys n = row-append xs ys ∙ kept (firstRefusal xs) (firstRefusal ys) (firstRefusal xs) n
 
+-- what the first row refuses, both refuse
+pub refused-first : (xs ys : List Check) (s : Status) (r : Refusal) → s ≡ firstRefusal xs → s ≡ Refused r → s ≡ firstRefusal (xs ++ ys)
+refused-first xs ys s r e d = e ∙ sym (row-first xs ys (λ f. not-done r (sym d ∙ e ∙ f)))
+
 pub row-second : (xs ys : List Check) → firstRefusal xs ≡ Done → firstRefusal (xs ++ ys) ≡ firstRefusal ys
 row-second xs ys e = rw (row-append, e)
 

@@ -15,10 +15,9 @@ use Rattle.answers.specs.declared.Refusal.{Refusal}
 use Rattle.answers.specs.declared.Refusal.the-variants.{UnknownVariant, TooLong, BadBitNumber, InsideByte}
 use Rattle.answers.specs.declared.Status.{Status}
 use Rattle.answers.specs.declared.Status.the-variants.{Done, Refused}
-use Rattle.answers.specs.Checks.{Check, firstRefusal, Pass}
+use Rattle.answers.specs.Checks.{firstRefusal, Pass}
 use Rattle.answers.specs.Outputs.{most, mostBits, whenDone, written}
-use Rattle.answers.proofs.Statuses.{not-done}
-use Rattle.answers.proofs.Rows.{passing-says, row-first, row-second, row-both}
+use Rattle.answers.proofs.Rows.{passing-says, row-second, row-both}
 use Rattle.standard.specs.Bits.{high-first, pack}
 use Rattle.standard.specs.Sponge.{Variant, order, squeezed, imageSize, imageOf}
 use Rattle.standard.proofs.BitLaws.{length-pack, take-pack}
@@ -37,10 +36,6 @@ use Rattle.hasher.specs.Running.{closed, Open, blank, fresh, grown, ende
 use Rattle.hasher.specs.declared.Wanted.{Wanted}
 use Rattle.hasher.specs.declared.Wanted.the-variants.{Digest, EndState}
 use Rattle.hasher.specs.Reading.{resultOf, resultSize, isDigest, roomChecks, readChecks, readStatus, wholeChecks, wholeBitsChecks}
-
--- what a row in front refuses, the whole row refuses
-pub refused-first : (row rest : List Check) (s : Status) (r : Refusal) → s ≡ firstRefusal row → s ≡ Refused r → s ≡ firstRefusal (row ++ rest)
-refused-first row rest s r e d = e ∙ sym (row-first row rest (λ f. not-done r (sym d ∙ e ∙ f)))
 
 abbrev pub done : Hasher → Advanced
 done h = record { status = Done; hasher = h }

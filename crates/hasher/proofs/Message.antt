@@ -6,7 +6,6 @@ use mathlib.Core.List.{List, [], _∷_, _++_}
 use Prim.Native.Nat.{ℕ, _+_, _≤_}
 use native.Mathlib.Nat.{mod-eq-of-lt}
 use native.Mathlib.Omega.{arith}
-use lib.Dec.{ltb}
 use lib.ListN.{length, drop}
 use borrow.Author.Tests.{le-ltb}
 use Rattle.standard.specs.Bits.{high-first}
@@ -16,10 +15,9 @@ use Rattle.standard.specs.Variants.{variant, known}
 use Rattle.standard.proofs.BitLaws.{length-bitsIn}
 use Rattle.standard.proofs.Streaming.{Streams, end-parts}
 use Rattle.standard.proofs.Variants.{streams}
-use Rattle.answers.specs.declared.Refusal.the-variants.{OutputTooShort}
 use Rattle.answers.specs.declared.Status.{Status}
 use Rattle.answers.specs.declared.Status.the-variants.{Done}
-use Rattle.answers.specs.Checks.{when, firstRefusal}
+use Rattle.answers.specs.Checks.{firstRefusal}
 use Rattle.answers.specs.Outputs.{written, most, mostBits}
 use Rattle.sponge.specs.Layout.{packedState, packedBlock}
 use Rattle.sponge.specs.Parts.{isBitNumber}
@@ -27,7 +25,7 @@ use Rattle.hasher.specs.declared.Hasher.{Hasher}
 use Rattle.hasher.specs.declared.Advanced.{Advanced}
 use Rattle.hasher.specs.Running.{heldCount, wholeSoFar, heldIn, stateOf, Open, blank, fresh, grown, ended, started, updated, finished}
 use Rattle.hasher.specs.declared.Wanted.{Wanted}
-use Rattle.hasher.specs.Reading.{resultOf, resultSize, readStatus, readInto, wholeStatus, wholeInto, wholeBitsStatus, wholeBitsInto}
+use Rattle.hasher.specs.Reading.{resultOf, resultSize, roomChecks, readStatus, readInto, wholeStatus, wholeInto, wholeBitsStatus, wholeBitsInto}
 use Rattle.hasher.specs.Pieces.{Reads}
 use Rattle.hasher.specs.Sized.{Sized}
 use Rattle.hasher.proofs.WellFormed.{Facts, facts, well-formed, open-count}
@@ -114,11 +112,11 @@ module _ (v : ℕ) (k : known v ≡ true) where
           ∙ sym (end-parts H S m)
 
       -- what is read at the end: only the output's length is left to check
-      pub end-answer : (wanted : Wanted) (n : ℕ) → readStatus (ended (reached v m)) wanted n ≡ firstRefusal (when (ltb n (resultSize (variant v) wanted)) OutputTooShort ∷ [])
+      pub end-answer : (wanted : Wanted) (n : ℕ) → readStatus (ended (reached v m)) wanted n ≡ firstRefusal (roomChecks (variant v) wanted n)
       unfolding readStatus ended grown
       end-answer wanted n = rw (well-formed (ended (reached v m)) end-facts)
 
-      pub end-output : (wanted : Wanted) (out : List ℕ) (t : Status) → firstRefusal (when (ltb (length out) (resultSize (variant v) wanted)) OutputTooShort ∷ []) ≡ t
+      pub end-output : (wanted : Wanted) (out : List ℕ) (t : Status) → firstRefusal (roomChecks (variant v) wanted (length out)) ≡ t
           → readInto (ended (reached v m)) wanted out ≡ written t (resultOf (variant v) wanted (endState (variant v) m)) out
       unfolding readInto ended grown
       end-output wanted out t e =
@@ -127,7 +125,7 @@ module _ (v : ℕ) (k : known v ≡ true) where
       -- an output that is long enough
       pub end-reads : Reads v (ended (reached v m)) m
       end-reads wanted out l =
-          let e : firstRefusal (when (ltb (length out) (resultSize H wanted)) OutputTooShort ∷ []) ≡ Done = rw (le-ltb _ _ l) in (
+          let e : firstRefusal (roomChecks H wanted (length out)) ≡ Done = rw (le-ltb _ _ l) in (
             end-answer wanted (length out) ∙ e,
             end-output wanted out Done e ∙ ap (λ (n : ℕ). resultOf H wanted (endState H m) ++ drop n out) (result-length H wanted (endState H m)),
           )
@@ -141,7 +139,7 @@ module _ (v : ℕ) (k : known v ≡ true) where
     pub taken-whole : wholeSoFar (taken v m) ≡ true
     taken-whole = onward-whole (fresh v) fresh-whole m
 
-    whole-answer : (wanted : Wanted) (n : ℕ) → firstRefusal (when (ltb n (resultSize H wanted)) OutputTooShort ∷ []) ≡ wholeStatus v m wanted n
+    whole-answer : (wanted : Wanted) (n : ℕ) → firstRefusal (roomChecks H wanted n) ≡ wholeStatus v m wanted n
     unfolding wholeStatus
     whole-answer wanted n = rw (k, le-ltb most (length m) few)
 
@@ -177,7 +175,7 @@ module _ (v : ℕ) (k : known v ≡ true) where
   -- ---- bytes of whose last one j bits count
 
   module _ (m : List ℕ) (j : ℕ) (numbered : isBitNumber j (length m) ≡ true) (few : length (messageBits (variant v) m j) ≤ mostBits) where
-    bits-answer : (wanted : Wanted) (n : ℕ) → firstRefusal (when (ltb n (resultSize H wanted)) OutputTooShort ∷ []) ≡ wholeBitsStatus v m j wanted n
+    bits-answer : (wanted : Wanted) (n : ℕ) → firstRefusal (roomChecks H wanted n) ≡ wholeBitsStatus v m j wanted n
     unfolding wholeBitsStatus
     bits-answer wanted n = rw (k, numbered, le-ltb mostBits (length (messageBits H m j)) few)
 

@@ -2,9 +2,10 @@
 use mathlib.Core.Path.{sym, _∙_}
 use Prim.Native.Nat.{_*_}
 use borrow.Author.Needs.{needs}
+use Rattle.answers.proofs.Rows.{refused-first}
 use Rattle.hasher.specs.Running.{Open, finishChecks, followChecks}
 use Rattle.hasher.proofs.WellFormed.{facts}
-use Rattle.hasher.proofs.Calls.{refused-first, open-says, update-answer}
+use Rattle.hasher.proofs.Calls.{open-says, update-answer}
 use Rattle.hasher.proofs.check_update.Statement.{statement}
 use Rattle.hasher.proofs.check_update.Tie as tie
 

@@ -7,10 +7,11 @@ use borrow.Author.Tests.{not-true, not-false}
 use Rattle.standard.specs.Chain.{messageBits}
 use Rattle.answers.specs.declared.Refusal.the-variants.{BadBitNumber}
 use Rattle.answers.specs.Checks.{unless}
+use Rattle.answers.proofs.Rows.{refused-first}
 use Rattle.sponge.specs.Parts.{isBitNumber}
 use Rattle.hasher.specs.Running.{variantOf, Open, finishChecks, followChecks}
 use Rattle.hasher.proofs.WellFormed.{facts}
-use Rattle.hasher.proofs.Calls.{refused-first, open-says, bad-number, bits-answer, same-room}
+use Rattle.hasher.proofs.Calls.{open-says, bad-number, bits-answer, same-room}
 use Rattle.hasher.proofs.check_update_bits.Statement.{statement}
 use Rattle.hasher.proofs.check_update_bits.Tie as tie
 

@@ -5,13 +5,12 @@ use native.Mathlib.Omega.{arith}
 use borrow.Author.Needs.{needs}
 use Rattle.answers.specs.declared.Status.the-variants.{Done}
 use Rattle.answers.specs.Checks.{Check, firstRefusal}
-use Rattle.answers.proofs.Rows.{row-second}
+use Rattle.answers.proofs.Rows.{refused-first, row-second}
 use Rattle.standard.specs.Variants.{variant}
 use Rattle.standard.proofs.Variants.{known-high}
 use Rattle.sponge.specs.Parts.{messageBitsChecks}
 use Rattle.sponge.proofs.PartBytes.{bits-passed}
 use Rattle.hasher.specs.Reading.{roomChecks}
-use Rattle.hasher.proofs.Calls.{refused-first}
 use Rattle.hasher.proofs.check_whole_bits.Statement.{statement}
 use Rattle.hasher.proofs.check_whole_bits.Tie as tie
 
