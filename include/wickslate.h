@@ -265,8 +265,8 @@ WICKSLATE_CALL uint32_t wickslate_update(wickslate_hasher *h, const uint8_t *pie
 /*
  * Takes a piece of whose last byte only `bits` bits count, 1 to 8: the high
  * ones for PHOTON, the low ones for SPONGENT. With fewer than 8 it is the last
- * piece, and wickslate_finish comes next. With 8 all bits count, and it does
- * what wickslate_update does.
+ * piece, and wickslate_finish comes next. With 8 all bits count, and a piece
+ * that is not empty is taken as wickslate_update takes it.
  *
  * A trace of n bits, n not 0, has (n + 7) / 8 bytes, and (n - 1) % 8 + 1 bits
  * of the last one count. A trace of no bits has no last byte, and needs no

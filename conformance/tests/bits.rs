@@ -518,8 +518,8 @@ fn the_bits_stop_at_the_limit() {
 }
 
 /// 134,217,719 and 134,217,720 bits pass the check of their length: what is
-/// refused is the output, or behind the last place the place. To hash so many
-/// takes too long here. One bit more is too long.
+/// refused is the output, or the image at the last place, or the place behind
+/// it. To hash so many takes too long here. One bit more is too long.
 #[test]
 fn lengths_at_the_limit() {
     let long = vec![0x31; MESSAGE_LIMIT + 1];

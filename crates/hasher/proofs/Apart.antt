@@ -27,7 +27,7 @@ use Rattle.hasher.specs.Running.{variantOf, stateOf}
 use Rattle.hasher.specs.Reading.{readStatus, readInto, wholeInto, wholeBitsInto}
 use Rattle.hasher.specs.Pieces.{joined, hashedInto, hashedBitsInto}
 use Rattle.hasher.specs.Sized.{Sized}
-use Rattle.hasher.specs.Apart.{Differ, ToldApart, ToldApartBits}
+use Rattle.hasher.specs.Apart.{Differ, ImagesDiffer, ToldApart, ToldApartBits}
 use Rattle.hasher.proofs.WellFormed.{facts, state-long}
 use Rattle.hasher.proofs.Calls.{read-says, numbered-too}
 use Rattle.hasher.proofs.Message.{whole-done, whole-bits-done}
@@ -43,6 +43,21 @@ module _ (H : Variant) (s u : List Bool) (ls : length s ≡ H .t) (lu : length u
   fronts-differ a b ea eb e =
       n (imageOf-injective H s u ls lu
       (sym (front s x) ∙ ap (take (imageSize H)) (sym ea) ∙ e ∙ ap (take (imageSize H)) eb ∙ front u y))
+
+-- a call puts the image of a state in front of the rest of an output that is long enough
+abbrev Puts : Variant → List Bool → (List ℕ → List ℕ) → Type 0
+Puts H s f = (out : List ℕ) → imageSize H ≤ length out → f out ≡ imageOf H s ++ drop (imageSize H) out
+
+-- two calls that do what two others do tell apart what those do
+as-others : (H : Variant) (f f′ g g′ : List ℕ → List ℕ) → ((out : List ℕ) → f out ≡ f′ out) → ((out : List ℕ) → g out ≡ g′ out) → ImagesDiffer H f g → ImagesDiffer H f′ g′
+as-others H f f′ g g′ ef eg d out out′ l l′ e = d out out′ l l′ (ap (take (imageSize H)) (ef out) ∙ e ∙ sym (ap (take (imageSize H)) (eg out′)))
+
+-- the images of different end states
+ends-differ : (v : ℕ) → known v ≡ true → (x y : List Bool) → (endState (variant v) x ≡ endState (variant v) y → ⊥) → (f g : List ℕ → List ℕ)
+    → Puts (variant v) (endState (variant v) x) f → Puts (variant v) (endState (variant v) y) g → ImagesDiffer (variant v) f g
+ends-differ v k x y n f g pf pg out out′ l l′ =
+    let H : Variant = variant v in
+    fronts-differ H (endState H x) (endState H y) (end-length H (streams v k) x) (end-length H (streams v k) y) n _ _ _ _ (pf out l) (pg out′ l′)
 
 -- ---- two running hashes
 
@@ -65,28 +80,18 @@ read-tells h g zh zg same n out out′ dh dg =
 -- ---- two messages
 
 module _ (v : ℕ) (k : known v ≡ true) (x y : List ℕ) where
-  abbrev H : Variant
-  H = variant v
-
   -- different end states are told apart
   pub ends-tell : length x ≤ most → length y ≤ most → (endState (variant v) (byteBits x) ≡ endState (variant v) (byteBits y) → ⊥) → ToldApart v x y
-  ends-tell fx fy n = record { whole = whole; pieces = pieces }
+  ends-tell fx fy n = record { whole = whole; pieces = λ xs ys ex ey. as-others (variant v) _ _ _ _ (cut xs x ex) (cut ys y ey) whole }
     where
-      whole : (out out′ : List ℕ) → imageSize H ≤ length out → imageSize H ≤ length out′
-          → Differ (imageSize H) (wholeInto v x EndState out) (wholeInto v y EndState out′)
-      whole out out′ l l′ =
-          fronts-differ H (endState H (byteBits x)) (endState H (byteBits y))
-          (end-length H (streams v k) (byteBits x)) (end-length H (streams v k) (byteBits y)) n
-          _ _ _ _ (whole-done v k x fx EndState out l .1) (whole-done v k y fy EndState out′ l′ .1)
+      whole : ImagesDiffer (variant v) (wholeInto v x EndState) (wholeInto v y EndState)
+      whole =
+          ends-differ v k (byteBits x) (byteBits y) n _ _
+          (λ out l. whole-done v k x fx EndState out l .1) (λ out l. whole-done v k y fy EndState out l .1)
 
       -- the pieces of a message
       cut : (ps : List (List ℕ)) (m : List ℕ) → joined ps ≡ m → (out : List ℕ) → wholeInto v m EndState out ≡ hashedInto v ps EndState out
       cut ps m e out = ap (λ (l : List ℕ). wholeInto v l EndState out) (sym e) ∙ whole-is-pieces v ps EndState out .1
-
-      pieces : (xs ys : List (List ℕ)) → joined xs ≡ x → joined ys ≡ y → (out out′ : List ℕ) → imageSize H ≤ length out → imageSize H ≤ length out′
-          → Differ (imageSize H) (hashedInto v xs EndState out) (hashedInto v ys EndState out′)
-      pieces xs ys ex ey out out′ l l′ e =
-          whole out out′ l l′ (ap (take (imageSize H)) (cut xs x ex out) ∙ e ∙ sym (ap (take (imageSize H)) (cut ys y ey out′)))
 
   -- Two messages of bytes within the limit, of one length or not, whose padded rows have equal count and differ at exactly one block, are told apart.
   pub row-told : length x ≤ most → length y ≤ most → (i : ℕ) → DifferAt i (blocksOf (variant v) (byteBits x)) (blocksOf (variant v) (byteBits y)) → ToldApart v x y
@@ -116,27 +121,19 @@ module _ (v : ℕ) (named : known v ≡ true) (x y : List ℕ) (k l : ℕ) (nx :
   module _ (fx : length (messageBits (variant v) x k) ≤ mostBits) (fy : length (messageBits (variant v) y l) ≤ mostBits) where
     -- different end states are told apart
     pub bits-ends-tell : (endState (variant v) (messageBits (variant v) x k) ≡ endState (variant v) (messageBits (variant v) y l) → ⊥) → ToldApartBits v x k y l
-    bits-ends-tell n = record { whole = whole; pieces = pieces }
+    bits-ends-tell n =
+        record { whole = whole; pieces = λ xs ys x-last y-last ex ey sx sy. as-others (variant v) _ _ _ _ (cut xs x-last x k nx ex sx) (cut ys y-last y l ny ey sy) whole }
       where
-        whole : (out out′ : List ℕ) → imageSize (variant v) ≤ length out → imageSize (variant v) ≤ length out′
-            → Differ (imageSize (variant v)) (wholeBitsInto v x k EndState out) (wholeBitsInto v y l EndState out′)
-        whole out out′ o o′ =
-            fronts-differ (variant v) (endState (variant v) X) (endState (variant v) Y)
-            (end-length (variant v) (streams v named) X) (end-length (variant v) (streams v named) Y) n
-            _ _ _ _ (whole-bits-done v named x k nx fx EndState out o .1) (whole-bits-done v named y l ny fy EndState out′ o′ .1)
+        whole : ImagesDiffer (variant v) (wholeBitsInto v x k EndState) (wholeBitsInto v y l EndState)
+        whole =
+            ends-differ v named X Y n _ _
+            (λ out o. whole-bits-done v named x k nx fx EndState out o .1) (λ out o. whole-bits-done v named y l ny fy EndState out o .1)
 
         -- the pieces of a message, the last of which has a byte
         cut : (ps : List (List ℕ)) (last m : List ℕ) (j : ℕ) → isBitNumber j (length m) ≡ true → joined ps ++ last ≡ m → 0 < length last → (out : List ℕ)
             → wholeBitsInto v m j EndState out ≡ hashedBitsInto v ps last j EndState out
         cut ps last m j nm e some out =
             ap (λ (z : List ℕ). wholeBitsInto v z j EndState out) (sym e) ∙ whole-bits-is-pieces v ps EndState out last j (numbered-too m last j nm some) .1
-
-        pieces : (xs ys : List (List ℕ)) (x-last y-last : List ℕ) → joined xs ++ x-last ≡ x → joined ys ++ y-last ≡ y → 0 < length x-last → 0 < length y-last
-            → (out out′ : List ℕ) → imageSize (variant v) ≤ length out → imageSize (variant v) ≤ length out′
-            → Differ (imageSize (variant v)) (hashedBitsInto v xs x-last k EndState out) (hashedBitsInto v ys y-last l EndState out′)
-        pieces xs ys x-last y-last ex ey sx sy out out′ o o′ e =
-            whole out out′ o o′
-            (ap (take (imageSize (variant v))) (cut xs x-last x k nx ex sx out) ∙ e ∙ sym (ap (take (imageSize (variant v))) (cut ys y-last y l ny ey sy out′)))
 
     -- Two messages that may end inside a byte, whose padded rows have equal count and differ at exactly one block, are told apart.
     pub bits-row-told : (i : ℕ) → DifferAt i (blocksOf (variant v) (messageBits (variant v) x k)) (blocksOf (variant v) (messageBits (variant v) y l)) → ToldApartBits v x k y l

@@ -9,7 +9,7 @@ use lib.ListN.{length, length-append}
 use native.Mathlib.Numerals.{add-one}
 use native.Mathlib.Omega.{arith}
 use Rattle.answers.specs.declared.Refusal.{Refusal}
-use Rattle.answers.specs.declared.Refusal.the-variants.{UnknownVariant, TooLong, OutputTooShort, BadList}
+use Rattle.answers.specs.declared.Refusal.the-variants.{UnknownVariant, TooLong, BadList}
 use Rattle.answers.specs.declared.Status.{Status}
 use Rattle.answers.specs.declared.Status.the-variants.{Done, Refused}
 use Rattle.answers.specs.Checks.{Check, unless, when, firstRefusal}
@@ -24,7 +24,7 @@ use Rattle.hasher.specs.declared.Advanced.{Advanced}
 use Rattle.hasher.specs.declared.Wanted.{Wanted}
 use Rattle.hasher.specs.Sized.{Sized}
 use Rattle.hasher.specs.Running.{wholeSoFar, Open, started, updated, finished, stateOf}
-use Rattle.hasher.specs.Reading.{resultSize, resultOf, readStatus, readInto, wholeChecks, wholeStatus, wholeInto}
+use Rattle.hasher.specs.Reading.{resultOf, roomChecks, readStatus, readInto, wholeChecks, wholeStatus, wholeInto}
 use Rattle.hasher.proofs.Calls.{start-done, Hashable, whole-says, update-done}
 use Rattle.hasher.proofs.Message.{fresh-sized, fresh-open, fresh-whole, calls-read}
 use Rattle.hasher.proofs.UpdateAppend.{update-twice}
@@ -70,7 +70,7 @@ abbrev before : ℕ → List ℕ → List Check
 before v list = unless (known v) UnknownVariant ∷ unless (isList list) BadList ∷ []
 
 abbrev behind : ℕ → List ℕ → Wanted → ℕ → List Check
-behind v m wanted n = when (ltb most (length m)) TooLong ∷ when (ltb n (resultSize (variant v) wanted)) OutputTooShort ∷ []
+behind v m wanted n = when (ltb most (length m)) TooLong ∷ roomChecks (variant v) wanted n
 
 module _ (v : ℕ) (list buffer : List ℕ) (wanted : Wanted) (n : ℕ) where
   -- the first refusal of an entry is the list's

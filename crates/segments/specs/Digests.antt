@@ -1,17 +1,17 @@
 -- The digest or end state over a list and its segments (document 01: mark of a sheet).
 -- Assumes nothing.
-use mathlib.Core.List.{List, [], _∷_, _++_}
+use mathlib.Core.List.{List, _∷_, _++_}
 use Prim.Native.Nat.{ℕ}
 use lib.Dec.{ltb}
 use lib.ListN.{length}
-use Rattle.answers.specs.declared.Refusal.the-variants.{UnknownVariant, TooLong, OutputTooShort, BadList}
+use Rattle.answers.specs.declared.Refusal.the-variants.{UnknownVariant, TooLong, BadList}
 use Rattle.answers.specs.declared.Status.{Status}
 use Rattle.answers.specs.Checks.{Check, unless, when, firstRefusal}
 use Rattle.answers.specs.Outputs.{written, most}
 use Rattle.standard.specs.Chain.{byteBits, endState}
 use Rattle.standard.specs.Variants.{variant, known}
 use Rattle.hasher.specs.declared.Wanted.{Wanted}
-use Rattle.hasher.specs.Reading.{resultSize, resultOf}
+use Rattle.hasher.specs.Reading.{resultOf, roomChecks}
 use Rattle.segments.specs.Entries.{isList, entriesChecks, messageOf}
 
 -- Mark of a sheet: 1; 9; entry by entry 10, then 11; 4; 5
@@ -21,8 +21,7 @@ listChecks v list buffer wanted n =
     ∷ unless (isList list) BadList
     ∷ (entriesChecks list (length buffer)
     ++ when (ltb most (length (messageOf list buffer))) TooLong
-    ∷ when (ltb n (resultSize (variant v) wanted)) OutputTooShort
-    ∷ [])
+    ∷ roomChecks (variant v) wanted n)
 
 -- its answer
 unfoldable pub listStatus : ℕ → List ℕ → List ℕ → Wanted → ℕ → Status
