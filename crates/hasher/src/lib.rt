@@ -433,7 +433,7 @@ fn end_of(v: u8, front: &[u8], last: u8, bits: usize, wanted: Wanted) -> [u8; ST
     requires { ⌜ HoldsMessage (now front) last bits ⌝ }
     ensures { λ r. ⌜ take (resultSize (variant v) wanted) r ≡ resultOf (variant v) wanted (endState (variant v) (messageIn (now (front .entry)) last bits)) ⌝ }
 {
-    let count = bits / (sponge::sizes::block_bits(v) as usize) + 1;
+    let count = sponge::sizes::block_count(v, bits);
     let none: [u8; 0] = [];
     let start = sponge::step::start(v);
     let digest = is_digest(wanted);

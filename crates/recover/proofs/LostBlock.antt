@@ -17,11 +17,11 @@ use Rattle.answers.proofs.Statuses.{not-done}
 use Rattle.answers.proofs.Rows.{row-second, row-both}
 use Rattle.standard.specs.Bits.{high-first, pack}
 use Rattle.standard.specs.Sponge.{Variant, startState, imageOf, stateIn}
-use Rattle.standard.specs.Chain.{blocksOf, run, endState}
+use Rattle.standard.specs.Chain.{blocksOf, blockCount, run, endState}
 use Rattle.standard.specs.Variants.{variant, known}
 use Rattle.standard.proofs.BitLaws.{length-pack}
 use Rattle.standard.proofs.Tests.{either, true-not-false}
-use Rattle.standard.proofs.Streaming.{Streams, run-length, blocks-sized}
+use Rattle.standard.proofs.Streaming.{Streams, block-count, run-length, blocks-sized}
 use Rattle.standard.proofs.Sponge.{IsSponge}
 use Rattle.standard.proofs.OneBlock.{block-length}
 use Rattle.standard.proofs.ImageStates.{state-image}
@@ -74,7 +74,7 @@ module _ (H : Variant) (g : Streams H) (h : IsSponge H) (m : List Bool) (place :
 -- ---- the answer, by number: front are the checks before those of the place
 
 module _ (front : List Check) (v : ℕ) (k : known v ≡ true) (m : List Bool) (place : ℕ) (image : List ℕ) (n : ℕ)
-    (asked : firstRefusal (front ++ placedChecks (variant v) m place image n) ≡ Done) where
+    (asked : firstRefusal (front ++ placedChecks (variant v) (blockCount (variant v) (length m)) place image n) ≡ Done) where
   abbrev K : Variant
   K = variant v
 
@@ -85,17 +85,17 @@ module _ (front : List Check) (v : ℕ) (k : known v ≡ true) (m : List Bool) (
   empty = isEmpty (leadingTo v m place image)
 
   abbrev status : Status
-  status = firstRefusal ((front ++ placedChecks (variant v) m place image n) ++ foundChecks v m place image)
+  status = firstRefusal ((front ++ placedChecks (variant v) (blockCount (variant v) (length m)) place image n) ++ foundChecks v m place image)
 
   p : Placed v m place image n
-  p = checks-passed v k m place image n (row-both front (placedChecks K m place image n) asked .1)
+  p = checks-passed v k m place image n (row-both front (placedChecks K (blockCount K (length m)) place image n) asked .1)
 
   lS : length S ≡ K .t
   lS = image-state v k image (p .good)
 
   answer : (t : Bool) → empty ≡ t → status ≡ cond (not t) Done (Refused NoBlock)
   answer t e =
-      row-second (front ++ placedChecks K m place image n) (foundChecks v m place image) asked ∙ ap (λ (x : Bool). cond (not x) Done (Refused NoBlock)) e
+      row-second (front ++ placedChecks K (blockCount K (length m)) place image n) (foundChecks v m place image) asked ∙ ap (λ (x : Bool). cond (not x) Done (Refused NoBlock)) e
 
   -- it is 8, or the call is done
   pub answer-or-done : (status ≡ Refused NoBlock) ⊎ (status ≡ Done)
@@ -132,7 +132,7 @@ pub record Ready (front : List Check) (v : ℕ) (m : List Bool) (place : ℕ) (o
 -- the answer for the image of a state, and the output after it
 abbrev pub statusFor : List Check → ℕ → List Bool → ℕ → List ℕ → List Bool → Status
 statusFor front v m place out s =
-    firstRefusal ((front ++ placedChecks (variant v) m place (imageOf (variant v) s) (length out)) ++ foundChecks v m place (imageOf (variant v) s))
+    firstRefusal ((front ++ placedChecks (variant v) (blockCount (variant v) (length m)) place (imageOf (variant v) s) (length out)) ++ foundChecks v m place (imageOf (variant v) s))
 
 abbrev pub outputFor : List Check → ℕ → List Bool → ℕ → List ℕ → List Bool → List ℕ
 outputFor front v m place out s = written (statusFor front v m place out s) (recoveredBlock v m place (imageOf (variant v) s)) out
@@ -149,10 +149,11 @@ module _ {front : List Check} {v : ℕ} {m : List Bool} {place : ℕ} {out : Lis
     answered = statusFor front v m place out s
 
     -- no earlier check refuses
-    pub any-asked : firstRefusal (front ++ placedChecks H m place image (length out)) ≡ Done
+    pub any-asked : firstRefusal (front ++ placedChecks H (blockCount H (length m)) place image (length out)) ≡ Done
     any-asked =
-        row-second front (placedChecks H m place image (length out)) (w .passed)
-        ∙ simp (lt-ltb _ _ (w .within), image-is-image H s ls, le-ltb _ _ (w .room))
+        let below : place < blockCount H (length m) = rw (block-count H m) at (w .within) in
+        row-second front (placedChecks H (blockCount H (length m)) place image (length out)) (w .passed)
+        ∙ simp (lt-ltb _ _ below, image-is-image H s ls, le-ltb _ _ (w .room))
 
     pub any-or-done : (answered ≡ Refused NoBlock) ⊎ (answered ≡ Done)
     any-or-done = answer-or-done front v (w .number) m place image (length out) any-asked

@@ -19,9 +19,10 @@ use Rattle.answers.proofs.Rows.{passing-says, row-first, row-second}
 use Rattle.answers.proofs.ByteLaws.{take-bytes}
 use Rattle.standard.specs.Bits.{high-first, bitsIn, pack, unpack}
 use Rattle.standard.specs.Sponge.{Variant, order, stateIn}
-use Rattle.standard.specs.Chain.{blocksOf}
+use Rattle.standard.specs.Chain.{blocksOf, blockCount}
 use Rattle.standard.specs.Variants.{variant, known}
 use Rattle.standard.proofs.BitLaws.{length-bitsIn, length-pack, bitsIn-take, image-eq, pack-bytes}
+use Rattle.standard.proofs.Streaming.{block-count}
 use Rattle.standard.proofs.Tests.{true-not-false}
 use Rattle.standard.proofs.Variants.{Bounds, bounds, streams, sponge}
 use Rattle.sponge.specs.Layout.{packedState, clear, Holds}
@@ -43,11 +44,11 @@ pub record Placed (v : ℕ) (m : List Bool) (place : ℕ) (image : List ℕ) (n 
   pub good : isImage (variant v) image ≡ true
   pub long : blockSize (variant v) ≤ n
 
-pub checks-passed : (v : ℕ) → known v ≡ true → (m : List Bool) (place : ℕ) (image : List ℕ) (n : ℕ) → firstRefusal (placedChecks (variant v) m place image n) ≡ Done
+pub checks-passed : (v : ℕ) → known v ≡ true → (m : List Bool) (place : ℕ) (image : List ℕ) (n : ℕ) → firstRefusal (placedChecks (variant v) (blockCount (variant v) (length m)) place image n) ≡ Done
     → Placed v m place image n
 checks-passed v k m place image n e =
-    let p = passing-says (placedChecks (variant v) m place image n) e in
-    record { number = k; within = ltb-true _ _ (p .0); good = p .1 .0; long = ltb-false _ _ (not-true _ (p .1 .1 .0)) }
+    let p = passing-says (placedChecks (variant v) (blockCount (variant v) (length m)) place image n) e in
+    record { number = k; within = rw (block-count (variant v) m) (ltb-true _ _ (p .0)); good = p .1 .0; long = ltb-false _ _ (not-true _ (p .1 .1 .0)) }
 
 -- ---- the difference in its bytes
 
@@ -192,12 +193,12 @@ module _ (v : ℕ) (m : List Bool) (place : ℕ) (image out : List ℕ) (p : Pla
 -- the answer of the checks of the place and of the search, and the output
 abbrev pub AnsweredAt : ℕ → List Bool → ℕ → List ℕ → List ℕ → Status → List ℕ → Type 0
 AnsweredAt v m place image out s out′ =
-    Answered (placedChecks (variant v) m place image (length out) ++ foundChecks v m place image) (recoveredBlock v m place image) out s out′
+    Answered (placedChecks (variant v) (blockCount (variant v) (length m)) place image (length out) ++ foundChecks v m place image) (recoveredBlock v m place image) out s out′
 
 -- all of it, behind a row of checks of the variant and the message
 module _ (row : List Check) (v : ℕ) (m : List Bool) (place : ℕ) (image out : List ℕ) where
   abbrev rest : List Check
-  rest = placedChecks (variant v) m place image (length out) ++ foundChecks v m place image
+  rest = placedChecks (variant v) (blockCount (variant v) (length m)) place image (length out) ++ foundChecks v m place image
 
   abbrev block : List ℕ
   block = recoveredBlock v m place image

@@ -14,11 +14,11 @@ use lib.Seq.{drop-cons, drop-length}
 use Rattle.standard.specs.Bits.{Order, high-first, bitsIn, filled, xorInto}
 use Rattle.standard.specs.Rounds.{backward}
 use Rattle.standard.specs.Sponge.{Variant, order, permutation, startState, spongePadding, unstep, unrun, stateIn}
-use Rattle.standard.specs.Chain.{padded, wholeBlocks, blocksOf, run}
+use Rattle.standard.specs.Chain.{padded, wholeBlocks, blocksOf, blockCount, run}
 use Rattle.standard.specs.Variants.{variant, known}
 use Rattle.standard.proofs.BitLaws.{length-filled, length-xorInto, xorInto-append, xorInto-zeros}
 use Rattle.standard.proofs.TakenBack.{unrun-one, unrun-none, unrun-length, before-length, wanted-length}
-use Rattle.standard.proofs.Streaming.{Streams}
+use Rattle.standard.proofs.Streaming.{Streams, block-count}
 use Rattle.standard.proofs.PartBytes.{bit-block-count}
 use Rattle.standard.proofs.Variants.{bounds, streams, sponge}
 use Rattle.sponge.specs.Layout.{stateRoom, packedState, packedBlock, blockIn, Holds}
@@ -30,6 +30,10 @@ use Rattle.sponge.proofs.States.{stored, stored-ready}
 use Rattle.recover.specs.Difference.{stateBefore, stateBehind, difference}
 use Rattle.sponge.specs.Parts.{messageIn, HoldsMessage}
 use Rattle.sponge.proofs.PartBytes.{held-length}
+
+-- the blocks of a message of n bits that the code holds
+pub count-held : (v : ℕ) {front : List ℕ} {last n count : ℕ} → HoldsMessage front last n → count ≡ blockCount (variant v) n → count ≡ length (blocksOf (variant v) (messageIn front last n))
+count-held v h e = e ∙ ap (blockCount (variant v)) (sym (held-length h)) ∙ sym (block-count (variant v) _)
 
 module _ (v : ℕ) (k : known v ≡ true) {front : List ℕ} {last n : ℕ} (h : HoldsMessage front last n) where
   abbrev H : Variant

@@ -7,7 +7,7 @@ use lib.Dec.{ltb}
 use lib.ListN.{length}
 use Rattle.standard.specs.Bits.{high-first, pack, bytesFor}
 use Rattle.standard.specs.Sponge.{Variant, stateIn}
-use Rattle.standard.specs.Chain.{byteBits, messageBits, blocksOf}
+use Rattle.standard.specs.Chain.{byteBits, messageBits, blockCount}
 use Rattle.standard.specs.Variants.{variant}
 use Rattle.answers.specs.declared.Refusal.the-variants.{OutputTooShort, BadImage, OutOfRange, NoBlock}
 use Rattle.answers.specs.declared.Status.{Status}
@@ -28,10 +28,10 @@ blockSize H = bytesFor (H .r)
 
 -- ---- of any bit string
 
--- the place, the image and the output of n bytes: 7; 6; 5
-abbrev pub placedChecks : Variant → List Bool → ℕ → List ℕ → ℕ → List Check
-placedChecks H m place image n =
-    unless (ltb place (length (blocksOf H m))) OutOfRange
+-- the place among so many blocks, the image and the output of n bytes: 7; 6; 5
+abbrev pub placedChecks : Variant → ℕ → ℕ → List ℕ → ℕ → List Check
+placedChecks H count place image n =
+    unless (ltb place count) OutOfRange
     ∷ unless (isImage H image) BadImage
     ∷ when (ltb n (blockSize H)) OutputTooShort
     ∷ []
@@ -52,7 +52,7 @@ recoveredBlock v m place image = pack high-first (blockSize (variant v)) (headD 
 
 -- Lost block, before the search: 1; 4; 7; 6; 5
 abbrev pub askedChecks : ℕ → List ℕ → ℕ → List ℕ → ℕ → List Check
-askedChecks v m place image n = messageChecks v (length m) ++ placedChecks (variant v) (byteBits m) place image n
+askedChecks v m place image n = messageChecks v (length m) ++ placedChecks (variant v) (blockCount (variant v) (length (byteBits m))) place image n
 
 -- Lost block: 1; 4; 7; 6; 5; 8
 abbrev pub recoverChecks : ℕ → List ℕ → ℕ → List ℕ → ℕ → List Check
@@ -70,7 +70,7 @@ recoverInto v m place image out = written (recoverStatus v m place image (length
 
 -- Lost block, before the search: 1; 15; 4; 7; 6; 5
 abbrev pub askedBitsChecks : ℕ → List ℕ → ℕ → ℕ → List ℕ → ℕ → List Check
-askedBitsChecks v m k place image n = messageBitsChecks v m k ++ placedChecks (variant v) (messageBits (variant v) m k) place image n
+askedBitsChecks v m k place image n = messageBitsChecks v m k ++ placedChecks (variant v) (blockCount (variant v) (length (messageBits (variant v) m k))) place image n
 
 -- Lost block: 1; 15; 4; 7; 6; 5; 8
 abbrev pub recoverBitsChecks : ℕ → List ℕ → ℕ → ℕ → List ℕ → ℕ → List Check

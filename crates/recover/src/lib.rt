@@ -1,16 +1,16 @@
 // The block of a message that leads to a given end state: the state is run forward to its place, the end state back to it.
 // The inner functions take a message as its whole bytes, a last byte with the rest of its bits and the padding's 1 bit, and the number of its bits.
 ghost use mathlib.Core.Path.{_≡_};
-ghost use mathlib.Core.Bool.{Bool, true};
-ghost use mathlib.Core.List.{List, _++_};
-ghost use Prim.Native.Nat.{_≤_, _<_};
+ghost use mathlib.Core.Bool.{true};
+ghost use mathlib.Core.List.{_++_};
+ghost use Prim.Native.Nat.{_<_};
 ghost use lib.ListN.{length};
 ghost use Rattle.standard.specs.Sponge.{stateIn};
-ghost use Rattle.standard.specs.Chain.{blocksOf};
+ghost use Rattle.standard.specs.Chain.{blocksOf, blockCount};
 ghost use Rattle.standard.specs.Variants.{variant, known};
 ghost use Rattle.answers.specs.declared.Status.the-variants.{Done};
 ghost use Rattle.answers.specs.Checks.{firstRefusal};
-ghost use Rattle.answers.specs.Outputs.{written, mostBits};
+ghost use Rattle.answers.specs.Outputs.{written};
 ghost use Rattle.sponge.specs.Layout.{packedState, Holds};
 ghost use Rattle.sponge.specs.Parts.{messageIn, HoldsMessage};
 ghost use Rattle.recover.specs.Difference.{stateBehind, difference};
@@ -32,15 +32,6 @@ pub fn block_bytes(v: u8) -> usize
     (sizes::block_bits(v) as usize + 7) / 8
 }
 
-// How many blocks a message of so many bits has once it is padded.
-fn block_count(v: u8, bits: usize) -> usize
-    requires { ⌜ known v ≡ true ⌝ }
-    requires { ⌜ bits ≤ mostBits ⌝ }
-    ensures { λ r. ⌜ ((m : List Bool) → length m ≡ bits → r ≡ length (blocksOf (variant v) m)) ⌝ }
-{
-    bits / (sizes::block_bits(v) as usize) + 1
-}
-
 // The state behind block `place` if the message ends in the state `end`: the blocks behind it taken back, the last first.
 fn run_back(
     v: u8,
@@ -57,7 +48,7 @@ fn run_back(
     ensures { λ r. ⌜ r ≡ packedState (variant v) (stateBehind (variant v) (messageIn (now (front .entry)) last bits) place (stateIn (variant v) end)) ⌝ }
 {
     let q = (sizes::block_bits(v) / 4) as usize;
-    let n = block_count(v, bits);
+    let n = sizes::block_count(v, bits);
     let mut s = end;
     for i in place + 1..n {
         let j = place + n - i;
@@ -102,7 +93,7 @@ fn put_block(
 ) -> Status
     requires { ⌜ known v ≡ true ⌝ }
     requires { ⌜ HoldsMessage (now front) last bits ⌝ }
-    requires { ⌜ firstRefusal (placedChecks (variant v) (messageIn (now front) last bits) place (now image) (length (now out))) ≡ Done ⌝ }
+    requires { ⌜ firstRefusal (placedChecks (variant v) (blockCount (variant v) (length (messageIn (now front) last bits))) place (now image) (length (now out))) ≡ Done ⌝ }
     ensures { λ r. ⌜ (r ≡ firstRefusal (foundChecks v (messageIn (now (front .entry)) last bits) place (now (image .entry))))
         × (now (out .exit) ≡ written r (recoveredBlock v (messageIn (now (front .entry)) last bits) place (now (image .entry))) (now (out .entry))) ⌝ }
 {
@@ -115,13 +106,12 @@ fn put_block(
     Status::Done
 }
 
-// Whether a message of so many bits has a block at the place, the image is one, and n bytes of output hold a block: refusals 7, 6, 5.
-fn check_place(v: u8, bits: usize, place: usize, image: &[u8], n: usize) -> Status
+// Whether the place is among so many blocks, the image is one, and n bytes of output hold a block: refusals 7, 6, 5.
+fn check_place(v: u8, count: usize, place: usize, image: &[u8], n: usize) -> Status
     requires { ⌜ known v ≡ true ⌝ }
-    requires { ⌜ bits ≤ mostBits ⌝ }
-    ensures { λ r. ⌜ ((m : List Bool) → length m ≡ bits → r ≡ firstRefusal (placedChecks (variant v) m place (now (image .entry)) n)) ⌝ }
+    ensures { λ r. ⌜ r ≡ firstRefusal (placedChecks (variant v) count place (now (image .entry)) n) ⌝ }
 {
-    if block_count(v, bits) <= place {
+    if count <= place {
         return Status::Refused(Refusal::OutOfRange);
     }
     if !images::is_image(v, image) {
@@ -145,11 +135,12 @@ fn recover_at(
 ) -> Status
     requires { ⌜ known v ≡ true ⌝ }
     requires { ⌜ HoldsMessage (now front) last bits ⌝ }
-    ensures { λ r. ⌜ (r ≡ firstRefusal (placedChecks (variant v) (messageIn (now (front .entry)) last bits) place (now (image .entry)) (length (now (out .entry)))
+    ensures { λ r. ⌜ (r ≡ firstRefusal (placedChecks (variant v) (blockCount (variant v) (length (messageIn (now (front .entry)) last bits))) place (now (image .entry)) (length (now (out .entry)))
         ++ foundChecks v (messageIn (now (front .entry)) last bits) place (now (image .entry))))
         × (now (out .exit) ≡ written r (recoveredBlock v (messageIn (now (front .entry)) last bits) place (now (image .entry))) (now (out .entry))) ⌝ }
 {
-    let s = check_place(v, bits, place, image, out.len());
+    let count = sizes::block_count(v, bits);
+    let s = check_place(v, count, place, image, out.len());
     let Status::Done = s else {
         return s;
     };

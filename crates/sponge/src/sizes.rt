@@ -1,8 +1,11 @@
 // The sizes of the variants.
 ghost use mathlib.Core.Path.{_≡_};
+ghost use mathlib.Core.Bool.{true};
 ghost use Prim.Native.Nat.{_*_, _/_, _≤_};
 ghost use Rattle.standard.specs.Sponge.{imageSize};
+ghost use Rattle.standard.specs.Chain.{blockCount};
 ghost use Rattle.standard.specs.Variants.{variant, known};
+ghost use Rattle.answers.specs.Outputs.{mostBits};
 ghost use Rattle.sponge.specs.Layout.{stateRoom};
 
 // Room for the state of every variant, for a block and for a digest.
@@ -76,6 +79,15 @@ pub fn block_bits(v: u8) -> u32
     ensures { λ r. ⌜ r ≡ variant v .r ⌝ }
 {
     sizes_of(v).block
+}
+
+// How many blocks a message of so many bits has once it is padded.
+pub fn block_count(v: u8, bits: usize) -> usize
+    requires { ⌜ known v ≡ true ⌝ }
+    requires { ⌜ bits ≤ mostBits ⌝ }
+    ensures { λ r. ⌜ r ≡ blockCount (variant v) bits ⌝ }
+{
+    bits / (block_bits(v) as usize) + 1
 }
 
 pub fn image_bytes(v: u8) -> usize

@@ -16,6 +16,7 @@ use Rattle.standard.specs.PartBytes.{beforeLast, lastOf, SameMessage}
 use Rattle.standard.specs.Variants.{variant, known}
 use Rattle.standard.proofs.BitLaws.{length-bitsOf, length-bitsIn, bitsIn-append, pack-bitsIn, valueOf-bitsOf}
 use Rattle.standard.proofs.HighBits.{bits-mod}
+use Rattle.standard.proofs.Streaming.{block-count}
 use Rattle.standard.proofs.Sponge.{blocks-injective, sponge-count}
 use Rattle.standard.proofs.Variants.{streams, sponge}
 
@@ -97,7 +98,7 @@ counted-lt (spongent p) k b h l = mod-lt b {m = 2 ^ k} (pow-pos k)
 
 -- n bits give floor(n / r) + 1 blocks
 pub bit-block-count : (v : ℕ) → known v ≡ true → (m : List Bool) → length (blocksOf (variant v) m) ≡ length m / variant v .r + 1
-bit-block-count v k m = sponge-count (variant v) (streams v k) (sponge v k) m
+bit-block-count v k m = block-count (variant v) m ∙ sponge-count (variant v) (streams v k) (sponge v k) (length m)
 
 -- Two different bit strings never have the same padded row.
 pub rows-tell : (v : ℕ) → known v ≡ true → (x y : List Bool) → blocksOf (variant v) x ≡ blocksOf (variant v) y → x ≡ y

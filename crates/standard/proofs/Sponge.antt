@@ -11,11 +11,11 @@ use lib.ListN.{length, replicate, length-replicate}
 use Rattle.standard.specs.Bits.{high-first, reordered, xorInto}
 use Rattle.standard.specs.Rounds.{Direction, forward, opposite}
 use Rattle.standard.specs.Sponge.{Family, photon, spongent, Variant, order, permutation, startState, spongePadding, spongeStep}
-use Rattle.standard.specs.Chain.{paddingOf, padding, padded, blocksOf, stepOf, step}
+use Rattle.standard.specs.Chain.{paddingOf, padding, padded, blocksOf, blockCount, stepOf, step}
 use Rattle.standard.proofs.Tests.{true-not-false}
 use Rattle.standard.proofs.BitLaws.{length-xorInto, xorInto-twice, xor-back}
 use Rattle.standard.proofs.Reordered.{reordered-injective, length-reordered}
-use Rattle.standard.proofs.Streaming.{Streams, block-count, blocks-join}
+use Rattle.standard.proofs.Streaming.{Streams, blocks-join}
 
 -- ---- where a padded string ends
 
@@ -131,8 +131,9 @@ module _ (H : Variant) (g : Streams H) (h : IsSponge H) where
       padded-injective H h x y (sym (blocks-join H g x) ∙ ap (flatMap (λ b. b)) e ∙ blocks-join H g y)
 
   -- n bits give floor(n / r) + 1 blocks
-  pub sponge-count : (m : List Bool) → length (blocksOf H m) ≡ length m / H .r + 1
-  sponge-count m = rw (block-count, fills H h (g .rate-pos) (length m)) (mul-div-left (length m / H .r + 1) (g .rate-pos))
+  pub sponge-count : (n : ℕ) → blockCount H n ≡ n / H .r + 1
+  unfolding blockCount
+  sponge-count n = rw (fills H h (g .rate-pos) n) (mul-div-left (n / H .r + 1) (g .rate-pos))
 
 -- ---- the families
 

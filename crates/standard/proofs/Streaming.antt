@@ -10,7 +10,7 @@ use lib.ListN.{length, drop, length-append, length-drop}
 use lib.Seq.{drop-append-le, drop-drop, take-all, length-take-le}
 use Rattle.standard.specs.Bits.{cut}
 use Rattle.standard.specs.Sponge.{Variant, startState}
-use Rattle.standard.specs.Chain.{padding, padded, wholeBlocks, restOf, blocksOf, Blocks, step, run, endState}
+use Rattle.standard.specs.Chain.{padding, padded, wholeBlocks, restOf, blocksOf, blockCount, Blocks, step, run, endState}
 use Rattle.standard.proofs.CutLaws.{length-cut, cut-add, cut-append, cut-join}
 
 -- What streaming asks of a variant: a block has bits, start and step keep the state's size, and padding fills the last block.
@@ -113,8 +113,8 @@ pub length-padded : (H : Variant) (m : List Bool) → length (padded H m) ≡ le
 unfolding padded
 length-padded H m = length-append m (padding H (length m))
 
-pub block-count : (H : Variant) (m : List Bool) → length (blocksOf H m) ≡ (length m + length (padding H (length m))) / H .r
-unfolding blocksOf
+pub block-count : (H : Variant) (m : List Bool) → length (blocksOf H m) ≡ blockCount H (length m)
+unfolding blocksOf blockCount
 block-count H m = rw (length-whole, length-padded)
 
 -- every block of a message has r bits

@@ -21,7 +21,7 @@ use Rattle.standard.proofs.PhotonLaws.{Sound}
 use Rattle.standard.proofs.PhotonVariants.{sound100, sound144, sound196, sound256, sound288}
 use Rattle.standard.proofs.MatrixLaws.{length-photonPermutation, photonPermutation-undo}
 use Rattle.standard.proofs.SpongentLaws.{length-spongentPermutation, spongentPermutation-undo}
-use Rattle.standard.proofs.Streaming.{Streams}
+use Rattle.standard.proofs.Streaming.{Streams, block-count}
 use Rattle.standard.proofs.Sponge.{IsSponge, padding-sponge, step-sponge, sponge-streams, sponge-count}
 use Rattle.standard.proofs.OneBlock.{changed-block}
 
@@ -139,7 +139,7 @@ permutation-length v k = sponge v k .keeps
 
 -- L bytes give floor(8 L / r) + 1 blocks
 pub message-block-count : (v : ℕ) → known v ≡ true → (m : List ℕ) → length (blocksOf (variant v) (byteBits m)) ≡ 8 * length m / variant v .r + 1
-message-block-count v k m = rw (sponge-count (variant v) (streams v k) (sponge v k), length-bitsIn)
+message-block-count v k m = rw (block-count, length-bitsIn) (sponge-count (variant v) (streams v k) (sponge v k) (8 * length m))
 
 -- Demand 3, first sentence. Two rows of blocks of r bits, of equal count, that differ at exactly one place i:
 -- the whole states after k blocks from the start state differ if and only if i < k.

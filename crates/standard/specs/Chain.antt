@@ -4,7 +4,7 @@
 use mathlib.Core.Path.{_≡_}
 use mathlib.Core.Bool.{Bool}
 use mathlib.Core.List.{List, [], _∷_, _++_, foldl}
-use Prim.Native.Nat.{ℕ, _-_, _*_, _/_, _%_, _^_, _<_}
+use Prim.Native.Nat.{ℕ, _+_, _-_, _*_, _/_, _%_, _^_, _<_}
 use lib.ListN.{length, getD, drop}
 use Rattle.standard.specs.Bits.{high-first, bitsOf, bitsIn, cut}
 use Rattle.standard.specs.Sponge.{Family, photon, spongent, Variant, startState, spongePadding, spongeStep, digestFrom}
@@ -54,6 +54,10 @@ restOf r bs = drop (length bs / r * r) bs
 -- 5.2.3, 5.3.3: m_0, .., m_{l-1}, the blocks of the padded message
 unfoldable pub blocksOf : Variant → List Bool → List (List Bool)
 blocksOf H m = wholeBlocks (H .r) (padded H m)
+
+-- 5.2.3, 5.3.3: l, how many blocks a message of n bits has
+unfoldable pub blockCount : Variant → ℕ → ℕ
+blockCount H n = (n + length (padding H n)) / H .r
 
 -- every block of the row has r bits
 abbrev pub Blocks : ℕ → List (List Bool) → Type 0

@@ -6,36 +6,25 @@ use Rattle.sponge.specs.Words.{outcome}
 use native.Mathlib.Omega.{arith}
 use borrow.Author.Needs.{needs}
 use Rattle.hasher.proofs.Calls.{outcome-front}
-use Rattle.hasher.proofs.WholeRuns.{some, count-most, end-run}
+use Rattle.hasher.proofs.WholeRuns.{count-most, end-run}
 use Rattle.hasher.proofs.end_of.Statement.{statement}
 use Rattle.hasher.proofs.end_of.Tie as tie
 
-div-count : tie.Need-div-count
-div-count c =
-    let start = c .before .before in
-    some (start .args .v) (start .pre .0) (start .args .bits) _ (c .block-bits .ensures)
-
-add-count : tie.Need-add-count
-add-count c =
-    let start = c .before .before in
-    omega (arith, count-most (start .args .v) (start .pre .0) (start .args .bits) _ (c .block-bits .ensures) (start .pre .1 .short))
-
 outcome-after-requires : tie.Need-outcome-after-requires
 outcome-after-requires c κs =
-    let size = c .before .before .before in
-    let start = size .before .before in
-    (start .pre .0, omega arith, omega (arith, count-most (start .args .v) (start .pre .0) (start .args .bits) _ (size .block-bits .ensures) (start .pre .1 .short)))
+    let counted = c .before .before .before in
+    let start = counted .before .before in
+    (start .pre .0, omega arith, omega (arith, count-most (start .args .v) (start .pre .0) _ _ (counted .block-count .ensures) (omega (arith, start .pre .1 .short))))
 
 returns : tie.Need-returns
 returns c =
-    let size = c .before .before .before .before in
-    let start = size .before .before in
+    let counted = c .before .before .before .before in
+    let start = counted .before .before in
     let a = start .args in
     let told = c .before .before in
-    let end = end-run (a .v) (start .pre .0) (a .bits) _ (size .block-bits .ensures) (a .front .now) (a .last) (start .pre .1) (told .before .start .result) [] (told .before .start .ensures) in
+    let end = end-run (a .v) (start .pre .0) (a .bits) _ (counted .block-count .ensures) (a .front .now) (a .last) (start .pre .1) (told .before .start .result) [] (told .before .start .ensures) in
     outcome-front (a .v) (start .pre .0) (a .wanted) _ refl _ _ (c .outcome-after .ensures ∙ ap₂ (outcome (variant (a .v))) (told .is-digest .ensures) end)
 
 pub end-of-spec : {M : Type 1} → statement M
 end-of-spec =
-    tie.close (tie.spec (λ c κs. search needs) (λ c. search needs) div-count add-count
-    (λ c κs. search needs) (λ c κs. search needs) (λ c. search needs) outcome-after-requires returns)
+    tie.close (tie.spec (λ c κs. (c .before .pre .0, omega (arith, c .before .pre .1 .short))) (λ c κs. search needs) (λ c κs. search needs) (λ c. search needs) outcome-after-requires returns)

@@ -6,27 +6,23 @@ use Rattle.recover.proofs.check_place.Statement.{statement}
 use Rattle.recover.proofs.check_place.Tie as tie
 
 returns : tie.Need-returns
-returns c m l = rw (← c .before .block-count .ensures m l, le-ltb _ _ (c .if1 .taken))
+returns c = rw (le-ltb _ _ (c .if1 .taken))
 
 returns-2 : tie.Need-returns-2
-returns-2 c m l =
-    let within = c .before .before in
-    rw (← within .before .block-count .ensures m l, lt-ltb _ _ (within .if1 .left), sym (c .before .is-image .ensures) ∙ not-true _ (c .if2 .taken))
+returns-2 c = rw (lt-ltb _ _ (c .before .before .if1 .left), sym (c .before .is-image .ensures) ∙ not-true _ (c .if2 .taken))
 
 returns-3 : tie.Need-returns-3
-returns-3 c m l =
+returns-3 c =
     let good = c .before .before in
-    let within = good .before .before in
     let image = sym (good .before .is-image .ensures) ∙ not-false _ (good .if2 .left) in
-    rw (← within .before .block-count .ensures m l, lt-ltb _ _ (within .if1 .left), image, ← c .before .block-bytes .ensures, lt-ltb _ _ (c .if3 .taken))
+    rw (lt-ltb _ _ (good .before .before .if1 .left), image, ← c .before .block-bytes .ensures, lt-ltb _ _ (c .if3 .taken))
 
 returns-4 : tie.Need-returns-4
-returns-4 c m l =
+returns-4 c =
     let good = c .before .before in
-    let within = good .before .before in
     let image = sym (good .before .is-image .ensures) ∙ not-false _ (good .if2 .left) in
-    rw (← within .before .block-count .ensures m l, lt-ltb _ _ (within .if1 .left), image, ← c .before .block-bytes .ensures, le-ltb _ _ (c .if3 .left))
+    rw (lt-ltb _ _ (good .before .before .if1 .left), image, ← c .before .block-bytes .ensures, le-ltb _ _ (c .if3 .left))
 
 pub check-place-spec : {M : Type 1} → statement M
 check-place-spec =
-    tie.close (tie.spec (λ c κs. search needs) returns (λ c κs. search needs) returns-2 (λ c κs. search needs) returns-3 returns-4)
+    tie.close (tie.spec returns (λ c κs. search needs) returns-2 (λ c κs. search needs) returns-3 returns-4)

@@ -12,8 +12,7 @@ use Rattle.sponge.specs.Blocks.{heldThen}
 use Rattle.sponge.proofs.BlockRuns.{few-halves, block-at-ready}
 use Rattle.sponge.proofs.States.{state-length}
 use Rattle.sponge.specs.Parts.{messageIn}
-use Rattle.sponge.proofs.PartBytes.{held-length}
-use Rattle.recover.proofs.Runs.{few, place-low, place-fits, back-start, back-at, back-ready, back-more}
+use Rattle.recover.proofs.Runs.{count-held, few, place-low, place-fits, back-start, back-at, back-ready, back-more}
 use borrow.Author.Needs.{needs}
 use Rattle.recover.proofs.run_back.Statement.{statement}
 use Rattle.recover.proofs.run_back.Tie as tie
@@ -27,10 +26,10 @@ abbrev μ-loop : tie.MeasureT-loop
 μ-loop v front last bits place q n s₀ i₀ t12 s i = n - i
 
 -- how many blocks the message has
-abbrev blockCount : tie.Start Inv-loop μ-loop → ℕ
-blockCount s = length (blocksOf (variant (s .args .v)) (messageIn (s .args .front .now) (s .args .last) (s .args .bits)))
+abbrev many : tie.Start Inv-loop μ-loop → ℕ
+many s = length (blocksOf (variant (s .args .v)) (messageIn (s .args .front .now) (s .args .last) (s .args .bits)))
 
-few-blocks : (s : tie.Start Inv-loop μ-loop) → blockCount s ≤ 2 ^ 32
+few-blocks : (s : tie.Start Inv-loop μ-loop) → many s ≤ 2 ^ 32
 few-blocks s = few (s .args .v) (s .pre .0) (s .pre .1 .0)
 
 end-long : (s : tie.Start Inv-loop μ-loop) → length (stateIn (variant (s .args .v)) (s .args .end)) ≡ variant (s .args .v) .t
@@ -39,8 +38,10 @@ end-long s = state-length (s .args .v) (s .pre .0) (s .args .end) (omega arith)
 quarter : (c : tie.After-block-bits Inv-loop μ-loop) → c .block-bits .result / 4 ≡ variant (c .before .before .args .v) .r / 4
 quarter c = ap (λ (n : ℕ). n / 4) (c .block-bits .ensures)
 
-counted : (c : tie.After-block-count Inv-loop μ-loop) → c .block-count .result ≡ blockCount (c .before .before .before)
-counted c = c .block-count .ensures _ (held-length (c .before .before .before .pre .1 .0))
+counted : (c : tie.After-block-count Inv-loop μ-loop) → c .block-count .result ≡ many (c .before .before .before)
+counted c =
+    let s = c .before .before .before in
+    count-held (s .args .v) (s .pre .1 .0) (c .block-count .ensures)
 
 loop-holds : tie.Need-loop-holds Inv-loop μ-loop
 loop-holds c =
