@@ -9,7 +9,7 @@ use native.Mathlib.Omega.{arith}
 use lib.ListN.{take, drop, replicate}
 use lib.Seq.{take-at, drop-at}
 use lib.Pow.{pow-pos}
-use Rattle.standard.specs.Bits.{Order, high-first, bit, lowBits, lowValue, ordered, bitsOf, valueOf}
+use Rattle.standard.specs.Bits.{Order, high-first, lowBits, lowValue, ordered, bitsOf, valueOf}
 use Rattle.standard.proofs.BitLaws.{length-bitsOf, ordered-ordered, lowValue-of, bitsOf-valueOf, lowBits-add, zeros-of, reverse-replicate}
 
 -- a high bits, and w low ones behind them

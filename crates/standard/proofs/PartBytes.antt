@@ -11,7 +11,7 @@ use lib.Seq.{take-at, drop-at, split-at, length-take-le}
 use lib.Pow.{pow-pos, shr-lt}
 use Rattle.standard.specs.Bits.{high-first, bitsOf, valueOf, bitsIn, pack}
 use Rattle.standard.specs.Sponge.{Family, photon, spongent, Variant}
-use Rattle.standard.specs.Chain.{byteBits, countedOf, messageBits, padded, blocksOf}
+use Rattle.standard.specs.Chain.{byteBits, countedOf, messageBits, blocksOf}
 use Rattle.standard.specs.PartBytes.{beforeLast, lastOf, SameMessage}
 use Rattle.standard.specs.Variants.{variant, known}
 use Rattle.standard.proofs.BitLaws.{length-bitsOf, length-bitsIn, bitsIn-append, pack-bitsIn, valueOf-bitsOf}
