@@ -9,7 +9,7 @@ use lib.ListN.{getD}
 use types.Run.{OneOf, miss}
 use denote.Enum.Declared.{tagOf}
 use Rattle.answers.specs.declared.Refusal.{Refusal}
-use Rattle.answers.specs.declared.Refusal.the-variants.{UnknownVariant, Malformed, WrongStage, TooLong, OutputTooShort, BadImage, OutOfRange, NoBlock, BadList, Misordered, PastEnd, BadManifest, BadRecord, NotRising, BadBitNumber, InsideByte}
+use Rattle.answers.specs.declared.Refusal.the-variants.{UnknownVariant, Malformed, WrongStage, TooLong, OutputTooShort, BadImage, OutOfRange, NoBlock, BadList, Misordered, PastEnd, BadManifest, BadRecord, NotRising, BadBitNumber, InsideByte, NotSponge}
 use Rattle.answers.specs.declared.Status.{Status}
 use Rattle.answers.specs.declared.Status.the-variants.{Done, Refused}
 use Rattle.answers.specs.Refusals.{number, entry, answer}
@@ -49,7 +49,7 @@ abbrev refusalOf : ℕ → ℕ → Refusal
 refusalOf n k =
     getD
     (UnknownVariant ∷ UnknownVariant ∷ Malformed ∷ WrongStage ∷ TooLong ∷ OutputTooShort ∷ BadImage ∷ OutOfRange ∷ NoBlock ∷ BadList ∷ Misordered k ∷ PastEnd k
-    ∷ BadManifest ∷ BadRecord ∷ NotRising ∷ BadBitNumber ∷ InsideByte ∷ [])
+    ∷ BadManifest ∷ BadRecord ∷ NotRising ∷ BadBitNumber ∷ InsideByte ∷ NotSponge ∷ [])
     n UnknownVariant
 
 told : (r : Refusal) → (refusalOf (number r) (entry r) ≡ r) × ((0 < number r) × (number r < 256))
@@ -69,6 +69,7 @@ told BadRecord = (refl, omega arith)
 told NotRising = (refl, omega arith)
 told BadBitNumber = (refl, omega arith)
 told InsideByte = (refl, omega arith)
+told NotSponge = (refl, omega arith)
 
 -- the low byte is the refusal's number, and what is above it the entry
 pub answer-number : (r : Refusal) → answer (Refused r) % 256 ≡ number r

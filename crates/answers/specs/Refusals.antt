@@ -2,7 +2,7 @@
 -- Assumes nothing.
 use Prim.Native.Nat.{ℕ, _+_, _*_}
 use Rattle.answers.specs.declared.Refusal.{Refusal}
-use Rattle.answers.specs.declared.Refusal.the-variants.{UnknownVariant, Malformed, WrongStage, TooLong, OutputTooShort, BadImage, OutOfRange, NoBlock, BadList, Misordered, PastEnd, BadManifest, BadRecord, NotRising, BadBitNumber, InsideByte}
+use Rattle.answers.specs.declared.Refusal.the-variants.{UnknownVariant, Malformed, WrongStage, TooLong, OutputTooShort, BadImage, OutOfRange, NoBlock, BadList, Misordered, PastEnd, BadManifest, BadRecord, NotRising, BadBitNumber, InsideByte, NotSponge}
 use Rattle.answers.specs.declared.Status.{Status}
 use Rattle.answers.specs.declared.Status.the-variants.{Done, Refused}
 
@@ -24,6 +24,7 @@ number BadRecord = 13
 number NotRising = 14
 number BadBitNumber = 15
 number InsideByte = 16
+number NotSponge = 17
 
 -- the entry of a list that refusals 10 and 11 name, and 0 elsewhere
 abbrev pub entry : Refusal → ℕ
@@ -43,6 +44,7 @@ entry BadRecord = 0
 entry NotRising = 0
 entry BadBitNumber = 0
 entry InsideByte = 0
+entry NotSponge = 0
 
 -- an answer as one number: that of its refusal, 0 for none, in the low byte, and the entry above it
 abbrev pub answer : Status → ℕ

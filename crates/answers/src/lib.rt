@@ -30,6 +30,7 @@ pub enum Refusal {
     NotRising,
     BadBitNumber,
     InsideByte,
+    NotSponge,
 }
 
 pub enum Status {
@@ -58,6 +59,7 @@ pub fn number_of(r: Refusal) -> u8
         Refusal::NotRising => 14,
         Refusal::BadBitNumber => 15,
         Refusal::InsideByte => 16,
+        Refusal::NotSponge => 17,
     }
 }
 
@@ -82,6 +84,7 @@ pub fn entry_of(r: Refusal) -> u16
         Refusal::NotRising => 0,
         Refusal::BadBitNumber => 0,
         Refusal::InsideByte => 0,
+        Refusal::NotSponge => 0,
     }
 }
 

@@ -3,12 +3,12 @@
 -- Assumes nothing.
 use mathlib.Core.Path.{subst, sym}
 use mathlib.Core.List.{List, [], _∷_}
-use Prim.Native.Nat.{ℕ, zero, suc, _<_}
+use Prim.Native.Nat.{ℕ, zero, suc, _^_, _<_}
 use native.Mathlib.Nat.{not-suc-le-zero, le-of-suc-le-suc}
-use native.Mathlib.Omega.{arith}
+use lib.Pow.{pow-pos}
 use lib.ListN.{length, getD}
-use mir.Syntax.{w8}
-use mir.Val.{Val}
+use mir.Syntax.{Width, w8}
+use mir.Val.{Val, bits}
 use denote.RattleType.{RattleType}
 use denote.Laws.{Is}
 use denote.Shadow.{shadow}
@@ -26,12 +26,16 @@ module _ (R : RattleType) (z : R .Denot) (n : ℕ) (xs : List (R .Denot)) (vs : 
   pub element : (k : ℕ) → k < n → (us : List Val) × Is R (getD xs k z) us
   element k h = each-at R z xs (p .0) (p .1 .1) k (subst (λ (m : ℕ). k < m) (sym (p .1 .0 .1)) h)
 
--- [u8; n]: each element, and the 0 past the end, is below 256
-each-bytes : (xs : List ℕ) (us : List Val) → shadow (each ℕ (UInt w8 .own) xs us) → (i : ℕ) → getD xs i 0 < 256
-each-bytes [] us h i = omega arith
-each-bytes (x ∷ xs) [] h i = absurd h
-each-bytes (x ∷ xs) (u ∷ us) h zero = h .0 .1
-each-bytes (x ∷ xs) (u ∷ us) h (suc i) = each-bytes xs us (h .1) i
+-- an array of numbers: each element, and the 0 past the end, fits their width
+each-fits : (w : Width) (xs : List ℕ) (us : List Val) → shadow (each ℕ (UInt w .own) xs us) → (i : ℕ) → getD xs i 0 < 2 ^ bits w
+each-fits w [] us h i = pow-pos (bits w)
+each-fits w (x ∷ xs) [] h i = absurd h
+each-fits w (x ∷ xs) (u ∷ us) h zero = h .0 .1
+each-fits w (x ∷ xs) (u ∷ us) h (suc i) = each-fits w xs us (h .1) i
 
+pub numbers-lt : (w : Width) (n : ℕ) (xs : List ℕ) (vs : List Val) → Is (Array (UInt w) n) xs vs → (i : ℕ) → getD xs i 0 < 2 ^ bits w
+numbers-lt w n xs vs p i = each-fits w xs (p .0) (p .1 .1) i
+
+-- [u8; n]
 pub bytes-lt : (n : ℕ) (xs : List ℕ) (vs : List Val) → Is (Array (UInt w8) n) xs vs → (i : ℕ) → getD xs i 0 < 256
-bytes-lt n xs vs p i = each-bytes xs (p .0) (p .1 .1) i
+bytes-lt n xs vs p i = numbers-lt w8 n xs vs p i

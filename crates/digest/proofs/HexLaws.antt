@@ -43,5 +43,5 @@ digest-short v =
     ⊎-elim
     (λ h. omega (arith, bounds v (known-true v l (omega arith)) .digest-most))
     (λ h. omega (arith, ap (λ H. H .n) (List·getD-eq-default variants none {n = v} h)))
-    (lt-or-le v 11))
+    (lt-or-le v 12))
     (lt-or-le v 1)

@@ -1,6 +1,6 @@
 -- What each answer of start, update, finish, read and a whole message says, and what it comes to.
 -- Assumes nothing.
-use mathlib.Core.Path.{_≡_, sym, ap, _∙_, ap₂}
+use mathlib.Core.Path.{_≡_, sym, ap, _∙_, ap₂, subst}
 use mathlib.Core.Bool.{true, false, Bool}
 use mathlib.Core.List.{List, _++_}
 use mathlib.Core.Logic.{⊎-elim}
@@ -19,11 +19,12 @@ use Rattle.answers.specs.Checks.{firstRefusal, Pass}
 use Rattle.answers.specs.Outputs.{most, mostBits, whenDone, written}
 use Rattle.answers.proofs.Rows.{passing-says, row-second, row-both}
 use Rattle.standard.specs.Bits.{high-first, pack}
-use Rattle.standard.specs.Sponge.{Variant, order, squeezed, imageSize, imageOf}
+use Rattle.standard.specs.Sponge.{Variant, isSponge, order, givenOut, imageSize, imageOf}
 use Rattle.standard.proofs.BitLaws.{length-pack, take-pack}
 use Rattle.standard.proofs.PartBytes.{bits-length}
 use Rattle.standard.proofs.Tests.{lt-or-le, either}
-use Rattle.standard.proofs.Variants.{Bounds, bounds}
+use Rattle.standard.proofs.Variants.{Bounds, bounds, not-sponge}
+use Rattle.sponge.proofs.Outcomes.{either-way}
 use Rattle.sponge.specs.Layout.{stateRoom, packedState}
 use Rattle.sponge.specs.Words.{outcome}
 use Rattle.sponge.specs.Blocks.{firstBlocks}
@@ -161,12 +162,12 @@ module _ (h : Hasher) where
 
 pub result-length : (H : Variant) (wanted : Wanted) (s : List Bool) → length (resultOf H wanted s) ≡ resultSize H wanted
 unfolding imageOf
-result-length H Digest s = length-pack high-first (H .n / 8) (squeezed H s)
+result-length H Digest s = length-pack high-first (H .n / 8) (givenOut (H .family) H s)
 result-length H EndState s = length-pack (order H) (imageSize H) s
 
 -- a row of no blocks leaves the state that it began with
 pub no-blocks : (v : ℕ) → known v ≡ true → (s bs : List Bool) (bytes : List ℕ) → bytes ≡ outcome (variant v) true (run (variant v) s (firstBlocks (variant v .r) 0 bs))
-    → bytes ≡ pack high-first stateRoom (squeezed (variant v) s)
+    → bytes ≡ pack high-first stateRoom (givenOut (variant v .family) (variant v) s)
 no-blocks v k s bs bytes e = e ∙ ap (outcome (variant v) true) (sym (run-start v k s bs))
 
 -- ---- the first n bytes of what the code holds are the result
@@ -192,18 +193,24 @@ module _ (v : ℕ) (k : known v ≡ true) (wanted : Wanted) (n : ℕ) (en : n �
   outcome-front s bytes eb = go wanted eb
     where
       go : (w : Wanted) → bytes ≡ outcome H (isDigest w) s → take (resultSize H w) bytes ≡ resultOf H w s
-      go Digest e = ap (take (H .n / 8)) e ∙ take-pack high-first (H .n / 8) stateRoom (squeezed H s) (omega (arith, b .digest-most))
+      go Digest e = ap (take (H .n / 8)) e ∙ take-pack high-first (H .n / 8) stateRoom (givenOut (H .family) H s) (omega (arith, b .digest-most))
       go EndState e = ap (take (imageSize H)) e ∙ take-pack (order H) (imageSize H) stateRoom s (b .image-most)
+
+  -- what is no sponge gives its state out as it is
+  pub other-front : isSponge (variant v) ≡ false → (s : List Bool) (bytes : List ℕ) → bytes ≡ packedState (variant v) s → take (resultSize (variant v) wanted) bytes ≡ resultOf (variant v) wanted s
+  other-front q s bytes eb =
+      outcome-front s bytes
+      (subst (λ (m : ℕ). bytes ≡ packedState (variant m) s → bytes ≡ outcome (variant m) (isDigest wanted) s) (sym (not-sponge v k q)) (either-way (isDigest wanted) s bytes) eb)
 
   module _ (s : List Bool) (bytes out after : List ℕ) (ea : after ≡ take n bytes ++ drop n out) where
     pub fronted : take n bytes ≡ resultOf H wanted s → after ≡ written Done (resultOf H wanted s) out
     fronted er = ea ∙ ap₂ (λ (x y : List ℕ). x ++ y) er (ap (λ (i : ℕ). drop i out) (en ∙ sym (result-length H wanted s)))
 
-    pub digest-front : wanted ≡ Digest → bytes ≡ pack high-first stateRoom (squeezed (variant v) s) → after ≡ written Done (resultOf (variant v) wanted s) out
+    pub digest-front : wanted ≡ Digest → bytes ≡ pack high-first stateRoom (givenOut (variant v .family) (variant v) s) → after ≡ written Done (resultOf (variant v) wanted s) out
     digest-front e eb =
         fronted
         (ap₂ take (en ∙ ap (resultSize H) e) eb
-        ∙ take-pack high-first (H .n / 8) stateRoom (squeezed H s) (omega (arith, b .digest-most))
+        ∙ take-pack high-first (H .n / 8) stateRoom (givenOut (H .family) H s) (omega (arith, b .digest-most))
         ∙ ap (λ (w : Wanted). resultOf H w s) (sym e))
 
     pub image-front : wanted ≡ EndState → bytes ≡ packedState (variant v) s → after ≡ written Done (resultOf (variant v) wanted s) out

@@ -1,4 +1,4 @@
--- The laws of the running hash, and the theorems on it: Keeps, UpdateAppend, ByteByByte, Demand2, Bits, Apart.
+-- The laws of the running hash, and the theorems on it: Keeps, UpdateAppend, ByteByByte, Demand2, Bits, Apart, OneMoreBlock.
 pub mod Owned
 pub mod WellFormed
 pub mod Next
@@ -13,3 +13,4 @@ pub mod ByteByByte
 pub mod Demand2
 pub mod Bits
 pub mod Apart
+pub mod OneMoreBlock

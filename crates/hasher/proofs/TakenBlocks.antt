@@ -4,7 +4,7 @@ use mathlib.Core.Path.{_≡_, refl, sym, ap, ap₂, _∙_}
 use mathlib.Core.Bool.{Bool, true, false}
 use mathlib.Core.List.{List, [], _∷_, _++_, append-assoc, append-nil}
 use Prim.Native.Nat.{ℕ, _+_, _-_, _*_, _/_, _%_, _^_, _≤_, _<_}
-use native.Mathlib.Nat.{mod-lt, mod-eq-of-lt, div-eq-of-lt, div-le-self, div-mul-le-self, mul-left-comm}
+use native.Mathlib.Nat.{mod-lt, mod-eq-of-lt, div-le-self, div-mul-le-self, mul-left-comm}
 use native.Mathlib.Omega.{arith}
 use lib.ListN.{length, take, drop, getD, replicate, length-append, take-append-drop}
 use lib.Seq.{take-add, take-append-le, drop-append-le}
@@ -12,25 +12,27 @@ use Rattle.standard.specs.Bits.{high-first, bitsOf, bitsIn, unpack, filled}
 use Rattle.standard.specs.Sponge.{Variant, stateIn}
 use Rattle.standard.specs.Chain.{padding, wholeBlocks, restOf, run}
 use Rattle.standard.proofs.BitLaws.{length-bitsOf, length-unpack, bitsIn-drop, filled-short, pack-none}
-use Rattle.standard.proofs.Sponge.{padding-sponge}
-use Rattle.standard.proofs.Streaming.{Streams, length-rest}
+use Rattle.standard.proofs.Streaming.{Streams, length-rest, run-append, run-length}
 use Rattle.standard.proofs.Variants.{Bounds, bounds, streams}
 use Rattle.answers.specs.Outputs.{mostBits}
-use Rattle.sponge.specs.Layout.{blockRoom, packedState, packedBlock, clear}
+use Rattle.sponge.specs.Layout.{blockRoom, packedState, packedBlock, Holds, clear}
+use Rattle.sponge.specs.Endings.{markedCount, lengthBlocks}
 use Rattle.sponge.specs.Blocks.{heldThen, firstBlocks}
 use Rattle.sponge.proofs.Clear.{first-byte, clear-zeros}
-use Rattle.sponge.proofs.BlockRows.{withOne, whole-first, first-zeros, filled-zeros, pack-zeros, padded-first}
+use Rattle.sponge.proofs.BlockRows.{withOne, whole-first, first-zeros, filled-zeros, pack-zeros}
+use Rattle.sponge.proofs.LastBlocks.{ending-blocks}
+use Rattle.sponge.proofs.States.{stored, stored-ready}
 use Rattle.hasher.specs.declared.Hasher.{Hasher}
 use Rattle.hasher.specs.Running.{variantOf, heldCount, wholeSoFar, heldIn, stateOf, Open, grown, ended}
 use Rattle.hasher.proofs.Owned.{Owned}
-use Rattle.hasher.proofs.WellFormed.{Facts, facts, open-count, count-lt, count-quarters, held-long}
+use Rattle.hasher.proofs.WellFormed.{Facts, facts, open-count, count-lt, count-quarters, state-long, held-long}
 
 -- n bits in blocks of b: the numbers that the code counts with are small
 pub record Small (n b : ℕ) : Type 0 where
   pub some : 0 < b
   pub count : n / b ≤ 2 ^ 32
   pub place : n / b * (b / 4) ≤ 2 ^ 40
-  pub left : (n % b + 3) / 4 ≤ 10
+  pub left : (n % b + 3) / 4 ≤ 32
 
 -- c bits are held
 module _ {h : Hasher} (w : Owned h) (o : Open h) {c : ℕ} (ec : c ≡ heldCount h) where
@@ -192,19 +194,35 @@ module _ {h : Hasher} (w : Owned h) (o : Open h) {c : ℕ} (ec : c ≡ heldCount
     same-left : h .total % H .r ≡ length (heldIn h) % H .r
     same-left = sym (mod-eq-of-lt short ∙ held-long h f (w .sized) ∙ open-count h (o .1))
 
-    last-block : firstBlocks (H .r) 1 (heldThen (h .held) (2 * (c / 8)) (x ∷ [])) ≡ wholeBlocks (H .r) (heldIn h ++ padding H (h .total))
-    last-block =
-        ap (firstBlocks (H .r) 1) marked
-        ∙ first-zeros (H .r) 1 (withOne (heldIn h)) (7 - c % 8)
-        ∙ ap (λ (k : ℕ). firstBlocks (H .r) (k + 1) (withOne (heldIn h))) (sym (div-eq-of-lt short))
-        ∙ padded-first (H .r) (S .rate-pos) (heldIn h) (h .total) same-left
-        ∙ ap (λ (y : List Bool). wholeBlocks (H .r) (heldIn h ++ y)) (sym (padding-sponge H (h .total)))
+    -- the blocks that the code runs, and the length's behind them
+    last-blocks : firstBlocks (H .r) (markedCount H c) (heldThen (h .held) (2 * (c / 8)) (x ∷ [])) ++ lengthBlocks H (h .total) ≡ wholeBlocks (H .r) (heldIn h ++ padding H (h .total))
+    last-blocks =
+        let many : c ≡ length (heldIn h) = ec ∙ sym (held-long h f (w .sized)) in
+        ap (λ (bs : List (List Bool)). bs ++ lengthBlocks H (h .total))
+        (ap (firstBlocks (H .r) (markedCount H c)) marked
+        ∙ first-zeros (H .r) (markedCount H c) (withOne (heldIn h)) (7 - c % 8)
+        ∙ ap (λ (k : ℕ). firstBlocks (H .r) (markedCount H k) (withOne (heldIn h))) many)
+        ∙ sym (ending-blocks (h .variant) (f .named) (heldIn h) (h .total) same-left)
 
-    pub end-taken : (s : List ℕ)
-        → s ≡ packedState (variantOf h) (run (variantOf h) (stateIn (variantOf h) (h .state)) (firstBlocks (variantOf h .r) 1 (heldThen (h .held) (2 * (c / 8)) (x ∷ []))))
-        → record { total = h .total; variant = h .variant; stage = 1; state = s; held = replicate blockRoom 0 } ≡ ended h
-    unfolding ended
-    end-taken s es =
-        ap₂ (λ (x y : List ℕ). record { total = h .total; variant = h .variant; stage = 1; state = x; held = y })
-        (es ∙ ap₂ (λ (u : List Bool) (bs : List (List Bool)). packedState H (run H u bs)) state-is last-block)
-        (sym (pack-none high-first blockRoom))
+    -- s is the state after the blocks of the held bits, and e the one after the length's
+    module _ (s e : List ℕ)
+        (es : s ≡ packedState (variantOf h) (run (variantOf h) (stateIn (variantOf h) (h .state)) (firstBlocks (variantOf h .r) (markedCount (variantOf h) c) (heldThen (h .held) (2 * (c / 8)) (x ∷ []))))) where
+      abbrev after : List Bool
+      after = run H (stateIn H (h .state)) (firstBlocks (H .r) (markedCount H c) (heldThen (h .held) (2 * (c / 8)) (x ∷ [])))
+
+      after-long : length after ≡ H .t
+      after-long = run-length H S (firstBlocks (H .r) (markedCount H c) (heldThen (h .held) (2 * (c / 8)) (x ∷ []))) (stateIn H (h .state)) (ap length state-is ∙ state-long h f (w .sized))
+
+      pub marked-ready : Holds (h .variant) s
+      marked-ready = stored-ready (h .variant) (f .named) s after after-long es
+
+      pub end-taken : e ≡ packedState (variantOf h) (run (variantOf h) (stateIn (variantOf h) s) (lengthBlocks (variantOf h) (h .total)))
+          → record { total = h .total; variant = h .variant; stage = 1; state = e; held = replicate blockRoom 0 } ≡ ended h
+      unfolding ended
+      end-taken ee =
+          ap₂ (λ (x y : List ℕ). record { total = h .total; variant = h .variant; stage = 1; state = x; held = y })
+          (ee
+          ∙ ap (λ (u : List Bool). packedState H (run H u (lengthBlocks H (h .total)))) (stored (h .variant) (f .named) s after after-long es)
+          ∙ ap (packedState H) (sym (run-append H (stateIn H (h .state)) (firstBlocks (H .r) (markedCount H c) (heldThen (h .held) (2 * (c / 8)) (x ∷ []))) (lengthBlocks H (h .total))))
+          ∙ ap₂ (λ (u : List Bool) (bs : List (List Bool)). packedState H (run H u bs)) state-is last-blocks)
+          (sym (pack-none high-first blockRoom))

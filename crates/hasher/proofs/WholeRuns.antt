@@ -1,35 +1,37 @@
 -- A whole message in one run: the blocks of the bytes that hold it are the standard's, and lead to its end state.
 -- Assumes nothing.
-use mathlib.Core.Path.{_≡_, sym, ap, ap₂, _∙_}
-use mathlib.Core.Bool.{Bool, true}
+use mathlib.Core.Path.{_≡_, refl, sym, ap, ap₂, _∙_}
+use mathlib.Core.Bool.{Bool, true, cond}
 use mathlib.Core.List.{List, [], _∷_, _++_}
-use Prim.Native.Nat.{ℕ, _+_, _/_, _^_, _≤_}
-use native.Mathlib.Nat.{div-le-self}
+use Prim.Native.Nat.{ℕ, _^_, _≤_}
 use native.Mathlib.Omega.{arith}
 use lib.ListN.{length}
-use Rattle.standard.specs.Sponge.{Variant, startState, stateIn}
-use Rattle.standard.specs.Chain.{wholeBlocks, padded, blocksOf, blockCount, run, endState}
+use Rattle.standard.specs.Sponge.{Variant, isSponge, startState, stateIn}
+use Rattle.standard.specs.Chain.{padded, blocksOf, run, endState}
 use Rattle.standard.specs.Variants.{variant, known}
-use Rattle.standard.proofs.Sponge.{padding-sponge, sponge-count}
-use Rattle.standard.proofs.Variants.{streams, sponge}
+use Rattle.standard.proofs.Streaming.{run-append, run-length, run-none}
+use Rattle.standard.proofs.Variants.{streams}
 use Rattle.answers.specs.Outputs.{mostBits}
-use Rattle.sponge.specs.Layout.{packedState}
+use Rattle.sponge.specs.Layout.{packedState, Holds}
 use Rattle.sponge.specs.Blocks.{heldThen, firstBlocks}
+use Rattle.sponge.specs.Endings.{markedCount, lengthBlock, lengthBlocks}
 use Rattle.sponge.specs.Parts.{messageIn, HoldsMessage}
-use Rattle.sponge.proofs.BlockRows.{marked-first, heldThen-alone}
+use Rattle.sponge.proofs.BlockRows.{marked-blocks, heldThen-alone}
+use Rattle.sponge.proofs.LastBlocks.{ending-blocks, marked-most}
 use Rattle.sponge.proofs.PartBytes.{held-length}
-use Rattle.sponge.proofs.States.{stored}
+use Rattle.sponge.proofs.States.{stored, stored-ready}
 
--- a message of n bits, and its blocks
-module _ (v : ℕ) (k : known v ≡ true) (n count : ℕ) (e : count ≡ blockCount (variant v) n) where
+-- the bytes of a start hold a state
+pub start-ready : (v : ℕ) → known v ≡ true → (s : List ℕ) → s ≡ packedState (variant v) (startState (variant v)) → Holds v s
+start-ready v k s e = stored-ready v k s (startState (variant v)) (streams v k .start-length) e
+
+-- a message of n bits, and its blocks but the length's
+module _ (v : ℕ) (k : known v ≡ true) (n count : ℕ) (e : count ≡ markedCount (variant v) n) where
   abbrev H : Variant
   H = variant v
 
-  count-is : count ≡ n / H .r + 1
-  count-is = e ∙ sponge-count H (streams v k) (sponge v k) n
-
   pub count-most : n ≤ mostBits → count ≤ 2 ^ 32
-  count-most few = omega (arith, count-is, div-le-self n (H .r))
+  count-most few = omega (arith, marked-most v k n)
 
   module _ (front : List ℕ) (last : ℕ) (holds : HoldsMessage front last n) where
     abbrev bytes : List ℕ
@@ -38,14 +40,41 @@ module _ (v : ℕ) (k : known v ≡ true) (n count : ℕ) (e : count ≡ blockCo
     abbrev M : List Bool
     M = messageIn front last n
 
-    all-blocks : (held : List ℕ) → firstBlocks (H .r) count (heldThen held 0 bytes) ≡ blocksOf H M
+    -- with the length's behind them they are all
+    all-blocks : (held : List ℕ) → firstBlocks (H .r) count (heldThen held 0 bytes) ++ lengthBlocks H n ≡ blocksOf H M
     unfolding blocksOf padded
     all-blocks held =
-        ap₂ (firstBlocks (H .r)) (count-is ∙ ap (λ (i : ℕ). i / H .r + 1) (sym (held-length holds))) (heldThen-alone held bytes)
-        ∙ marked-first (H .r) (streams v k .rate-pos) M bytes (holds .marked)
-        ∙ ap (λ (x : List Bool). wholeBlocks (H .r) (M ++ x)) (sym (padding-sponge H (length M)))
+        let many : length M ≡ n = held-length holds in
+        ap₂ (λ (bs : List (List Bool)) (m : ℕ). bs ++ lengthBlocks H m)
+        (ap₂ (firstBlocks (H .r)) (e ∙ ap (markedCount H) (sym many)) (heldThen-alone held bytes) ∙ marked-blocks (H .r) (markedCount H (length M)) M bytes (holds .marked))
+        (sym many)
+        ∙ sym (ending-blocks v k M (length M) refl)
 
-    pub end-run : (s held : List ℕ) → s ≡ packedState (variant v) (startState (variant v))
-        → run (variant v) (stateIn (variant v) s) (firstBlocks (variant v .r) count (heldThen held 0 (front ++ last ∷ []))) ≡ endState (variant v) (messageIn front last n)
-    unfolding endState
-    end-run s held es = ap₂ (run H) (stored v k s (startState H) (streams v k .start-length) es) (all-blocks held)
+    module _ (s held marked : List ℕ) (es : s ≡ packedState (variant v) (startState (variant v))) where
+      abbrev after : List Bool
+      after = run H (stateIn H s) (firstBlocks (H .r) count (heldThen held 0 bytes))
+
+      started : stateIn H s ≡ startState H
+      started = stored v k s (startState H) (streams v k .start-length) es
+
+      after-long : length after ≡ H .t
+      after-long = run-length H (streams v k) (firstBlocks (H .r) count (heldThen held 0 bytes)) (stateIn H s) (ap length started ∙ streams v k .start-length)
+
+      -- from there on, the length's
+      pub end-run : run (variant v) (run (variant v) (stateIn (variant v) s) (firstBlocks (variant v .r) count (heldThen held 0 (front ++ last ∷ [])))) (lengthBlocks (variant v) n) ≡ endState (variant v) (messageIn front last n)
+      unfolding endState
+      end-run =
+          sym (run-append H (stateIn H s) (firstBlocks (H .r) count (heldThen held 0 bytes)) (lengthBlocks H n)) ∙ ap₂ (run H) started (all-blocks held)
+
+      -- a sponge has none
+      pub sponge-run : isSponge (variant v) ≡ true
+          → run (variant v) (stateIn (variant v) s) (firstBlocks (variant v .r) count (heldThen held 0 (front ++ last ∷ []))) ≡ endState (variant v) (messageIn front last n)
+      sponge-run q =
+          sym (ap (λ (b : Bool). run H after (cond b [] (lengthBlock n ∷ []))) q ∙ run-none H after) ∙ end-run
+
+      module _ (em : marked ≡ packedState (variant v) (run (variant v) (stateIn (variant v) s) (firstBlocks (variant v .r) count (heldThen held 0 (front ++ last ∷ []))))) where
+        pub marked-ready : Holds v marked
+        marked-ready = stored-ready v k marked after after-long em
+
+        pub marked-run : run (variant v) (stateIn (variant v) marked) (lengthBlocks (variant v) n) ≡ endState (variant v) (messageIn front last n)
+        marked-run = ap (λ (u : List Bool). run H u (lengthBlocks H n)) (stored v k marked after after-long em) ∙ end-run

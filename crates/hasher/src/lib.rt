@@ -24,7 +24,7 @@ use sponge::BLOCK_BYTES;
 use sponge::STATE_BYTES;
 use sponge::parts::ONE_ALONE;
 
-// Any 48 bytes are one. Stage 0 is open, 1 is closed. The total counts bits. The state is an image at the front of its bytes; the held
+// Any bytes are one. Stage 0 is open, 1 is closed. The total counts bits. The state is an image at the front of its bytes; the held
 // bits are those of the message so far that fill no block.
 #[repr(C)]
 pub struct Hasher {
@@ -294,7 +294,7 @@ fn last_byte(held: [u8; BLOCK_BYTES], c: usize) -> u8
     sponge::parts::with_one(x >> (8 - k), k)
 }
 
-// The message has ended: the held bits and the padding make one last block.
+// The message has ended: the held bits and the padding make the last blocks, one or two.
 fn ended(h: Hasher) -> Hasher
     requires { ⌜ Open h ⌝ }
     ensures { λ r. ⌜ r ≡ ended h ⌝ }
@@ -304,12 +304,14 @@ fn ended(h: Hasher) -> Hasher
     let held = h.held;
     let c = held_count(h);
     let last = last_byte(held, c);
+    let count = sponge::sizes::marked_count(v, c);
     let none: [u8; 0] = [];
+    let marked = sponge::outcome::run_blocks(v, state, &held, 2 * (c / 8), &none, last, count);
     Hasher {
         total: h.total,
         variant: v,
         stage: 1,
-        state: sponge::outcome::run_blocks(v, state, &held, 2 * (c / 8), &none, last, 1),
+        state: sponge::endings::ended(v, marked, h.total),
         held: [0u8; BLOCK_BYTES],
     }
 }
@@ -426,18 +428,23 @@ fn is_digest(wanted: Wanted) -> bool
     }
 }
 
-// What is wanted of a message's end state, at the front of bytes that have room for either: the padded blocks in one run, for which a table is made but once.
-// The message is so many bits of `front` and the last byte, which has the padding's 1 bit behind them.
+// What is wanted of a message's end state, at the front of bytes that have room for either. The message is so many bits of `front` and the last byte, which has the
+// padding's 1 bit behind them. A sponge's padded blocks are one run, for which a table is made but once; Lesamnta-LW has a block more behind them, and gives its
+// end state out as it is.
 fn end_of(v: u8, front: &[u8], last: u8, bits: usize, wanted: Wanted) -> [u8; STATE_BYTES]
     requires { ⌜ known v ≡ true ⌝ }
     requires { ⌜ HoldsMessage (now front) last bits ⌝ }
     ensures { λ r. ⌜ take (resultSize (variant v) wanted) r ≡ resultOf (variant v) wanted (endState (variant v) (messageIn (now (front .entry)) last bits)) ⌝ }
 {
-    let count = sponge::sizes::block_count(v, bits);
+    let count = sponge::sizes::marked_count(v, bits);
     let none: [u8; 0] = [];
     let start = sponge::step::start(v);
-    let digest = is_digest(wanted);
-    sponge::outcome::outcome_after(v, start, &none, 0, front, last, count, digest)
+    if sponge::sizes::is_sponge(v) {
+        let digest = is_digest(wanted);
+        return sponge::outcome::outcome_after(v, start, &none, 0, front, last, count, digest);
+    }
+    let marked = sponge::outcome::run_blocks(v, start, &none, 0, front, last, count);
+    sponge::endings::ended(v, marked, bits as u32)
 }
 
 // A whole message: what is wanted of its end state. Refusals 1, 4, 5.

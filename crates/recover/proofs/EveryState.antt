@@ -1,29 +1,30 @@
 -- Demand 3, the lost block, said of states and of the bytes that the caller finds: for each known variant number, every message within the limit, every place below its
--- block count, every state of t bits, given by its image, and every output with room for a block. Assumes nothing.
-use mathlib.Core.Path.{_≡_}
-use mathlib.Core.Bool.{Bool, true}
+-- block count that may be searched (of a sponge all, and of Lesamnta-LW the last), every state of t bits, given by its image, and every output with room for a block. Assumes nothing.
+use mathlib.Core.Path.{_≡_, refl, ap}
+use mathlib.Core.Bool.{Bool, true, false, cond}
 use mathlib.Core.List.{List, []}
 use mathlib.Core.Logic.{_↔_, _⊎_}
-use Prim.Native.Nat.{ℕ, _≤_, _<_}
+use Prim.Native.Nat.{ℕ, suc, _≤_, _<_}
+use lib.Dec.{eqb}
 use lib.ListN.{length, getD}
 use Rattle.answers.specs.declared.Refusal.the-variants.{NoBlock}
 use Rattle.answers.specs.declared.Status.{Status}
 use Rattle.answers.specs.declared.Status.the-variants.{Done, Refused}
 use Rattle.answers.specs.Checks.{firstRefusal}
 use Rattle.answers.specs.Outputs.{most, mostBits}
-use borrow.Author.Tests.{le-ltb}
-use Rattle.standard.specs.Sponge.{Variant, imageOf}
+use borrow.Author.Tests.{le-ltb, eq-eqb}
+use Rattle.standard.specs.Sponge.{Variant, isSponge, imageOf}
 use Rattle.standard.specs.Chain.{byteBits, messageBits, blocksOf, endState}
 use Rattle.standard.specs.Variants.{variant, known}
 use Rattle.sponge.specs.Parts.{isBitNumber, messageChecks, messageBitsChecks}
 use Rattle.recover.specs.Leading.{endStateWith, NoneLeads, OnlyLeads}
-use Rattle.recover.specs.Recovering.{blockSize, askedChecks, recoverStatus, recoverInto, askedBitsChecks, recoverBitsStatus, recoverBitsInto}
+use Rattle.recover.specs.Recovering.{blockSize, searchable, askedChecks, recoverStatus, recoverInto, askedBitsChecks, recoverBitsStatus, recoverBitsInto}
 use Rattle.recover.proofs.LostBlock.{Found, Ready, any-asked, any-or-done, any-eight, any-kept, any-given, any-found, any-own}
 
 -- ---- a message all of whose bits count
 
 module _ (v : ℕ) (k : known v ≡ true) (m : List ℕ) (few : length m ≤ most) (place : ℕ) (within : place < length (blocksOf (variant v) (byteBits m)))
-    (out : List ℕ) (room : blockSize (variant v) ≤ length out) where
+    (way : searchable (variant v) (length (blocksOf (variant v) (byteBits m))) place ≡ true) (out : List ℕ) (room : blockSize (variant v) ≤ length out) where
   abbrev H : Variant
   H = variant v
 
@@ -32,7 +33,7 @@ module _ (v : ℕ) (k : known v ≡ true) (m : List ℕ) (few : length m ≤ mos
 
   -- every check but those of the image passes
   ready : Ready (messageChecks v (length m)) v (byteBits m) place out
-  ready = record { passed = simp (k, le-ltb _ _ few); number = k; within = within; room = room }
+  ready = record { passed = simp (k, le-ltb _ _ few); number = k; within = within; way = way; room = room }
 
   module _ (s : List Bool) (ls : length s ≡ variant v .t) where
     abbrev image : List ℕ
@@ -84,7 +85,8 @@ module _ (v : ℕ) (k : known v ≡ true) (m : List ℕ) (few : length m ≤ mos
 -- ---- a message of whose last byte k bits count
 
 module _ (v : ℕ) (named : known v ≡ true) (m : List ℕ) (k : ℕ) (number : isBitNumber k (length m) ≡ true) (few : length (messageBits (variant v) m k) ≤ mostBits) (place : ℕ)
-    (within : place < length (blocksOf (variant v) (messageBits (variant v) m k))) (out : List ℕ) (room : blockSize (variant v) ≤ length out) where
+    (within : place < length (blocksOf (variant v) (messageBits (variant v) m k)))
+    (way : searchable (variant v) (length (blocksOf (variant v) (messageBits (variant v) m k))) place ≡ true) (out : List ℕ) (room : blockSize (variant v) ≤ length out) where
   abbrev K : Variant
   K = variant v
 
@@ -93,7 +95,7 @@ module _ (v : ℕ) (named : known v ≡ true) (m : List ℕ) (k : ℕ) (number :
 
   -- every check but those of the image passes
   bits-ready : Ready (messageBitsChecks v m k) v (messageBits (variant v) m k) place out
-  bits-ready = record { passed = simp (named, number, le-ltb _ _ few); number = named; within = within; room = room }
+  bits-ready = record { passed = simp (named, number, le-ltb _ _ few); number = named; within = within; way = way; room = room }
 
   module _ (s : List Bool) (ls : length s ≡ variant v .t) where
     abbrev answer : Status
@@ -138,3 +140,17 @@ module _ (v : ℕ) (named : known v ≡ true) (m : List ℕ) (k : ℕ) (number :
   pub bits-own-block : BitsGives (endState K B) (getD (blocksOf K B) place [])
   unfolding recoverBitsStatus recoverBitsInto
   bits-own-block = any-own bits-ready
+
+-- ---- which places may be searched
+
+-- of a sponge all
+pub sponge-way : (v : ℕ) → isSponge (variant v) ≡ true → (count place : ℕ) → searchable (variant v) count place ≡ true
+sponge-way v q count place = ap (λ (b : Bool). cond b true (eqb (suc place) count)) q
+
+-- the last of any variant
+pub last-way : (v count place : ℕ) → suc place ≡ count → searchable (variant v) count place ≡ true
+last-way v count place e = go (isSponge (variant v))
+  where
+    go : (b : Bool) → cond b true (eqb (suc place) count) ≡ true
+    go true = refl
+    go false = eq-eqb (suc place) count e

@@ -1,4 +1,5 @@
 pub mod Passing
+pub mod Searching
 pub mod LeadingLaws
 pub mod Runs
 pub mod RecoverLaws
@@ -6,3 +7,4 @@ pub mod LostBlock
 pub mod Demand3
 pub mod EveryState
 pub mod Bits
+pub mod OtherPlaces

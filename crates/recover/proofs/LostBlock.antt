@@ -21,24 +21,24 @@ use Rattle.standard.specs.Chain.{blocksOf, blockCount, run, endState}
 use Rattle.standard.specs.Variants.{variant, known}
 use Rattle.standard.proofs.BitLaws.{length-pack}
 use Rattle.standard.proofs.Tests.{either, true-not-false}
-use Rattle.standard.proofs.Streaming.{Streams, block-count, run-length, blocks-sized}
-use Rattle.standard.proofs.Sponge.{IsSponge}
+use Rattle.standard.proofs.Streaming.{block-count, run-length, blocks-sized}
 use Rattle.standard.proofs.OneBlock.{block-length}
 use Rattle.standard.proofs.ImageStates.{state-image}
-use Rattle.standard.proofs.Variants.{streams, sponge}
+use Rattle.standard.proofs.Variants.{streams}
 use Rattle.sponge.specs.Layout.{clear}
 use Rattle.sponge.proofs.Clear.{clear-zeros, zeros-clear}
 use Rattle.sponge.proofs.ImageLaws.{image-state}
 use Rattle.sponge.proofs.ImageOfState.{image-is-image}
 use Rattle.recover.specs.Leading.{endStateWith, leading, NoneLeads, OnlyLeads}
 use Rattle.recover.specs.Difference.{difference}
-use Rattle.recover.specs.Recovering.{isEmpty, blockSize, placedChecks, leadingTo, foundChecks, recoveredBlock}
-use Rattle.recover.proofs.LeadingLaws.{InBlock, blockFrom, difference-length, leading-none, leading-one, leads-same, leads-short, only}
+use Rattle.recover.specs.Recovering.{isEmpty, blockSize, searchable, placedChecks, leadingTo, foundChecks, recoveredBlock}
+use Rattle.recover.proofs.LeadingLaws.{InBlock, blockFrom, leading-none, leading-one, leads-same, leads-short, only}
+use Rattle.recover.proofs.Searching.{Searches, searches}
 use Rattle.recover.proofs.RecoverLaws.{Placed, checks-passed}
 
 -- ---- the blocks that lead to a state
 
-module _ (H : Variant) (g : Streams H) (h : IsSponge H) (m : List Bool) (place : ℕ) (within : place < length (blocksOf H m)) (s : List Bool) (ls : length s ≡ H .t) where
+module _ {H : Variant} {m : List Bool} {place : ℕ} {s : List Bool} (h : Searches H m place s) where
   abbrev D : List Bool
   D = difference H m place s
 
@@ -46,7 +46,7 @@ module _ (H : Variant) (g : Streams H) (h : IsSponge H) (m : List Bool) (place :
   in-block : InBlock H D ⊎ (InBlock H D → ⊥)
   in-block =
       let size : length (drop (H .r) D) ≡ H .t - H .r =
-      length-drop (H .r) D ∙ ap (λ (n : ℕ). n - H .r) (difference-length H g h m place within s ls) in
+      length-drop (H .r) D ∙ ap (λ (n : ℕ). n - H .r) (h .size) in
       ⊎-elim
       (λ e. inl (clear-zeros (drop (H .r) D) e ∙ ap (λ (n : ℕ). replicate n false) size))
       (λ e. inr (λ z. true-not-false (sym (zeros-clear (H .t - H .r)) ∙ ap clear (sym z) ∙ e)))
@@ -55,10 +55,10 @@ module _ (H : Variant) (g : Streams H) (h : IsSponge H) (m : List Bool) (place :
   -- no block is listed just where none leads there
   pub none-leading : (isEmpty (leading H m place s) ≡ true) ↔ NoneLeads H m place s
   none-leading = (
-    λ e b l q. true-not-false (sym e ∙ ap isEmpty (leading-one H g h m place within s ls (leads-short H g h m place within s ls b l q))),
+    λ e b l q. true-not-false (sym e ∙ ap isEmpty (leading-one h (leads-short h b l q))),
     λ f. ⊎-elim
-        (λ z. absurd (f _ (only H g h m place within s ls z .size) (only H g h m place within s ls z .leads)))
-        (λ z. ap isEmpty (leading-none H g h m place within s ls z))
+        (λ z. absurd (f _ (only h z .size) (only h z .leads)))
+        (λ z. ap isEmpty (leading-none h z))
         in-block,
   )
 
@@ -67,8 +67,8 @@ module _ (H : Variant) (g : Streams H) (h : IsSponge H) (m : List Bool) (place :
   unfolding headD
   first-leads e =
       ⊎-elim
-      (λ z. subst (λ (l : List (List Bool)). OnlyLeads H m place s (headD l [])) (sym (leading-one H g h m place within s ls z)) (only H g h m place within s ls z))
-      (λ z. absurd (true-not-false (ap isEmpty (sym (leading-none H g h m place within s ls z)) ∙ e)))
+      (λ z. subst (λ (l : List (List Bool)). OnlyLeads H m place s (headD l [])) (sym (leading-one h z)) (only h z))
+      (λ z. absurd (true-not-false (ap isEmpty (sym (leading-none h z)) ∙ e)))
       in-block
 
 -- ---- the answer, by number: front are the checks before those of the place
@@ -90,8 +90,8 @@ module _ (front : List Check) (v : ℕ) (k : known v ≡ true) (m : List Bool) (
   p : Placed v m place image n
   p = checks-passed v k m place image n (row-both front (placedChecks K (blockCount K (length m)) place image n) asked .1)
 
-  lS : length S ≡ K .t
-  lS = image-state v k image (p .good)
+  search : Searches K m place S
+  search = searches v k m place (p .within) (p .way) S (image-state v k image (p .good))
 
   answer : (t : Bool) → empty ≡ t → status ≡ cond (not t) Done (Refused NoBlock)
   answer t e =
@@ -104,7 +104,7 @@ module _ (front : List Check) (v : ℕ) (k : known v ≡ true) (m : List Bool) (
   -- 8 exactly when no block leads to the state
   pub answer-eight : (status ≡ Refused NoBlock) ↔ NoneLeads K m place S
   answer-eight =
-      let law = none-leading K (streams v k) (sponge v k) m place (p .within) S lS in (
+      let law = none-leading search in (
         λ e. law .0 (⊎-elim (λ q. q) (λ q. absurd (not-done NoBlock (sym e ∙ answer false q))) (either empty)),
         λ f. answer true (law .1 f),
       )
@@ -114,7 +114,7 @@ module _ (front : List Check) (v : ℕ) (k : known v ≡ true) (m : List Bool) (
   unfolding recoveredBlock
   answer-given e =
       let some : empty ≡ false = ⊎-elim (λ q. absurd (not-done NoBlock (sym (answer true q) ∙ e))) (λ q. q) (either empty) in
-      (headD (leadingTo v m place image) [], first-leads K (streams v k) (sponge v k) m place (p .within) S lS some, refl)
+      (headD (leadingTo v m place image) [], first-leads search some, refl)
 
 -- ---- said of states, and of the bytes that the caller finds
 
@@ -127,6 +127,7 @@ pub record Ready (front : List Check) (v : ℕ) (m : List Bool) (place : ℕ) (o
   pub passed : firstRefusal front ≡ Done
   pub number : known v ≡ true
   pub within : place < length (blocksOf (variant v) m)
+  pub way : searchable (variant v) (length (blocksOf (variant v) m)) place ≡ true
   pub room : blockSize (variant v) ≤ length out
 
 -- the answer for the image of a state, and the output after it
@@ -152,8 +153,9 @@ module _ {front : List Check} {v : ℕ} {m : List Bool} {place : ℕ} {out : Lis
     pub any-asked : firstRefusal (front ++ placedChecks H (blockCount H (length m)) place image (length out)) ≡ Done
     any-asked =
         let below : place < blockCount H (length m) = rw (block-count H m) at (w .within) in
+        let way : searchable H (blockCount H (length m)) place ≡ true = rw (block-count H m) at (w .way) in
         row-second front (placedChecks H (blockCount H (length m)) place image (length out)) (w .passed)
-        ∙ simp (lt-ltb _ _ below, image-is-image H s ls, le-ltb _ _ (w .room))
+        ∙ simp (lt-ltb _ _ below, way, image-is-image H s ls, le-ltb _ _ (w .room))
 
     pub any-or-done : (answered ≡ Refused NoBlock) ⊎ (answered ≡ Done)
     any-or-done = answer-or-done front v (w .number) m place image (length out) any-asked
@@ -191,7 +193,7 @@ module _ {front : List Check} {v : ℕ} {m : List Bool} {place : ℕ} {out : Lis
       let s : List Bool = endStateWith H m place b in
       let ls : length s ≡ H .t = end-size b in
       let same : (c : List Bool) → length c ≡ H .r → endStateWith H m place c ≡ s → c ≡ blockFrom H (difference H m place s) =
-      leads-same H (streams v (w .number)) (sponge v (w .number)) m place (w .within) s ls in
+      leads-same (searches v (w .number) m place (w .within) (w .way) s ls) in
       let done : statusFor front v m place out s ≡ Done =
       ⊎-elim (λ e. absurd (any-eight s ls .0 e b l refl)) (λ e. e) (any-or-done s ls) in
       let given = any-given s ls done in

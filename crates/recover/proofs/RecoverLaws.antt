@@ -3,7 +3,8 @@
 use mathlib.Core.Path.{_≡_, refl, sym, ap, ap₂, _∙_, subst}
 use mathlib.Core.Bool.{Bool, true, false, cond, not, _&&_}
 use mathlib.Core.List.{List, [], _∷_, _++_, headD}
-use Prim.Native.Nat.{ℕ, zero, suc, _+_, _-_, _*_, _≤_, _<_}
+use mathlib.Core.Logic.{_⊎_, inl, inr, ⊎-elim}
+use Prim.Native.Nat.{ℕ, zero, suc, _+_, _-_, _*_, _%_, _≤_, _<_}
 use native.Mathlib.Nat.{not-suc-le-zero, le-of-suc-le-suc}
 use native.Mathlib.Omega.{arith}
 use lib.ListN.{length, take, drop, getD, replicate, length-drop}
@@ -24,7 +25,7 @@ use Rattle.standard.specs.Variants.{variant, known}
 use Rattle.standard.proofs.BitLaws.{length-bitsIn, length-pack, bitsIn-take, image-eq, pack-bytes}
 use Rattle.standard.proofs.Streaming.{block-count}
 use Rattle.standard.proofs.Tests.{true-not-false}
-use Rattle.standard.proofs.Variants.{Bounds, bounds, streams, sponge}
+use Rattle.standard.proofs.Variants.{Bounds, bounds, WholeBytes, layouts}
 use Rattle.sponge.specs.Layout.{packedState, clear, Holds}
 use Rattle.sponge.specs.Images.{isImage}
 use Rattle.sponge.proofs.ImageLaws.{image-ready, image-state, image-read}
@@ -32,8 +33,9 @@ use Rattle.sponge.proofs.Clear.{clear-append, clear-zeros, zeros-clear, clear-o
 use Rattle.sponge.proofs.LayoutLaws.{packed-bits}
 use Rattle.sponge.proofs.SqueezeLaws.{output-bits}
 use Rattle.recover.specs.Difference.{difference}
-use Rattle.recover.specs.Recovering.{isEmpty, blockSize, placedChecks, leadingTo, foundChecks, recoveredBlock}
-use Rattle.recover.proofs.LeadingLaws.{InBlock, blockFrom, difference-length, leading-none, leading-one}
+use Rattle.recover.specs.Recovering.{isEmpty, blockSize, searchable, placedChecks, leadingTo, foundChecks, recoveredBlock}
+use Rattle.recover.proofs.LeadingLaws.{InBlock, blockFrom, leading-none, leading-one}
+use Rattle.recover.proofs.Searching.{Searches, searches}
 
 -- ---- what passing the checks says
 
@@ -41,6 +43,7 @@ use Rattle.recover.proofs.LeadingLaws.{InBlock, blockFrom, difference-l
 pub record Placed (v : ℕ) (m : List Bool) (place : ℕ) (image : List ℕ) (n : ℕ) : Type 0 where
   pub number : known v ≡ true
   pub within : place < length (blocksOf (variant v) m)
+  pub way : searchable (variant v) (length (blocksOf (variant v) m)) place ≡ true
   pub good : isImage (variant v) image ≡ true
   pub long : blockSize (variant v) ≤ n
 
@@ -48,7 +51,7 @@ pub checks-passed : (v : ℕ) → known v ≡ true → (m : List Bool) (place : 
     → Placed v m place image n
 checks-passed v k m place image n e =
     let p = passing-says (placedChecks (variant v) (blockCount (variant v) (length m)) place image n) e in
-    record { number = k; within = rw (block-count (variant v) m) (ltb-true _ _ (p .0)); good = p .1 .0; long = ltb-false _ _ (not-true _ (p .1 .1 .0)) }
+    record { number = k; within = rw (block-count (variant v) m) (ltb-true _ _ (p .0)); way = rw (block-count (variant v) m) (p .1 .0); good = p .1 .1 .0; long = ltb-false _ _ (not-true _ (p .1 .1 .1 .0)) }
 
 -- ---- the difference in its bytes
 
@@ -56,6 +59,9 @@ take-replicate : (n k : ℕ) → n ≤ k → take n (replicate k false) ≡ repl
 take-replicate zero k h = refl
 take-replicate (suc n) zero h = absurd (not-suc-le-zero h)
 take-replicate (suc n) (suc k) h = ap (λ (l : List Bool). false ∷ l) (take-replicate n k (le-of-suc-le-suc h))
+
+layout-of : (v : ℕ) → known v ≡ true → (high-first ≡ order (variant v)) ⊎ (variant v .r % 8 ≡ 0)
+layout-of v k = ⊎-elim inl (λ (w : WholeBytes (variant v)). inr (w .block)) (layouts v k)
 
 module _ (v : ℕ) (k : known v ≡ true) (X : List Bool) (lX : length X ≡ variant v .t) (x : List ℕ) (ex : x ≡ packedState (variant v) X) where
   abbrev H : Variant
@@ -77,7 +83,7 @@ module _ (v : ℕ) (k : known v ≡ true) (X : List Bool) (lX : length X ≡ var
   -- what the code asks is whether the difference lies within the block
   spare : clear (drop (H .r) (bitsIn high-first x)) ≡ clear (drop (H .r) X)
   spare =
-      sym (clear-order (order H) x (H .r) (sponge v k .layout))
+      sym (clear-order (order H) x (H .r) (layout-of v k))
       ∙ ap (λ (l : List Bool). clear (drop (H .r) l)) bits
       ∙ ap clear (drop-append-le (H .r) X (replicate (288 - H .t) false) (omega (arith, b .rate-fits)))
       ∙ clear-append (drop (H .r) X) (replicate (288 - H .t) false)
@@ -100,7 +106,7 @@ module _ (v : ℕ) (k : known v ≡ true) (X : List Bool) (lX : length X ≡ var
       let Y : List Bool = bitsIn high-first x in
       let lY : length Y ≡ 288 = length-bitsIn high-first x ∙ ap (λ (k : ℕ). 8 * k) lx in
       let block : blockFrom H X ≡ take (H .r) Y =
-      output-bits (order H) (H .t) (H .r) X lX (b .state-most) (b .rate-fits) (sponge v k .layout)
+      output-bits (order H) (H .t) (H .r) X lX (b .state-most) (b .rate-fits) (layout-of v k)
       ∙ ap (λ (l : List ℕ). take (H .r) (bitsIn high-first l)) (sym ex) in
       let lB : length (take (H .r) Y) ≡ H .r = length-take-le (H .r) Y (omega (arith, b .rate-most)) in
       let sum : 8 * n ≡ H .r + (8 * n - H .r) = omega arith in
@@ -163,24 +169,25 @@ module _ (v : ℕ) (m : List Bool) (place : ℕ) (image out : List ℕ) (p : Pla
     given : y ≡ packedState K (between S)
     given = ey ∙ ap (λ (s : List Bool). packedState K (between s)) (image-read v (p .number) image (p .good) x hx ex)
 
+    search : Searches K m place S
+    search = searches v (p .number) m place (p .within) (p .way) S size
+
     long : length (between S) ≡ K .t
-    long = difference-length K (streams v (p .number)) (sponge v (p .number)) m place (p .within) S size
+    long = search .size
 
     answers : (l : List (List Bool)) → leadingTo v m place image ≡ l → cond (not (isEmpty l)) Done (Refused NoBlock) ≡ firstRefusal (foundChecks v m place image)
     answers l q = ap (λ (z : List (List Bool)). cond (not (isEmpty z)) Done (Refused NoBlock)) (sym q)
 
     pub none-found : clear (drop (K .r) (bitsIn high-first y)) ≡ false → Searched v m place image out (Refused NoBlock) out
     none-found z =
-        let none = leading-none K (streams v (p .number)) (sponge v (p .number)) m place (p .within) S size
-        (spare-set v (p .number) (between S) long y given z) in
+        let none = leading-none search (spare-set v (p .number) (between S) long y given z) in
         (answers [] none, refl)
 
     pub one-found : clear (drop (K .r) (bitsIn high-first y)) ≡ true → (out′ : List ℕ) → out′ ≡ take (blockSize K) y ++ drop (blockSize K) out
         → Searched v m place image out Done out′
     unfolding recoveredBlock headD
     one-found z out′ f =
-        let one = leading-one K (streams v (p .number)) (sponge v (p .number)) m place (p .within) S size
-        (spare-clear v (p .number) (between S) long y given z) in
+        let one = leading-one search (spare-clear v (p .number) (between S) long y given z) in
         let bytes : take (blockSize K) y ≡ recoveredBlock v m place image =
         front-bytes v (p .number) (between S) long y given z
         ∙ ap (λ (l : List (List Bool)). pack high-first (blockSize K) (headD l [])) (sym one) in (

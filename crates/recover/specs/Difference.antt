@@ -1,12 +1,13 @@
 -- The states on both sides of a place of a message, and what has to change between them: what the code computes to find the block.
 -- Assumes nothing.
-use mathlib.Core.Bool.{Bool}
-use mathlib.Core.List.{List}
+use mathlib.Core.Bool.{Bool, false}
+use mathlib.Core.List.{List, _++_}
 use Prim.Native.Nat.{ℕ, suc}
-use lib.ListN.{take, drop}
+use lib.ListN.{take, drop, replicate}
 use Rattle.standard.specs.Bits.{xorInto}
 use Rattle.standard.specs.Rounds.{backward}
-use Rattle.standard.specs.Sponge.{Variant, permutation, startState, unrun}
+use Rattle.standard.specs.Lesamnta.{cipher}
+use Rattle.standard.specs.Sponge.{Family, photon, spongent, lesamnta, Variant, permutation, startState, unrun}
 use Rattle.standard.specs.Chain.{blocksOf, run}
 
 -- the state before the block at the place
@@ -17,6 +18,13 @@ stateBefore H m place = run H (startState H) (take place (blocksOf H m))
 abbrev pub stateBehind : Variant → List Bool → ℕ → List Bool → List Bool
 stateBehind H m place s = unrun H s (drop (suc place) (blocksOf H m))
 
--- the state before the block, and the one that the permutation has to take there, xored
+-- by family, what lies between the states s and e: s and the one that the permutation has to take to e, xored; in Lesamnta-LW what the cipher has to take to e under the
+-- key in s, with the half of s that goes in beside the block xored out. A block leads from s to e just where this is the block and zeros.
+abbrev pub between : Family → Variant → List Bool → List Bool → List Bool
+between (photon p) H s e = xorInto s (permutation H backward e)
+between (spongent p) H s e = xorInto s (permutation H backward e)
+between lesamnta H s e = xorInto (cipher backward (take 128 s) e) (replicate 128 false ++ drop 128 s)
+
+-- between the states on both sides of the place
 abbrev pub difference : Variant → List Bool → ℕ → List Bool → List Bool
-difference H m place s = xorInto (stateBefore H m place) (permutation H backward (stateBehind H m place s))
+difference H m place s = between (H .family) H (stateBefore H m place) (stateBehind H m place s)

@@ -1,15 +1,15 @@
 -- The operation that finds the block: its refusals in order, and the caller's output, for a message of whole bytes and for one that may end inside a byte.
 -- Assumes nothing.
-use mathlib.Core.Bool.{Bool, true, false}
+use mathlib.Core.Bool.{Bool, true, false, cond}
 use mathlib.Core.List.{List, [], _∷_, _++_, headD}
-use Prim.Native.Nat.{ℕ}
-use lib.Dec.{ltb}
+use Prim.Native.Nat.{ℕ, suc}
+use lib.Dec.{ltb, eqb}
 use lib.ListN.{length}
 use Rattle.standard.specs.Bits.{high-first, pack, bytesFor}
-use Rattle.standard.specs.Sponge.{Variant, stateIn}
+use Rattle.standard.specs.Sponge.{Variant, isSponge, stateIn}
 use Rattle.standard.specs.Chain.{byteBits, messageBits, blockCount}
 use Rattle.standard.specs.Variants.{variant}
-use Rattle.answers.specs.declared.Refusal.the-variants.{OutputTooShort, BadImage, OutOfRange, NoBlock}
+use Rattle.answers.specs.declared.Refusal.the-variants.{OutputTooShort, BadImage, OutOfRange, NoBlock, NotSponge}
 use Rattle.answers.specs.declared.Status.{Status}
 use Rattle.answers.specs.Checks.{Check, unless, when, firstRefusal}
 use Rattle.answers.specs.Outputs.{written}
@@ -28,10 +28,15 @@ blockSize H = bytesFor (H .r)
 
 -- ---- of any bit string
 
--- the place among so many blocks, the image and the output of n bytes: 7; 6; 5
+-- document 02, Q-7: what is no sponge is searched at the last of so many blocks alone
+abbrev pub searchable : Variant → ℕ → ℕ → Bool
+searchable H count place = cond (isSponge H) true (eqb (suc place) count)
+
+-- the place among so many blocks, the image and the output of n bytes: 7; 17; 6; 5
 abbrev pub placedChecks : Variant → ℕ → ℕ → List ℕ → ℕ → List Check
 placedChecks H count place image n =
     unless (ltb place count) OutOfRange
+    ∷ unless (searchable H count place) NotSponge
     ∷ unless (isImage H image) BadImage
     ∷ when (ltb n (blockSize H)) OutputTooShort
     ∷ []
@@ -50,11 +55,11 @@ recoveredBlock v m place image = pack high-first (blockSize (variant v)) (headD 
 
 -- ---- of a message all of whose bits count
 
--- Lost block, before the search: 1; 4; 7; 6; 5
+-- Lost block, before the search: 1; 4; 7; 17; 6; 5
 abbrev pub askedChecks : ℕ → List ℕ → ℕ → List ℕ → ℕ → List Check
 askedChecks v m place image n = messageChecks v (length m) ++ placedChecks (variant v) (blockCount (variant v) (length (byteBits m))) place image n
 
--- Lost block: 1; 4; 7; 6; 5; 8
+-- Lost block: 1; 4; 7; 17; 6; 5; 8
 abbrev pub recoverChecks : ℕ → List ℕ → ℕ → List ℕ → ℕ → List Check
 recoverChecks v m place image n = askedChecks v m place image n ++ foundChecks v (byteBits m) place image
 
@@ -68,11 +73,11 @@ recoverInto v m place image out = written (recoverStatus v m place image (length
 
 -- ---- of a message of whose last byte k bits count (document 02, Q-6)
 
--- Lost block, before the search: 1; 15; 4; 7; 6; 5
+-- Lost block, before the search: 1; 15; 4; 7; 17; 6; 5
 abbrev pub askedBitsChecks : ℕ → List ℕ → ℕ → ℕ → List ℕ → ℕ → List Check
 askedBitsChecks v m k place image n = messageBitsChecks v m k ++ placedChecks (variant v) (blockCount (variant v) (length (messageBits (variant v) m k))) place image n
 
--- Lost block: 1; 15; 4; 7; 6; 5; 8
+-- Lost block: 1; 15; 4; 7; 17; 6; 5; 8
 abbrev pub recoverBitsChecks : ℕ → List ℕ → ℕ → ℕ → List ℕ → ℕ → List Check
 recoverBitsChecks v m k place image n = askedBitsChecks v m k place image n ++ foundChecks v (messageBits (variant v) m k) place image
 

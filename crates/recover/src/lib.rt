@@ -1,11 +1,11 @@
-// The block of a message that leads to a given end state: the state is run forward to its place, the end state back to it.
+// The block of a message that leads to a given end state: the state is run forward to its place, the end state of a sponge back to it.
 // The inner functions take a message as its whole bytes, a last byte with the rest of its bits and the padding's 1 bit, and the number of its bits.
 ghost use mathlib.Core.Path.{_≡_};
 ghost use mathlib.Core.Bool.{true};
 ghost use mathlib.Core.List.{_++_};
 ghost use Prim.Native.Nat.{_<_};
-ghost use lib.ListN.{length};
-ghost use Rattle.standard.specs.Sponge.{stateIn};
+ghost use lib.ListN.{length, drop, replicate};
+ghost use Rattle.standard.specs.Sponge.{isSponge, stateIn};
 ghost use Rattle.standard.specs.Chain.{blocksOf, blockCount};
 ghost use Rattle.standard.specs.Variants.{variant, known};
 ghost use Rattle.answers.specs.declared.Status.the-variants.{Done};
@@ -13,8 +13,8 @@ ghost use Rattle.answers.specs.Checks.{firstRefusal};
 ghost use Rattle.answers.specs.Outputs.{written};
 ghost use Rattle.sponge.specs.Layout.{packedState, Holds};
 ghost use Rattle.sponge.specs.Parts.{messageIn, HoldsMessage};
-ghost use Rattle.recover.specs.Difference.{stateBehind, difference};
-ghost use Rattle.recover.specs.Recovering.{blockSize, placedChecks, foundChecks, recoveredBlock, recoverStatus, recoverInto, recoverBitsStatus, recoverBitsInto};
+ghost use Rattle.recover.specs.Difference.{stateBehind, between, difference};
+ghost use Rattle.recover.specs.Recovering.{blockSize, searchable, placedChecks, foundChecks, recoveredBlock, recoverStatus, recoverInto, recoverBitsStatus, recoverBitsInto};
 use answers::Refusal;
 use answers::Status;
 use sponge::Direction;
@@ -32,7 +32,7 @@ pub fn block_bytes(v: u8) -> usize
     (sizes::block_bits(v) as usize + 7) / 8
 }
 
-// The state behind block `place` if the message ends in the state `end`: the blocks behind it taken back, the last first.
+// The state of a sponge behind block `place` if the message ends in the state `end`: the blocks behind it taken back, the last first.
 fn run_back(
     v: u8,
     front: &[u8],
@@ -41,7 +41,7 @@ fn run_back(
     place: usize,
     end: [u8; STATE_BYTES],
 ) -> [u8; STATE_BYTES]
-    requires { ⌜ known v ≡ true ⌝ }
+    requires { ⌜ (known v ≡ true) × (isSponge (variant v) ≡ true) ⌝ }
     requires { ⌜ HoldsMessage (now front) last bits ⌝ }
     requires { ⌜ place < length (blocksOf (variant v) (messageIn (now front) last bits)) ⌝ }
     requires { ⌜ Holds v end ⌝ }
@@ -59,7 +59,32 @@ fn run_back(
     s
 }
 
-// What the block at the place has to change: the state before it, and the one that the permutation has to take to the state behind it, xored.
+// The second half of a state of Lesamnta-LW, behind zeros.
+fn second_half(s: [u8; STATE_BYTES]) -> [u8; STATE_BYTES]
+    ensures { λ r. ⌜ r ≡ replicate 16 0 ++ drop 16 s ⌝ }
+{
+    let mut out = s;
+    let mut i: usize = 0;
+    while i < 16 {
+        out[i] = 0;
+        i += 1;
+    }
+    out
+}
+
+// What lies between two states of Lesamnta-LW: what was enciphered under the key in the first, with the half of it that went in beside the block xored out.
+fn cipher_difference(s: [u8; STATE_BYTES], end: [u8; STATE_BYTES]) -> [u8; STATE_BYTES]
+    requires { ⌜ Holds 11 s ⌝ }
+    ensures { λ r. ⌜ r ≡ packedState (variant 11) (between (variant 11 .family) (variant 11) (stateIn (variant 11) s) (stateIn (variant 11) end)) ⌝ }
+{
+    let x = lesamnta::decrypt_front(&s, &end);
+    let enciphered = images::at_front(&x);
+    let half = second_half(s);
+    step::xored(enciphered, &half)
+}
+
+// What lies between the states on both sides of the place. For a sponge it is the state before the block, and the one that the permutation has to take to the state behind
+// it, xored.
 fn difference(
     v: u8,
     front: &[u8],
@@ -71,11 +96,15 @@ fn difference(
     requires { ⌜ known v ≡ true ⌝ }
     requires { ⌜ HoldsMessage (now front) last bits ⌝ }
     requires { ⌜ place < length (blocksOf (variant v) (messageIn (now front) last bits)) ⌝ }
+    requires { ⌜ searchable (variant v) (length (blocksOf (variant v) (messageIn (now front) last bits))) place ≡ true ⌝ }
     requires { ⌜ Holds v end ⌝ }
     ensures { λ r. ⌜ r ≡ packedState (variant v) (difference (variant v) (messageIn (now (front .entry)) last bits) place (stateIn (variant v) end)) ⌝ }
 {
     let start = step::start(v);
     let before = sponge::outcome::run_blocks(v, start, b"", 0, front, last, place);
+    if !sizes::is_sponge(v) {
+        return cipher_difference(before, end);
+    }
     let behind = run_back(v, front, last, bits, place, end);
     let wanted = step::permuted(v, behind, Direction::Backward);
     step::xored(before, &wanted)
@@ -106,13 +135,27 @@ fn put_block(
     Status::Done
 }
 
-// Whether the place is among so many blocks, the image is one, and n bytes of output hold a block: refusals 7, 6, 5.
+// Whether a place among so many blocks may be searched: of Lesamnta-LW the last alone, since no block behind it can be taken back.
+fn is_searchable(v: u8, count: usize, place: usize) -> bool
+    requires { ⌜ place < count ⌝ }
+    ensures { λ r. ⌜ r ≡ searchable (variant v) count place ⌝ }
+{
+    if sizes::is_sponge(v) {
+        return true;
+    }
+    place + 1 == count
+}
+
+// Whether the place is among so many blocks and may be searched, the image is one, and n bytes of output hold a block: refusals 7, 17, 6, 5.
 fn check_place(v: u8, count: usize, place: usize, image: &[u8], n: usize) -> Status
     requires { ⌜ known v ≡ true ⌝ }
     ensures { λ r. ⌜ r ≡ firstRefusal (placedChecks (variant v) count place (now (image .entry)) n) ⌝ }
 {
     if count <= place {
         return Status::Refused(Refusal::OutOfRange);
+    }
+    if !is_searchable(v, count, place) {
+        return Status::Refused(Refusal::NotSponge);
     }
     if !images::is_image(v, image) {
         return Status::Refused(Refusal::BadImage);
@@ -123,7 +166,7 @@ fn check_place(v: u8, count: usize, place: usize, image: &[u8], n: usize) -> Sta
     Status::Done
 }
 
-// The block at a place of a message within the limit: refusals 7, 6, 5, 8.
+// The block at a place of a message within the limit: refusals 7, 17, 6, 5, 8.
 fn recover_at(
     v: u8,
     front: &[u8],
@@ -147,7 +190,7 @@ fn recover_at(
     put_block(v, front, last, bits, place, image, out)
 }
 
-// Refusals 1, 4, 7, 6, 5, 8. The message's own block at the place is ignored.
+// Refusals 1, 4, 7, 17, 6, 5, 8. The message's own block at the place is ignored.
 pub fn recover(variant: u32, message: &[u8], place: usize, image: &[u8], out: &mut [u8]) -> Status
     ensures { λ r. ⌜ (r ≡ recoverStatus variant (now (message .entry)) place (now (image .entry)) (length (now (out .entry))))
         × (now (out .exit) ≡ recoverInto variant (now (message .entry)) place (now (image .entry)) (now (out .entry))) ⌝ }
@@ -168,7 +211,7 @@ pub fn recover(variant: u32, message: &[u8], place: usize, image: &[u8], out: &m
     )
 }
 
-// The same with a message of whose last byte so many bits count: refusals 1, 15, 4, 7, 6, 5, 8.
+// The same with a message of whose last byte so many bits count: refusals 1, 15, 4, 7, 17, 6, 5, 8.
 pub fn recover_bits(
     variant: u32,
     message: &[u8],

@@ -16,7 +16,7 @@ use Rattle.answers.proofs.ByteLaws.{take-bytes, drop-bytes, append-bytes, numbe
 use Rattle.standard.specs.Values.{DifferWithin, inOneBlock}
 use Rattle.standard.proofs.CutLaws.{take-drop-take}
 use Rattle.standard.proofs.OneValue.{differ-part, differ-append, differ-behind, one-changed-row}
-use Rattle.standard.specs.Sponge.{imageSize}
+use Rattle.standard.specs.Sponge.{isSponge, imageSize}
 use Rattle.standard.specs.Chain.{byteBits, blocksOf, DifferAt, endState}
 use Rattle.standard.specs.Variants.{variant}
 use Rattle.hasher.specs.declared.Wanted.the-variants.{EndState}
@@ -198,26 +198,26 @@ module _ (v : ℕ) (list x out list′ y out′ : List ℕ) (dx : listStatus v l
       ∙ e
       ∙ ap (take (imageSize (variant v))) (list-whole-into v list′ y EndState (ay .whole) (ay .all-fit) out′))
 
-  -- Demand 3 over lists: rows of blocks of equal count that differ at exactly one place.
-  pub list-row-told : (i : ℕ) → DifferAt i (blocksOf (variant v) (byteBits (messageOf list x))) (blocksOf (variant v) (byteBits (messageOf list′ y)))
+  -- Demand 3 over lists, of a sponge: rows of blocks of equal count that differ at exactly one place.
+  pub list-row-told : isSponge (variant v) ≡ true → (i : ℕ) → DifferAt i (blocksOf (variant v) (byteBits (messageOf list x))) (blocksOf (variant v) (byteBits (messageOf list′ y)))
       → (endState (variant v) (byteBits (messageOf list x)) ≡ endState (variant v) (byteBits (messageOf list′ y)) → ⊥) × Apart
-  list-row-told i d = (
-    one-changed-row v (ax .message .named) i (byteBits (messageOf list x)) (byteBits (messageOf list′ y)) d,
-    lists-told (row-told v (ax .message .named) (messageOf list x) (messageOf list′ y) (ax .message .few) (ay .message .few) i d),
+  list-row-told q i d = (
+    one-changed-row v (ax .message .named) q i (byteBits (messageOf list x)) (byteBits (messageOf list′ y)) d,
+    lists-told (row-told v (ax .message .named) (messageOf list x) (messageOf list′ y) q (ax .message .few) (ay .message .few) i d),
   )
 
-  -- Two messages over lists that differ, and only within the block j.
-  pub list-block-told : (j : ℕ) → DifferWithin (j * variant v .r) (variant v .r) (byteBits (messageOf list x)) (byteBits (messageOf list′ y)) → Apart
-  list-block-told j d = lists-told (block-told v (ax .message .named) (messageOf list x) (messageOf list′ y) (ax .message .few) j d)
+  -- Of a sponge: two messages over lists that differ, and only within the block j.
+  pub list-block-told : isSponge (variant v) ≡ true → (j : ℕ) → DifferWithin (j * variant v .r) (variant v .r) (byteBits (messageOf list x)) (byteBits (messageOf list′ y)) → Apart
+  list-block-told q j d = lists-told (block-told v (ax .message .named) (messageOf list x) (messageOf list′ y) q (ax .message .few) j d)
 
--- Two buffers that differ only in a value that one entry of a list names, and that lies in one block of the message.
-pub list-value-told : (v : ℕ) (list x out y out′ : List ℕ) → listStatus v list x EndState (length out) ≡ Done → listStatus v list y EndState (length out′) ≡ Done
+-- Of a sponge: two buffers that differ only in a value that one entry of a list names, and that lies in one block of the message.
+pub list-value-told : (v : ℕ) → isSponge (variant v) ≡ true → (list x out y out′ : List ℕ) → listStatus v list x EndState (length out) ≡ Done → listStatus v list y EndState (length out′) ≡ Done
     → Bytes list → Bytes x → Bytes y → (p n : ℕ) → DifferWithin p n x y
     → (k : ℕ) → Names list k p n → inOneBlock (variant v) (length (headerOf list) + placeOf list k p) n ≡ true
     → Differ (imageSize (variant v)) (listInto v list x EndState out) (listInto v list y EndState out′)
-list-value-told v list x out y out′ dx dy hl hx hy p n d k w o =
+list-value-told v q list x out y out′ dx dy hl hx hy p n d k w o =
     let a = accepted v list x EndState (length out) _ refl dx in
     let m = message-value list x y p n d (a .all-fit) k w in
     lists-told v list x out list y out′ dx dy
-    (value-told v (a .message .named) (messageOf list x) (messageOf list y) (a .message .few) (message-bytes list x hl hx) (message-bytes list y hl hy)
+    (value-told v (a .message .named) (messageOf list x) (messageOf list y) q (a .message .few) (message-bytes list x hl hx) (message-bytes list y hl hy)
     (length (headerOf list) + placeOf list k p) n m o)

@@ -144,11 +144,11 @@ module _ (bs : List Bool) (q : ℕ) where
       let second : 4 * (2 * k + 1) ≡ k * 8 + 4 = omega arith in
       rw (first, second, pack-halves blockRoom block k h)
 
-  pub byte-both : (k : ℕ) → 2 * k + 1 < q → q ≤ 10 → halfIn bs (2 * k) * 16 + halfIn bs (2 * k + 1) ≡ getD (packedBlock block) k 0
+  pub byte-both : (k : ℕ) → 2 * k + 1 < q → q ≤ 32 → halfIn bs (2 * k) * 16 + halfIn bs (2 * k + 1) ≡ getD (packedBlock block) k 0
   byte-both k h l =
       omega (arith, within (2 * k) (omega arith), within (2 * k + 1) h, byte-is k (omega arith))
 
-  pub byte-upper : (k : ℕ) → q ≡ 2 * k + 1 → q ≤ 10 → halfIn bs (2 * k) * 16 ≡ getD (packedBlock block) k 0
+  pub byte-upper : (k : ℕ) → q ≡ 2 * k + 1 → q ≤ 32 → halfIn bs (2 * k) * 16 ≡ getD (packedBlock block) k 0
   byte-upper k e l =
       let z : 0 ≡ halfIn block (2 * k + 1) = half-past (2 * k + 1) block (omega (arith, length-filled (4 * q) bs)) in
       omega (arith, within (2 * k) (omega arith), byte-is k (omega arith))

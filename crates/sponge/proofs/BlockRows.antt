@@ -135,6 +135,11 @@ module _ (r : ℕ) (pos : 0 < r) (x : List Bool) where
     marked-at j h =
         ap (λ (l : List (List Bool)). getD l j []) (sym marked-first) ∙ first-at r (bitsIn high-first bytes) (length x / r + 1) j h
 
+-- the first blocks of bytes that hold a string and the 1 bit: those of the string with the 1 bit behind it
+pub marked-blocks : (r n : ℕ) (x : List Bool) (bytes : List ℕ) → Marked x bytes → firstBlocks r n (bitsIn high-first bytes) ≡ firstBlocks r n (withOne x)
+marked-blocks r n x bytes marked =
+    ap (firstBlocks r n) (marked ∙ sym (append-assoc x (true ∷ []) _)) ∙ first-zeros r n (withOne x) (8 * length bytes - length x - 1)
+
 -- a piece with nothing before it
 pub heldThen-alone : (held piece : List ℕ) → heldThen held 0 piece ≡ bitsIn high-first piece
 unfolding unpack

@@ -46,7 +46,7 @@ module _ (v : ℕ) (k : known v ≡ true) where
     pub block-at-ready : (x : List ℕ) (bs : List Bool) (j : ℕ) → x ≡ packedBlock (filled (4 * q) (drop (4 * (j * q)) bs)) → HoldsBlock v x
     block-at-ready x bs j e = block-ready x (filled (H .r) (drop (j * H .r) bs)) (length-filled (H .r) (drop (j * H .r) bs)) (e ∙ ap packedBlock (block-is bs j))
 
-    pub few-halves : q ≤ 9
+    pub few-halves : q ≤ 32
     few-halves = omega (arith, sizes .rate-most)
 
     -- its place stays far below the limits of the machine's numbers

@@ -11,13 +11,13 @@ use lib.ListN.{length, take, drop, getD, replicate, drop-of-length-le}
 use borrow.Author.Tests.{eq-eqb, ne-eqb, eqb-true}
 use Rattle.answers.specs.declared.Status.{Status}
 use Rattle.answers.specs.declared.Status.the-variants.{Done, Refused}
-use Rattle.answers.specs.declared.Refusal.the-variants.{UnknownVariant, BadImage}
+use Rattle.answers.specs.declared.Refusal.the-variants.{UnknownVariant, BadImage, NotSponge}
 use Rattle.answers.specs.Checks.{unless}
 use Rattle.answers.specs.Outputs.{whenDone}
 use Rattle.answers.proofs.Rows.{passed-all, refused-here}
 use Rattle.standard.specs.Bits.{high-first, bitsIn}
 use Rattle.standard.specs.Rounds.{Direction}
-use Rattle.standard.specs.Sponge.{order, permutation, imageSize, imageOf, stateIn}
+use Rattle.standard.specs.Sponge.{isSponge, order, permutation, imageSize, imageOf, stateIn}
 use Rattle.standard.specs.Variants.{variant, known}
 use Rattle.standard.proofs.Tests.{and-true}
 use Rattle.standard.proofs.BitLaws.{take-pack, length-unpack}
@@ -100,12 +100,18 @@ module _ (v : ℕ) (w : Direction) (bytes : List ℕ) where
 
   pub left-unknown : known v ≡ false → Left v w bytes (Refused UnknownVariant) bytes
   unfolding imageStatus
-  left-unknown e = left (Refused UnknownVariant) (refused-here [] (unless (known v) UnknownVariant) (unless (isImage (variant v) bytes) BadImage ∷ []) tt e)
+  left-unknown e = left (Refused UnknownVariant) (refused-here [] (unless (known v) UnknownVariant) (unless (isSponge (variant v)) NotSponge ∷ unless (isImage (variant v) bytes) BadImage ∷ []) tt e)
 
-  pub left-bad : known v ≡ true → isImage (variant v) bytes ≡ false → Left v w bytes (Refused BadImage) bytes
+  pub left-other : known v ≡ true → isSponge (variant v) ≡ false → Left v w bytes (Refused NotSponge) bytes
   unfolding imageStatus
-  left-bad k e = left (Refused BadImage) (refused-here (unless (known v) UnknownVariant ∷ []) (unless (isImage (variant v) bytes) BadImage) [] (k, tt) e)
+  left-other k e =
+      left (Refused NotSponge) (refused-here (unless (known v) UnknownVariant ∷ []) (unless (isSponge (variant v)) NotSponge) (unless (isImage (variant v) bytes) BadImage ∷ []) (k, tt) e)
 
-  pub left-permuted : known v ≡ true → isImage (variant v) bytes ≡ true → Left v w bytes Done permuted
+  pub left-bad : known v ≡ true → isSponge (variant v) ≡ true → isImage (variant v) bytes ≡ false → Left v w bytes (Refused BadImage) bytes
   unfolding imageStatus
-  left-permuted k e = left Done (passed-all (imageChecks v bytes) (k, (e, tt)))
+  left-bad k q e =
+      left (Refused BadImage) (refused-here (unless (known v) UnknownVariant ∷ unless (isSponge (variant v)) NotSponge ∷ []) (unless (isImage (variant v) bytes) BadImage) [] (k, (q, tt)) e)
+
+  pub left-permuted : known v ≡ true → isSponge (variant v) ≡ true → isImage (variant v) bytes ≡ true → Left v w bytes Done permuted
+  unfolding imageStatus
+  left-permuted k q e = left Done (passed-all (imageChecks v bytes) (k, (q, (e, tt))))

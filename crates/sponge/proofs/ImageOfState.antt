@@ -11,7 +11,7 @@ use lib.Seq.{drop-at}
 use borrow.Author.Tests.{eq-eqb}
 use Rattle.standard.specs.Bits.{Order, bitsIn, unpack}
 use Rattle.standard.specs.Rounds.{Direction, opposite}
-use Rattle.standard.specs.Sponge.{Variant, order, permutation, imageSize, imageOf, stateIn}
+use Rattle.standard.specs.Sponge.{Variant, isSponge, order, permutation, imageSize, imageOf, stateIn}
 use Rattle.standard.specs.Variants.{variant, known}
 use Rattle.standard.proofs.Tests.{either}
 use Rattle.standard.proofs.BitLaws.{length-pack, image-eq, length-bitsIn, length-unpack}
@@ -20,7 +20,7 @@ use Rattle.standard.proofs.Variants.{permutation-undo, permutation-length}
 use Rattle.sponge.specs.Images.{isImage, permutedImage}
 use Rattle.sponge.proofs.Clear.{zeros-clear, clear-zeros}
 use Rattle.sponge.proofs.LayoutLaws.{packed-bits}
-use Rattle.sponge.proofs.ImageLaws.{image-length, image-clear, image-state, left-unknown, left-bad, left-permuted}
+use Rattle.sponge.proofs.ImageLaws.{image-length, image-clear, image-state, left-unknown, left-other, left-bad, left-permuted}
 
 -- ---- from a state to its image
 
@@ -52,18 +52,21 @@ image-again v k bytes e hb =
 pub permuted-back : (v : ℕ) (w : Direction) (bytes : List ℕ) → ((i : ℕ) → getD bytes i 0 < 256)
     → permutedImage v (opposite w) (permutedImage v w bytes) ≡ bytes
 permuted-back v w bytes hb =
-    ⊎-elim (λ k. ⊎-elim (through k) (λ e. stays (left-bad v w bytes k e .1) (left-bad v (opposite w) bytes k e .1)) (either (isImage (variant v) bytes)))
+    ⊎-elim
+    (λ k. ⊎-elim
+    (λ q. ⊎-elim (through k q) (λ e. stays (left-bad v w bytes k q e .1) (left-bad v (opposite w) bytes k q e .1)) (either (isImage (variant v) bytes)))
+    (λ q. stays (left-other v w bytes k q .1) (left-other v (opposite w) bytes k q .1)) (either (isSponge (variant v))))
     (λ k. stays (left-unknown v w bytes k .1) (left-unknown v (opposite w) bytes k .1)) (either (known v))
   where
     -- refused both ways
     stays : bytes ≡ permutedImage v w bytes → bytes ≡ permutedImage v (opposite w) bytes → permutedImage v (opposite w) (permutedImage v w bytes) ≡ bytes
     stays there back = ap (permutedImage v (opposite w)) (sym there) ∙ sym back
 
-    through : known v ≡ true → isImage (variant v) bytes ≡ true → permutedImage v (opposite w) (permutedImage v w bytes) ≡ bytes
-    through k e =
+    through : known v ≡ true → isSponge (variant v) ≡ true → isImage (variant v) bytes ≡ true → permutedImage v (opposite w) (permutedImage v w bytes) ≡ bytes
+    through k q e =
         let s : List Bool = stateIn (variant v) bytes in
         let ls : length s ≡ variant v .t = image-state v k bytes e in
         let P : List Bool = permutation (variant v) w s in
-        let lP : length P ≡ variant v .t = permutation-length v k w s ls in
-        rw (← left-permuted v w bytes k e .1, ← left-permuted v (opposite w) (imageOf (variant v) P) k (image-is-image (variant v) P lP) .1)
-        (rw (state-image (variant v) P lP, permutation-undo v k w s ls) (image-again v k bytes e hb))
+        let lP : length P ≡ variant v .t = permutation-length v k q w s ls in
+        rw (← left-permuted v w bytes k q e .1, ← left-permuted v (opposite w) (imageOf (variant v) P) k q (image-is-image (variant v) P lP) .1)
+        (rw (state-image (variant v) P lP, permutation-undo v k q w s ls) (image-again v k bytes e hb))

@@ -174,7 +174,7 @@ front-bytes m n b z hm hn hb =
 
 module _ (v : ℕ) (low : 6 ≤ v) (high : v ≤ 10) (w : List ℕ) where
   sized : Bounds (variant v)
-  sized = bounds v (known-true v (omega arith) high)
+  sized = bounds v (known-true v (omega arith) (omega arith))
 
   pub spongent-image : (r : List ℕ) (n : ℕ) → n ≡ imageSize (variant v) → r ≡ take n (bytesIn w) ++ replicate (36 - n) 0 → r ≡ packedState (variant v) (stateInWords (variant v) w)
   unfolding stateInWords

@@ -11,6 +11,7 @@ pub mod BlockHalves
 pub mod BlockRows
 pub mod PartBytes
 pub mod BlockRuns
+pub mod LastBlocks
 pub mod WordPlaces
 pub mod RowsIntoBytes
 pub mod CellsOfBytes

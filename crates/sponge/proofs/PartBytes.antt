@@ -57,6 +57,10 @@ pub spongent-counts : (v : ℕ) → 6 ≤ v → v ≤ 10 → (k b : ℕ) → cou
 unfolding variant
 spongent-counts = six-to-ten (λ v. (k b : ℕ) → countedOf (variant v .family) k b ≡ b % 2 ^ k) (λ k b. refl) (λ k b. refl) (λ k b. refl) (λ k b. refl) (λ k b. refl)
 
+pub lesamnta-counts : (v : ℕ) → v ≡ 11 → (k b : ℕ) → countedOf (variant v .family) k b ≡ b / 2 ^ (8 - k)
+unfolding variant
+lesamnta-counts v e k b = ap (λ (n : ℕ). countedOf (variant n .family) k b) e
+
 -- a power that the code makes by a shift
 pub power : (k : ℕ) → k ≤ 8 → 1 * 2 ^ k % 2 ^ 32 ≡ 2 ^ k
 power k h = shl-exact 1 k 32 (omega arith) (omega arith) ∙ one-mul (2 ^ k)

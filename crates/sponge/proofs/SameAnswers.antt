@@ -9,7 +9,7 @@ use native.Mathlib.Omega.{arith}
 use lib.ListN.{take, drop, replicate}
 use Rattle.standard.specs.Bits.{high-first, bitsIn}
 use Rattle.standard.specs.Rounds.{forward}
-use Rattle.standard.specs.Sponge.{permutation, stateIn}
+use Rattle.standard.specs.Sponge.{isSponge, permutation, stateIn}
 use Rattle.standard.specs.Chain.{step}
 use Rattle.standard.specs.Variants.{variant, known}
 use Rattle.standard.proofs.Variants.{bounds}
@@ -19,13 +19,13 @@ use Rattle.sponge.proofs.SqueezeLaws.{zero-step}
 
 -- The bytes s, permuted: `old` is what `step::permuted` promises of them, and `new` what `words::words_of` (at), `words::step_words` over a block of
 -- zeros (next) and `words::bytes_of` promise one after another.
-pub same-answer : (v : ℕ) → known v ≡ true → (s old at next new : List ℕ)
+pub same-answer : (v : ℕ) → known v ≡ true → isSponge (variant v) ≡ true → (s old at next new : List ℕ)
     → old ≡ packedState (variant v) (permutation (variant v) forward (stateIn (variant v) s))
     → stateInWords (variant v) at ≡ stateIn (variant v) s
     → stateInWords (variant v) next ≡ step (variant v) (stateInWords (variant v) at) (take (variant v .r) (drop 0 (bitsIn high-first (replicate blockRoom 0))))
     → new ≡ packedState (variant v) (stateInWords (variant v) next)
     → new ≡ old
-same-answer v k s old at next new eo ea en e =
+same-answer v k q s old at next new eo ea en e =
     e
-    ∙ ap (packedState (variant v)) (en ∙ zero-step (variant v) (stateInWords (variant v) at) blockRoom (omega (arith, bounds v k .rate-most)) ∙ ap (permutation (variant v) forward) ea)
+    ∙ ap (packedState (variant v)) (en ∙ zero-step (variant v) q (stateInWords (variant v) at) blockRoom (omega (arith, bounds v k .rate-most)) ∙ ap (permutation (variant v) forward) ea)
     ∙ sym eo

@@ -12,7 +12,7 @@ use lib.ListN.{length, take, drop, length-append, length-drop, length-take, leng
 use lib.Seq.{length-take-le, take-add, take-all, take-take, take-append-le}
 use Rattle.standard.specs.Bits.{Order, high-first, bitsOf, bitsIn, pack, unpack, bytesFor, reordered}
 use Rattle.standard.specs.Rounds.{forward, iterate}
-use Rattle.standard.specs.Sponge.{Variant, order, permutation, spongeStep, outputs, outputCount, outputBlocks, squeezed}
+use Rattle.standard.specs.Sponge.{Variant, isSponge, order, permutation, spongeStep, outputs, outputCount, outputBlocks, squeezed}
 use Rattle.standard.specs.Chain.{step}
 use Rattle.standard.specs.Variants.{variant, known}
 use Rattle.standard.proofs.BitLaws.{length-bitsIn, length-unpack, length-pack, bitsOf-valueOf, bitsIn-take, bitsIn-zeros, take-pack, pack-none, xorInto-zeros}
@@ -91,9 +91,9 @@ unfolding reordered unpack
 reordered-zeros a b n = rw (length-replicate, packed-zeros, bitsIn-zeros, take-zeros n (8 * bytesFor n) (omega arith))
 
 -- is the permutation
-pub zero-step : (H : Variant) (S : List Bool) (k : ℕ) → H .r ≤ 8 * k → step H S (take (H .r) (bitsIn high-first (replicate k 0))) ≡ permutation H forward S
+pub zero-step : (H : Variant) → isSponge H ≡ true → (S : List Bool) (k : ℕ) → H .r ≤ 8 * k → step H S (take (H .r) (bitsIn high-first (replicate k 0))) ≡ permutation H forward S
 unfolding spongeStep
-zero-step H S k h = rw (step-sponge, bitsIn-zeros, take-zeros (H .r) (8 * k) h, reordered-zeros, xorInto-zeros)
+zero-step H q S k h = rw (step-sponge H q, bitsIn-zeros, take-zeros (H .r) (8 * k) h, reordered-zeros, xorInto-zeros)
 
 -- ---- output blocks, one after the other
 
@@ -146,11 +146,12 @@ module _ (f : List Bool → List Bool) (r m : ℕ) (pos : 0 < r) (s : List Bool)
 -- p of n half bytes of the digest are out, q with each output block, and what the state S still gives makes it whole: the digest out of the end state E
 pub record Squeezing (v : ℕ) (E : List Bool) (n q : ℕ) (out : List ℕ) (S : List Bool) (p : ℕ) : Type 0 where
   pub number : known v ≡ true
+  pub sponge : isSponge (variant v) ≡ true
   pub digest : 4 * n ≡ variant v .n
   pub digest-most : n ≤ 64
   pub block : 4 * q ≡ variant v .r′
   pub block-least : 0 < q
-  pub block-most : q ≤ 9
+  pub block-most : q ≤ 64
   pub wanted : p < n
   pub state : length S ≡ variant v .t
   pub kept : out ≡ pack high-first stateRoom (unpack high-first (4 * p) out)
@@ -162,14 +163,15 @@ pub record Squeezing (v : ℕ) (E : List Bool) (n q : ℕ) (out : List ℕ) (S :
   pub ahead : iterate (blocksFor (variant v .r′) (variant v .n - 4 * p) - 1) (permutation (variant v) forward) S
       ≡ iterate (outputCount (variant v) - 1) (permutation (variant v) forward) E
 
-pub squeezing-start : (v : ℕ) → known v ≡ true → (E : List Bool) → length E ≡ variant v .t → (n q : ℕ) → n ≡ variant v .n / 8 * 2 → q ≡ variant v .r′ / 4
+pub squeezing-start : (v : ℕ) → known v ≡ true → isSponge (variant v) ≡ true → (E : List Bool) → length E ≡ variant v .t → (n q : ℕ) → n ≡ variant v .n / 8 * 2 → q ≡ variant v .r′ / 4
     → Squeezing v E n q (replicate stateRoom 0) E 0
 unfolding squeezed outputBlocks unpack
-squeezing-start v k E l n q en eq =
+squeezing-start v k z E l n q en eq =
     let H : Variant = variant v in
     let b : Bounds H = bounds v k in
     record {
       number = k;
+      sponge = z;
       digest = omega (arith, b .digest-whole);
       digest-most = omega (arith, b .digest-most);
       block = omega (arith, b .output-quarters);
@@ -209,7 +211,7 @@ module _ (v : ℕ) (E : List Bool) (n q : ℕ) (out : List ℕ) (S : List Bool) 
     unfolding flatMap
     squeezing-more more next h em ex =
         let k = u .number in
-        let stepped : next ≡ permutation H forward S = ex ∙ zero-step H S blockRoom (omega (arith, b .rate-most)) in
+        let stepped : next ≡ permutation H forward S = ex ∙ zero-step H (u .sponge) S blockRoom (omega (arith, b .rate-most)) in
         let X : List Bool = unpack high-first (4 * p) out in
         let Y : List Bool = take (4 * q) (bitsIn high-first s) in
         let again : unpack high-first (4 * (p + q)) more ≡ X ++ Y =
@@ -220,13 +222,14 @@ module _ (v : ℕ) (E : List Bool) (n q : ℕ) (out : List ℕ) (S : List Bool) 
         let rest : H .n - 4 * p - H .r′ ≡ H .n - 4 * (p + q) = omega arith in
         record {
           number = k;
+          sponge = u .sponge;
           digest = u .digest;
           digest-most = u .digest-most;
           block = u .block;
           block-least = u .block-least;
           block-most = u .block-most;
           wanted = h;
-          state = ap length stepped ∙ permutation-length v k forward S (u .state);
+          state = ap length stepped ∙ permutation-length v k (u .sponge) forward S (u .state);
           kept = front-kept out s squeezing-room ls p q (omega arith) more em;
           layout = ⊎-elim inl (λ e. ⊎-elim inl (λ (w : WholeBytes H). inr (omega arith)) (layouts v k)) (u .layout);
           left =

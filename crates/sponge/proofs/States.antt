@@ -13,14 +13,14 @@ use Rattle.standard.specs.Rounds.{Direction, backward}
 use Rattle.standard.specs.Grid.{Grid, window, Small}
 use Rattle.standard.specs.Photon.{photonRounds, matrixOf, bitsOfMatrix, photonPermutation}
 use Rattle.standard.specs.Spongent.{spongentPermutation}
-use Rattle.standard.specs.Sponge.{Variant, order, permutation, unstep, stateIn}
+use Rattle.standard.specs.Sponge.{Variant, isSponge, order, permutation, unstep, stateIn}
 use Rattle.standard.specs.Variants.{variant, known}
 use Rattle.standard.proofs.Tests.{one-to-five}
 use Rattle.standard.proofs.Tab.{small-window}
 use Rattle.standard.proofs.BitLaws.{length-unpack}
 use Rattle.standard.proofs.PhotonLaws.{photonRounds-state}
 use Rattle.standard.proofs.MatrixLaws.{matrixOf-square, matrixOf-small}
-use Rattle.standard.proofs.Variants.{Bounds, bounds, sponge, permutation-length}
+use Rattle.standard.proofs.Variants.{Bounds, bounds, WholeBytes, layouts, permutation-length}
 use Rattle.photon.specs.Parameters.{photonOf}
 use Rattle.photon.proofs.ParametersOf.{photon-variant, sound}
 use Rattle.spongent.specs.Parameters.{spongentOf}
@@ -78,7 +78,7 @@ module _ (v : ℕ) (low : 6 ≤ v) (high : v ≤ 10) where
   unfolding permutation stateIn
   spongent-state bytes r w e = rw (family-of v low high, bits-of v low high) e
 
--- ---- all ten
+-- ---- by number
 
 module _ (v : ℕ) (k : known v ≡ true) where
   b : Bounds (variant v)
@@ -109,17 +109,17 @@ module _ (v : ℕ) (k : known v ≡ true) where
         let H : Variant = variant v in
         let B : List Bool = blockIn H z in
         let lB : length B ≡ H .r = length-unpack high-first (H .r) z (omega (arith, b .rate-most)) in
-        let w : (high-first ≡ order H) ⊎ (length B % 8 ≡ 0) = ⊎-elim inl (λ e. inr (ap (λ (n : ℕ). n % 8) lB ∙ e)) (sponge v k .layout) in
+        let w : (high-first ≡ order H) ⊎ (length B % 8 ≡ 0) = ⊎-elim inl (λ e. inr (ap (λ (n : ℕ). n % 8) lB ∙ e)) (⊎-elim inl (λ (y : WholeBytes H). inr (y .block)) (layouts v k)) in
         taken-bytes (order H) (H .t) (b .state-most) s x B ls hx lx es w (omega (arith, b .rate-most)) (omega (arith, b .rate-fits))
         (ex (order H) ∙ ap (λ (l : List ℕ). xorInto (bitsIn (order H) s) (bitsIn (order H) l)) ez)
 
   -- the permutation taken back, and then the block xored out
-  pub taken-back : (s p x z : List ℕ) → length s ≡ stateRoom → length p ≡ stateRoom → length z ≡ blockRoom → ((i : ℕ) → getD x i 0 < 256) → length x ≡ stateRoom
+  pub taken-back : isSponge (variant v) ≡ true → (s p x z : List ℕ) → length s ≡ stateRoom → length p ≡ stateRoom → length z ≡ blockRoom → ((i : ℕ) → getD x i 0 < 256) → length x ≡ stateRoom
       → p ≡ packedState (variant v) (permutation (variant v) backward (stateIn (variant v) s)) → HoldsBlock v z
       → ((o : Order) → bitsIn o x ≡ xorInto (bitsIn o p) (bitsIn o z))
       → x ≡ packedState (variant v) (unstep (variant v) (stateIn (variant v) s) (blockIn (variant v) z))
   unfolding unstep
-  taken-back s p x z ls lp lz hx lx ep ez ex =
+  taken-back q s p x z ls lp lz hx lx ep ez ex =
       let S : List Bool = permutation (variant v) backward (stateIn (variant v) s) in
-      let lS : length S ≡ variant v .t = permutation-length v k backward (stateIn (variant v) s) (state-length s ls) in
+      let lS : length S ≡ variant v .t = permutation-length v k q backward (stateIn (variant v) s) (state-length s ls) in
       rw (stored p S lS ep) at (taken-state p x z lp lz hx lx (stored-ready p S lS ep) ez ex)

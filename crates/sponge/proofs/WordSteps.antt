@@ -26,7 +26,7 @@ use Rattle.standard.proofs.Reordered.{reordered-same}
 use Rattle.standard.proofs.MatrixLaws.{length-bitsOfMatrix, matrixOf-square, bits-matrix}
 use Rattle.standard.proofs.PhotonLaws.{State}
 use Rattle.standard.proofs.Sponge.{step-sponge}
-use Rattle.standard.proofs.Variants.{known-low, known-high}
+use Rattle.standard.proofs.Variants.{known-low, known-high, sponge-true}
 use Rattle.shares.specs.Columns.{cellOf, placeIn, placeOf}
 use Rattle.shares.proofs.LookUps.{words-state}
 use Rattle.photon.specs.Parameters.{photonOf}
@@ -39,7 +39,11 @@ use Rattle.spongent.proofs.ParametersOf.{family-of, bits-of, sizes-of}
 use Rattle.spongent.proofs.WordLaws.{length-bytesIn}
 use Rattle.sponge.specs.Cells.{cellIn}
 use Rattle.sponge.specs.Words.{stateInWords}
-use Rattle.sponge.specs.Layout.{stateRoom}
+use Rattle.standard.specs.Lesamnta.{lesamntaStep}
+use Rattle.standard.specs.Grid.{tab}
+use Rattle.standard.proofs.LesamntaLaws as lw
+use Rattle.lesamnta.specs.Words.{stateOf}
+use Rattle.sponge.specs.Layout.{stateRoom, packedState}
 use Rattle.sponge.proofs.MatrixImage.{filled-take, matrix-front}
 use Rattle.sponge.proofs.CellsIntoWords.{Taken, taken-none, taken-row, columns-are, matrix-xor, block-cell}
 
@@ -61,7 +65,7 @@ module _ (v : ℕ) (low : 1 ≤ v) (high : v ≤ 5) where
       (λ i j hi hj. matrix-xor (p .d) (p .s) (matrixIn v w) (k .square) (k .small) B i j hi hj
       ∙ ap₂ bitXor (at-grid (p .d) (λ a b. cellOf (placeOf p) (p .s) a (getD w b 0)) i j hi hj) (block-cell bytes (p .s) c from q begins room (i * p .d + j) (omega (arith, sound v low high .nibble)))
       ∙ sym (u .cell i j hi hj)) in
-      rw (step-sponge, photon-variant v low high, reordered-same, rate, taken, e)
+      rw (step-sponge (variant v) (sponge-true v low (omega arith)), photon-variant v low high, reordered-same, rate, taken, e)
 
 first-place : (v : ℕ) → 1 ≤ v → v ≤ 5 → 0 ≡ placeOf (photonOf v) 0
 unfolding photonOf variant
@@ -233,7 +237,7 @@ spongent-stepped v low high bytes m room even w y e =
     let place : 8 * (m / 2) ≡ 4 * m = omega (arith, even (whole-rate v low high)) in
     let block : take (variant v .r) (drop (4 * m) (bitsIn high-first bytes)) ≡ bitsIn high-first (take q (drop (m / 2) bytes)) =
     ap₂ (λ (a b : ℕ). take a (drop b (bitsIn high-first bytes))) (sym rate) (sym place) ∙ ap (take (8 * q)) (bitsIn-drop high-first (m / 2) bytes) ∙ bitsIn-take high-first q (drop (m / 2) bytes) in
-    rw (step-sponge, family-of v low high, block, reordered-bytes) e
+    rw (step-sponge (variant v) (sponge-true v (omega arith) high), family-of v low high, block, reordered-bytes) e
 
 -- ---- the state of the words that are made from bytes
 
@@ -261,10 +265,32 @@ pub spongent-words : (v : ℕ) → 6 ≤ v → v ≤ 10 → (bytes r : List ℕ)
 unfolding stateInWords stateIn
 spongent-words v low high bytes r e = rw (family-of v low high, bits-of v low high, e)
 
+-- ---- Lesamnta-LW
+
+pub lesamnta-stepped : (bytes : List ℕ) (m : ℕ) → m % 2 ≡ 0 → (w y : List ℕ)
+    → stateOf y ≡ lesamntaStep (stateOf w) (take 128 (drop (8 * (m / 2)) (bitsIn high-first bytes)))
+    → stateInWords (variant 11) y ≡ step (variant 11) (stateInWords (variant 11) w) (take (variant 11 .r) (drop (4 * m) (bitsIn high-first bytes)))
+unfolding stateInWords step variant
+lesamnta-stepped bytes m even w y e =
+    let place : 8 * (m / 2) ≡ 4 * m = omega arith in
+    e ∙ ap (λ (n : ℕ). lesamntaStep (stateOf w) (take 128 (drop n (bitsIn high-first bytes)))) place
+
+pub lesamnta-words : (bytes r : List ℕ) → stateOf r ≡ take 256 (bitsIn high-first bytes) → stateInWords (variant 11) r ≡ stateIn (variant 11) bytes
+unfolding stateInWords stateIn unpack variant
+lesamnta-words bytes r e = e
+
+pub lesamnta-image : (w r : List ℕ) → r ≡ pack high-first 36 (stateOf w) → r ≡ packedState (variant 11) (stateInWords (variant 11) w)
+unfolding stateInWords variant
+lesamnta-image w r e = e
+
+lesamnta-length : (w : List ℕ) → length (stateInWords (variant 11) w) ≡ variant 11 .t
+unfolding stateInWords stateOf variant
+lesamnta-length w = lw.bits-length 64 (tab 4 (λ i. getD w i 0))
+
 -- words hold as many bits as the state has
 pub words-length : (v : ℕ) → known v ≡ true → (w : List ℕ) → length (stateInWords (variant v) w) ≡ variant v .t
 unfolding stateInWords
-words-length v k w = ⊎-elim photons spongents (lt-or-le v 6)
+words-length v k w = ⊎-elim photons (λ low. ⊎-elim (spongents low) last (lt-or-le v 11)) (lt-or-le v 6)
   where
     photons : v < 6 → length (stateInWords (variant v) w) ≡ variant v .t
     photons h =
@@ -272,7 +298,12 @@ words-length v k w = ⊎-elim photons spongents (lt-or-le v 6)
         let high : v ≤ 5 = omega arith in
         rw (photon-variant v low high) (length-bitsOfMatrix (photonOf v .d) (photonOf v .s) (matrixIn v w) (square-grid (photonOf v .d) _) ∙ sym (state-size v low high))
 
-    spongents : 6 ≤ v → length (stateInWords (variant v) w) ≡ variant v .t
-    spongents low =
-        let high : v ≤ 10 = known-high v k in
+    spongents : 6 ≤ v → v < 11 → length (stateInWords (variant v) w) ≡ variant v .t
+    spongents low h =
+        let high : v ≤ 10 = omega arith in
         rw (family-of v low high) (length-unpack low-first (spongentOf v .t) (bytesIn w) (omega (arith, length-bytesIn w, sizes-of v low high .most)) ∙ sym (bits-of v low high))
+
+    last : 11 ≤ v → length (stateInWords (variant v) w) ≡ variant v .t
+    last low =
+        let eleven : v ≡ 11 = omega (arith, known-high v k) in
+        subst (λ (n : ℕ). length (stateInWords (variant n) w) ≡ variant n .t) (sym eleven) (lesamnta-length w)

@@ -6,12 +6,12 @@ use Prim.Native.Nat.{ℕ}
 use lib.Dec.{eqb}
 use lib.ListN.{length, drop}
 use Rattle.answers.specs.declared.Status.{Status}
-use Rattle.answers.specs.declared.Refusal.the-variants.{UnknownVariant, BadImage}
+use Rattle.answers.specs.declared.Refusal.the-variants.{UnknownVariant, BadImage, NotSponge}
 use Rattle.answers.specs.Checks.{Check, unless, firstRefusal}
 use Rattle.answers.specs.Outputs.{whenDone}
 use Rattle.standard.specs.Bits.{bitsIn}
 use Rattle.standard.specs.Rounds.{Direction}
-use Rattle.standard.specs.Sponge.{Variant, order, permutation, imageSize, imageOf, stateIn}
+use Rattle.standard.specs.Sponge.{Variant, isSponge, order, permutation, imageSize, imageOf, stateIn}
 use Rattle.standard.specs.Variants.{variant, known}
 use Rattle.sponge.specs.Layout.{clear}
 
@@ -19,9 +19,9 @@ use Rattle.sponge.specs.Layout.{clear}
 unfoldable pub isImage : Variant → List ℕ → Bool
 isImage H bytes = eqb (length bytes) (imageSize H) && clear (drop (H .t) (bitsIn (order H) bytes))
 
--- document 01, the permutation on an image: refusal 1, then 6
+-- document 01, the permutation on an image: 1; 17 (document 02, Q-7); 6
 abbrev pub imageChecks : ℕ → List ℕ → List Check
-imageChecks v bytes = unless (known v) UnknownVariant ∷ unless (isImage (variant v) bytes) BadImage ∷ []
+imageChecks v bytes = unless (known v) UnknownVariant ∷ unless (isSponge (variant v)) NotSponge ∷ unless (isImage (variant v) bytes) BadImage ∷ []
 
 -- the answer
 unfoldable pub imageStatus : ℕ → List ℕ → Status

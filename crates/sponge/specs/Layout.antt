@@ -13,7 +13,7 @@ abbrev pub stateRoom : ℕ
 stateRoom = 36
 
 abbrev pub blockRoom : ℕ
-blockRoom = 5
+blockRoom = 16
 
 abbrev pub digestRoom : ℕ
 digestRoom = 32

@@ -3,6 +3,7 @@ pub mod Layout
 pub mod Cells
 pub mod Blocks
 pub mod Parts
+pub mod Endings
 pub mod Directions
 pub mod Images
 pub mod Words

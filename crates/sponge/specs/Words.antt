@@ -8,17 +8,20 @@ use lib.ListN.{length}
 use Rattle.standard.specs.Bits.{low-first, high-first, unpack, pack}
 use Rattle.standard.specs.Photon.{bitsOfMatrix}
 use Rattle.standard.specs.Spongent.{nibbles}
-use Rattle.standard.specs.Sponge.{Family, photon, spongent, Variant, squeezed}
+use Rattle.standard.specs.Sponge.{Family, photon, spongent, lesamnta, Variant, givenOut}
 use Rattle.shares.specs.Columns.{matrixOfWords, placeOf}
 use Rattle.shares.specs.Tables.{Entries, Pairs}
 use Rattle.photon.specs.Parameters.{photonOf}
 use Rattle.spongent.specs.Words.{bytesIn, LookUps}
+use Rattle.lesamnta.specs.LookUps as boxes
+use Rattle.lesamnta.specs.Words.{stateOf}
 use Rattle.sponge.specs.Layout.{stateRoom, packedState}
 
--- by family: PHOTON's matrix has a column in each word, SPONGENT's bytes stand in order, eight to a word
+-- by family: PHOTON's matrix has a column in each word, SPONGENT's bytes stand in order, eight to a word, and Lesamnta-LW's words are its own
 abbrev pub stateOfWords : Family → List ℕ → List Bool
 stateOfWords (photon p) words = bitsOfMatrix (p .s) (matrixOfWords (placeOf p) p words)
 stateOfWords (spongent p) words = unpack low-first (p .t) (bytesIn words)
+stateOfWords lesamnta words = stateOf words
 
 -- the state of a variant that words hold
 unfoldable pub stateInWords : Variant → List ℕ → List Bool
@@ -28,8 +31,9 @@ stateInWords H words = stateOfWords (H .family) words
 pub record TableOf (v : ℕ) (table : List ℕ) : Type 0 where
   pub pairs : v ≤ 4 → Pairs (photonOf v) table
   pub shares : v ≡ 5 → (length table ≡ 1552) × Entries 1552 (photonOf 5) table
-  pub spread : 6 ≤ v → (length table ≡ 2048) × LookUps nibbles table
+  pub spread : 6 ≤ v → v ≤ 10 → (length table ≡ 2048) × LookUps nibbles table
+  pub boxes : v ≡ 11 → (length table ≡ 320) × boxes.LookUps 64 table
 
--- the digest that is squeezed out of a state, or the state itself, at the front of bytes that have room for either
+-- the digest that a state gives, or the state itself, at the front of bytes that have room for either
 abbrev pub outcome : Variant → Bool → List Bool → List ℕ
-outcome H digest s = cond digest (pack high-first stateRoom (squeezed H s)) (packedState H s)
+outcome H digest s = cond digest (pack high-first stateRoom (givenOut (H .family) H s)) (packedState H s)

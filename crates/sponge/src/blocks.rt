@@ -36,7 +36,7 @@ fn half_at(held: &[u8], p: usize, piece: &[u8], last: u8, n: usize) -> u8
 
 // The byte k of q half bytes from the half byte `first` on.
 fn byte_at(held: &[u8], p: usize, piece: &[u8], last: u8, first: usize, q: usize, k: usize) -> u8
-    requires { ⌜ (p ≤ 2 * length (now held)) × (q ≤ 10) × (first ≤ 2 ^ 40) × (2 * k < q) ⌝ }
+    requires { ⌜ (p ≤ 2 * length (now held)) × (q ≤ 32) × (first ≤ 2 ^ 40) × (2 * k < q) ⌝ }
     ensures { λ r. ⌜ r ≡ getD (packedBlock (filled (4 * q) (drop (4 * first) (heldThen (now (held .entry)) p (now (piece .entry) ++ last ∷ []))))) k 0 ⌝ }
 {
     let n = first + 2 * k;
@@ -56,7 +56,7 @@ pub fn block_at(
     first: usize,
     q: usize,
 ) -> [u8; BLOCK_BYTES]
-    requires { ⌜ (p ≤ 2 * length (now held)) × (q ≤ 10) × (first ≤ 2 ^ 40) ⌝ }
+    requires { ⌜ (p ≤ 2 * length (now held)) × (q ≤ 32) × (first ≤ 2 ^ 40) ⌝ }
     ensures { λ r. ⌜ r ≡ packedBlock (filled (4 * q) (drop (4 * first) (heldThen (now (held .entry)) p (now (piece .entry) ++ last ∷ [])))) ⌝ }
 {
     let n = (q + 1) / 2;
@@ -69,7 +69,7 @@ pub fn block_at(
 
 // Whether the q half bytes from the half byte `first` on all come from a piece of `length` bytes behind p half bytes, and begin at a byte of it where they are whole bytes.
 fn is_inside(p: usize, length: usize, first: usize, q: usize) -> bool
-    requires { ⌜ (q ≤ 10) × (first ≤ 2 ^ 40) ⌝ }
+    requires { ⌜ (q ≤ 32) × (first ≤ 2 ^ 40) ⌝ }
     ensures { λ r. ⌜ (r ≡ true → (p ≤ first) × (first - p + q ≤ 2 * length) × (q % 2 ≡ 0 → (first - p) % 2 ≡ 0)) ⌝ }
 {
     if first < p {

@@ -6,7 +6,7 @@ ghost use Prim.Native.Nat.{_+_, _-_, _%_, _≤_};
 ghost use lib.ListN.{length, take, drop, replicate};
 ghost use Rattle.standard.specs.Bits.{high-first, bitsIn};
 ghost use Rattle.standard.specs.Rounds.{forward, backward};
-ghost use Rattle.standard.specs.Sponge.{permutation, imageOf, stateIn};
+ghost use Rattle.standard.specs.Sponge.{isSponge, permutation, imageOf, stateIn};
 ghost use Rattle.standard.specs.Variants.{variant, known};
 ghost use Rattle.sponge.specs.Layout.{stateRoom, clear};
 ghost use Rattle.sponge.specs.Directions.{directionOf};
@@ -79,9 +79,9 @@ pub fn is_image(v: u8, image: &[u8]) -> bool
     clear_from(image, sizes::state_bits(v))
 }
 
-// The state of an image, permuted in place.
+// The state of a sponge's image, permuted in place.
 fn permute_state(v: u8, image: &mut [u8], way: Direction)
-    requires { ⌜ known v ≡ true ⌝ }
+    requires { ⌜ (known v ≡ true) × (isSponge (variant v) ≡ true) ⌝ }
     requires { ⌜ isImage (variant v) (now image) ≡ true ⌝ }
     ensures { λ _. ⌜ now (image .exit) ≡ imageOf (variant v) (permutation (variant v) (directionOf way) (stateIn (variant v) (now (image .entry)))) ⌝ }
 {
@@ -99,6 +99,9 @@ fn permute_image(variant: u32, image: &mut [u8], way: Direction) -> Status
         return Status::Refused(Refusal::UnknownVariant);
     }
     let v = variant as u8;
+    if !sizes::is_sponge(v) {
+        return Status::Refused(Refusal::NotSponge);
+    }
     if !is_image(v, image) {
         return Status::Refused(Refusal::BadImage);
     }
@@ -106,7 +109,7 @@ fn permute_image(variant: u32, image: &mut [u8], way: Direction) -> Status
     Status::Done
 }
 
-// The permutation on an image: refusal 1, then 6. A refusal leaves every byte.
+// The permutation on an image: refusals 1, 17, 6. A refusal leaves every byte.
 pub fn permute(variant: u32, image: &mut [u8]) -> Status
     ensures { λ r. ⌜ (r ≡ imageStatus variant (now (image .entry)))
         × (now (image .exit) ≡ permutedImage variant forward (now (image .entry))) ⌝ }

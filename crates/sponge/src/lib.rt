@@ -1,5 +1,6 @@
-// The ten variants on bytes: sizes, images, blocks, the block step and the squeezed digest; and the permutation on an image that a caller lends.
+// The variants on bytes: sizes, images, blocks, the block step and the squeezed digest; and the permutation on an image that a caller lends.
 pub mod blocks;
+pub mod endings;
 pub mod images;
 mod matrix;
 pub mod outcome;

@@ -4,7 +4,7 @@ ghost use mathlib.Core.Bool.{true, false};
 ghost use mathlib.Core.List.{[], _∷_, _++_};
 ghost use Prim.Native.Nat.{_*_, _^_, _≤_};
 ghost use lib.ListN.{length};
-ghost use Rattle.standard.specs.Sponge.{stateIn};
+ghost use Rattle.standard.specs.Sponge.{isSponge, stateIn};
 ghost use Rattle.standard.specs.Chain.{run};
 ghost use Rattle.standard.specs.Variants.{variant, known};
 ghost use Rattle.sponge.specs.Layout.{packedState, Holds};
@@ -15,7 +15,7 @@ use crate::sizes::STATE_BYTES;
 use crate::squeeze;
 use crate::words;
 
-// With the table of the variant at hand.
+// Of a sponge, with its table at hand.
 fn outcome_with(
     v: u8,
     s: [u8; STATE_BYTES],
@@ -27,7 +27,7 @@ fn outcome_with(
     digest: bool,
     table: &[u64],
 ) -> [u8; STATE_BYTES]
-    requires { ⌜ (known v ≡ true) × (p ≤ 2 * length (now held)) × (count ≤ 2 ^ 32) ⌝ }
+    requires { ⌜ (known v ≡ true) × (isSponge (variant v) ≡ true) × (p ≤ 2 * length (now held)) × (count ≤ 2 ^ 32) ⌝ }
     requires { ⌜ TableOf v (now table) ⌝ }
     ensures { λ r. ⌜ r ≡ outcome (variant v) digest (run (variant v) (stateIn (variant v) s) (firstBlocks (variant v .r) count (heldThen (now (held .entry)) p (now (piece .entry) ++ last ∷ [])))) ⌝ }
 {
@@ -93,7 +93,26 @@ fn outcome_spread(
     outcome_with(v, s, held, p, piece, last, count, digest, &table)
 }
 
-// The state after the first `count` blocks, or the digest that is squeezed out of it.
+// Lesamnta-LW gives its state out as it is.
+fn outcome_boxes(
+    s: [u8; STATE_BYTES],
+    held: &[u8],
+    p: usize,
+    piece: &[u8],
+    last: u8,
+    count: usize,
+) -> [u8; STATE_BYTES]
+    requires { ⌜ (p ≤ 2 * length (now held)) × (count ≤ 2 ^ 32) ⌝ }
+    ensures { λ r. ⌜ r ≡ packedState (variant 11) (run (variant 11) (stateIn (variant 11) s) (firstBlocks (variant 11 .r) count (heldThen (now (held .entry)) p (now (piece .entry) ++ last ∷ [])))) ⌝ }
+{
+    let mut table = [0u64; 320];
+    lesamnta::fill_table(&mut table);
+    let mut w = words::words_of(11, s);
+    blocks::run_words(11, &mut w, held, p, piece, last, count, &table);
+    words::bytes_of(11, &w)
+}
+
+// The state after the first `count` blocks, or the digest that it gives.
 pub fn outcome_after(
     v: u8,
     s: [u8; STATE_BYTES],
@@ -112,6 +131,9 @@ pub fn outcome_after(
     }
     if v == 5 {
         return outcome_shares(s, held, p, piece, last, count, digest);
+    }
+    if v == 11 {
+        return outcome_boxes(s, held, p, piece, last, count);
     }
     outcome_spread(v, s, held, p, piece, last, count, digest)
 }

@@ -58,13 +58,16 @@ pub fn check_message_bits(variant: u32, message: &[u8], bits: u32) -> Status
     check_message(variant, message.len())
 }
 
-// The number that the k counting bits of a byte make: the high ones in PHOTON, the low ones in SPONGENT.
+// The number that the k counting bits of a byte make: the low ones in SPONGENT, the high ones in the others.
 fn counted(v: u8, b: u8, k: usize) -> u32
     requires { ⌜ (known v ≡ true) × (k ≤ 8) ⌝ }
     ensures { λ r. ⌜ (r ≡ countedOf (variant v .family) k b) × (r < 2 ^ k) ⌝ }
 {
     let x = b as u32;
     if v <= 5 {
+        return x >> (8 - k);
+    }
+    if v == 11 {
         return x >> (8 - k);
     }
     x % (1 << k)

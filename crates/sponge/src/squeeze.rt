@@ -6,7 +6,7 @@ ghost use Prim.Native.Nat.{_+_, _-_, _*_, _≤_, _<_};
 ghost use lib.ListN.{length, take};
 ghost use Rattle.standard.specs.Bits.{high-first, bitsIn, pack, unpack};
 ghost use Rattle.standard.specs.Rounds.{forward, iterate};
-ghost use Rattle.standard.specs.Sponge.{permutation, outputCount, squeezed};
+ghost use Rattle.standard.specs.Sponge.{isSponge, permutation, outputCount, squeezed};
 ghost use Rattle.standard.specs.Variants.{variant, known};
 ghost use Rattle.sponge.specs.Layout.{stateRoom};
 ghost use Rattle.sponge.specs.Words.{stateInWords, TableOf};
@@ -31,7 +31,7 @@ fn put_front(out: &mut [u8], p: usize, s: &[u8], q: usize)
 // The digest squeezed out of the state of the words, zeros behind it: whole output blocks with the permutation after each, which is the step of a block of zeros, and
 // what the last has to give. The words hold the state that gave the last.
 pub fn squeezed(v: u8, w: &mut [u64; 8], table: &[u64]) -> [u8; STATE_BYTES]
-    requires { ⌜ known v ≡ true ⌝ }
+    requires { ⌜ (known v ≡ true) × (isSponge (variant v) ≡ true) ⌝ }
     requires { ⌜ TableOf v (now table) ⌝ }
     ensures { λ r. ⌜ r ≡ pack high-first stateRoom (squeezed (variant v) (stateInWords (variant v) (now (w .entry)))) ⌝ }
     ensures { λ _. ⌜ stateInWords (variant v) (now (w .exit))

@@ -5,7 +5,7 @@ ghost use Prim.Native.Nat.{_≤_};
 ghost use lib.ListN.{length};
 ghost use Rattle.standard.specs.Bits.{Order, bitsIn, xorInto};
 ghost use Rattle.standard.specs.Rounds.{direction};
-ghost use Rattle.standard.specs.Sponge.{permutation, startState, unstep, stateIn};
+ghost use Rattle.standard.specs.Sponge.{isSponge, permutation, startState, unstep, stateIn};
 ghost use Rattle.standard.specs.Variants.{variant, known};
 ghost use Rattle.sponge.specs.Layout.{stateRoom, packedState, blockIn, Holds, HoldsBlock};
 ghost use Rattle.sponge.specs.Directions.{directionOf};
@@ -44,9 +44,9 @@ pub fn xored(s: [u8; STATE_BYTES], b: &[u8]) -> [u8; STATE_BYTES]
     out
 }
 
-// The permutation of a variant, or its inverse, on the bytes that hold a state.
+// The permutation of a sponge, or its inverse, on the bytes that hold a state.
 pub fn permuted(v: u8, s: [u8; STATE_BYTES], way: Direction) -> [u8; STATE_BYTES]
-    requires { ⌜ known v ≡ true ⌝ }
+    requires { ⌜ (known v ≡ true) × (isSponge (variant v) ≡ true) ⌝ }
     requires { ⌜ Holds v s ⌝ }
     ensures { λ r. ⌜ r ≡ packedState (variant v) (permutation (variant v) (directionOf way) (stateIn (variant v) s)) ⌝ }
 {
@@ -57,9 +57,9 @@ pub fn permuted(v: u8, s: [u8; STATE_BYTES], way: Direction) -> [u8; STATE_BYTES
     spongent::permuted(v as usize, s, back)
 }
 
-// The block step taken back.
+// The block step of a sponge taken back.
 pub fn unstepped(v: u8, s: [u8; STATE_BYTES], b: [u8; BLOCK_BYTES]) -> [u8; STATE_BYTES]
-    requires { ⌜ known v ≡ true ⌝ }
+    requires { ⌜ (known v ≡ true) × (isSponge (variant v) ≡ true) ⌝ }
     requires { ⌜ Holds v s ⌝ }
     requires { ⌜ HoldsBlock v b ⌝ }
     ensures { λ r. ⌜ r ≡ packedState (variant v) (unstep (variant v) (stateIn (variant v) s) (blockIn (variant v) b)) ⌝ }
@@ -78,11 +78,54 @@ const START_ENDS: [[u8; 4]; 6] = [
     [0x00, 0x40, 0x20, 0x20],
 ];
 
+// The start value of Lesamnta-LW, and zeros behind it.
+const CHAIN_START: [u8; STATE_BYTES] = [
+    0,
+    0,
+    2,
+    0x56,
+    0,
+    0,
+    2,
+    0x56,
+    0,
+    0,
+    2,
+    0x56,
+    0,
+    0,
+    2,
+    0x56,
+    0,
+    0,
+    2,
+    0x56,
+    0,
+    0,
+    2,
+    0x56,
+    0,
+    0,
+    2,
+    0x56,
+    0,
+    0,
+    2,
+    0x56,
+    0,
+    0,
+    0,
+    0,
+];
+
 // The bytes that hold the start state.
 pub fn start(v: u8) -> [u8; STATE_BYTES]
     requires { ⌜ known v ≡ true ⌝ }
     ensures { λ r. ⌜ r ≡ packedState (variant v) (startState (variant v)) ⌝ }
 {
+    if v == 11 {
+        return CHAIN_START;
+    }
     let mut out = [0u8; STATE_BYTES];
     if 5 < v {
         return out;

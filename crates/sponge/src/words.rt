@@ -9,7 +9,7 @@ ghost use lib.ListN.{length, getD, take, drop};
 ghost use Rattle.standard.specs.Bits.{high-first, bitsOf, bitsIn, pack, unpack};
 ghost use Rattle.standard.specs.Grid.{tab};
 ghost use Rattle.standard.specs.Photon.{matrixOf, bitsOfMatrix};
-ghost use Rattle.standard.specs.Sponge.{stateIn};
+ghost use Rattle.standard.specs.Sponge.{isSponge, stateIn};
 ghost use Rattle.standard.specs.Chain.{step};
 ghost use Rattle.standard.specs.Variants.{variant, known};
 ghost use Rattle.shares.specs.Columns.{placeIn};
@@ -145,6 +145,9 @@ pub fn words_of(v: u8, s: [u8; STATE_BYTES]) -> [u64; 8]
     if v == 5 {
         return columns8(&s);
     }
+    if v == 11 {
+        return lesamnta::words_of(&s);
+    }
     spongent::words::words_of(&s)
 }
 
@@ -271,12 +274,15 @@ pub fn bytes_of(v: u8, w: &[u64; 8]) -> [u8; STATE_BYTES]
     if v == 5 {
         return image8(w, 6);
     }
+    if v == 11 {
+        return lesamnta::image(*w);
+    }
     spongent::words::image(w, sizes::image_bytes(v))
 }
 
-// The bytes of the state's first bits, as many as are given out: the rows that have them, and zeros for the others.
+// The bytes of a sponge's first bits, as many as are given out: the rows that have them, and zeros for the others.
 pub fn front_of(v: u8, w: &[u64; 8]) -> [u8; STATE_BYTES]
-    requires { ⌜ known v ≡ true ⌝ }
+    requires { ⌜ (known v ≡ true) × (isSponge (variant v) ≡ true) ⌝ }
     ensures { λ r. ⌜ take (variant v .r′) (bitsIn high-first r) ≡ take (variant v .r′) (bitsIn high-first (packedState (variant v) (stateInWords (variant v) (now (w .entry))))) ⌝ }
 {
     if v == 1 {
@@ -353,6 +359,11 @@ pub fn step_words(v: u8, w: &mut [u64; 8], bytes: &[u8], m: usize, table: &[u64]
 {
     if v <= 5 {
         photon_step(v, w, bytes, m, table);
+        return;
+    }
+    if v == 11 {
+        let next = lesamnta::stepped(*w, bytes, m / 2, table);
+        *w = next;
         return;
     }
     spongent::words::step(v as usize, w, bytes, m / 2, table);

@@ -19,6 +19,7 @@ pub mod Streaming
 pub mod Sponge
 pub mod OneBlock
 pub mod TakenBack
+pub mod LesamntaLaws
 pub mod HighBits
 pub mod PutBits
 pub mod Variants

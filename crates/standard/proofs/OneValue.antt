@@ -12,7 +12,7 @@ use lib.ListN.{length, take, drop, getD, take-append-drop, length-append, List·
 use lib.Seq.{take-all, take-length, take-append-le, drop-append-le, drop-append-add, take-take, drop-drop, take-at, drop-at, take-append-add}
 use borrow.Author.Tests.{leb-true, eqb-true}
 use Rattle.standard.specs.Bits.{high-first, pack}
-use Rattle.standard.specs.Sponge.{Variant, startState}
+use Rattle.standard.specs.Sponge.{Variant, isSponge, startState}
 use Rattle.standard.specs.Chain.{byteBits, padding, padded, wholeBlocks, blocksOf, DifferAt, endState}
 use Rattle.standard.specs.Variants.{variants, variant, known}
 use Rattle.standard.specs.Values.{DifferWithin, inOneBlock, period, offsets, oneBlockOffsets}
@@ -182,32 +182,32 @@ module _ (x y : List ℕ) (hx : (i : ℕ) → getD x i 0 < 256) (hy : (i : ℕ) 
       differ-wider (8 * p) (8 * n) (byteBits x) (byteBits y) (value-bits p n d) j (H .r)
       (omega (arith, div-add-mod' (8 * p) (H .r))) (omega (arith, fits, div-add-mod' (8 * p) (H .r)))
 
--- ---- the theorems by number
+-- ---- the theorems by number, for sponges
 
 -- two messages of bits, of one length or not, whose padded rows have equal count and differ at exactly one block
-pub one-changed-row : (v : ℕ) → known v ≡ true → (i : ℕ) (x y : List Bool) → DifferAt i (blocksOf (variant v) x) (blocksOf (variant v) y)
+pub one-changed-row : (v : ℕ) → known v ≡ true → isSponge (variant v) ≡ true → (i : ℕ) (x y : List Bool) → DifferAt i (blocksOf (variant v) x) (blocksOf (variant v) y)
     → endState (variant v) x ≡ endState (variant v) y → ⊥
-one-changed-row v k = changed-row (variant v) (streams v k) (sponge v k)
+one-changed-row v k q = changed-row (variant v) (streams v k) (sponge v k q)
 
 -- two messages of bits of equal length that differ, and only within the block j
-pub one-changed-part : (v : ℕ) → known v ≡ true → (j : ℕ) (x y : List Bool) → DifferWithin (j * variant v .r) (variant v .r) x y
+pub one-changed-part : (v : ℕ) → known v ≡ true → isSponge (variant v) ≡ true → (j : ℕ) (x y : List Bool) → DifferWithin (j * variant v .r) (variant v .r) x y
     → endState (variant v) x ≡ endState (variant v) y → ⊥
-one-changed-part v k j x y d = changed-end (variant v) (streams v k) j x y d (sponge v k)
+one-changed-part v k q j x y d = changed-end (variant v) (streams v k) j x y d (sponge v k q)
 
-module _ (v : ℕ) (k : known v ≡ true) (x y : List ℕ) (hx : (i : ℕ) → getD x i 0 < 256) (hy : (i : ℕ) → getD y i 0 < 256) where
+module _ (v : ℕ) (k : known v ≡ true) (q : isSponge (variant v) ≡ true) (x y : List ℕ) (hx : (i : ℕ) → getD x i 0 < 256) (hy : (i : ℕ) → getD y i 0 < 256) where
   -- two messages of bytes
   pub one-changed-bytes : (j : ℕ) → length x ≡ length y → (x ≡ y → ⊥)
       → take (j * variant v .r) (byteBits x) ≡ take (j * variant v .r) (byteBits y)
       → drop (j * variant v .r + variant v .r) (byteBits x) ≡ drop (j * variant v .r + variant v .r) (byteBits y)
       → endState (variant v) (byteBits x) ≡ endState (variant v) (byteBits y) → ⊥
   one-changed-bytes j l n before behind =
-      one-changed-part v k j (byteBits x) (byteBits y) (differ-bits x y hx hy (j * variant v .r) (variant v .r) l n before behind)
+      one-changed-part v k q j (byteBits x) (byteBits y) (differ-bits x y hx hy (j * variant v .r) (variant v .r) l n before behind)
 
   -- and the end states differ
   pub one-changed-value : (p n : ℕ) → DifferWithin p n x y → inOneBlock (variant v) p n ≡ true
       → endState (variant v) (byteBits x) ≡ endState (variant v) (byteBits y) → ⊥
   one-changed-value p n d e =
-      one-changed-part v k (8 * p / variant v .r) (byteBits x) (byteBits y) (value-block x y hx hy (variant v) p n d e)
+      one-changed-part v k q (8 * p / variant v .r) (byteBits x) (byteBits y) (value-block x y hx hy (variant v) p n d e)
 
 -- ---- at which offsets a value lies in one block
 
@@ -243,9 +243,9 @@ module _ (v : ℕ) (k : known v ≡ true) (n : ℕ) where
       let P : ℕ = period (variant v) in
       rw (add-comm (p % P), div-add-mod') at (inOneBlock-again (p % P) (p / P))
 
--- a value of two bytes, in each variant: of how many bytes, and at which of them it may begin
+-- a value of two bytes, in each of the ten sponges: of how many bytes, and at which of them it may begin
 pub two-byte-values :
-    map (oneBlockOffsets 2) (tail variants)
+    map (oneBlockOffsets 2) (take 10 (tail variants))
     ≡ (5, 0 ∷ 3 ∷ []) ∷ (2, 0 ∷ []) ∷ (9, 0 ∷ 1 ∷ 2 ∷ 5 ∷ 6 ∷ 7 ∷ []) ∷ (4, 0 ∷ 1 ∷ 2 ∷ []) ∷ (4, 0 ∷ 1 ∷ 2 ∷ [])
     ∷ (1, []) ∷ (1, []) ∷ (2, 0 ∷ []) ∷ (2, 0 ∷ []) ∷ (2, 0 ∷ []) ∷ []
 unfolding period offsets inOneBlock

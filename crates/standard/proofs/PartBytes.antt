@@ -10,15 +10,15 @@ use lib.ListN.{length, take, drop, getD, length-append, drop-of-length-le}
 use lib.Seq.{take-at, drop-at, split-at, length-take-le}
 use lib.Pow.{pow-pos, shr-lt}
 use Rattle.standard.specs.Bits.{high-first, bitsOf, valueOf, bitsIn, pack}
-use Rattle.standard.specs.Sponge.{Family, photon, spongent, Variant}
+use Rattle.standard.specs.Sponge.{Family, photon, spongent, lesamnta, Variant, isSponge}
 use Rattle.standard.specs.Chain.{byteBits, countedOf, messageBits, blocksOf}
 use Rattle.standard.specs.PartBytes.{beforeLast, lastOf, SameMessage}
 use Rattle.standard.specs.Variants.{variant, known}
 use Rattle.standard.proofs.BitLaws.{length-bitsOf, length-bitsIn, bitsIn-append, pack-bitsIn, valueOf-bitsOf}
 use Rattle.standard.proofs.HighBits.{bits-mod}
 use Rattle.standard.proofs.Streaming.{block-count}
-use Rattle.standard.proofs.Sponge.{blocks-injective, sponge-count}
-use Rattle.standard.proofs.Variants.{streams, sponge}
+use Rattle.standard.proofs.Sponge.{sponge-count}
+use Rattle.standard.proofs.Variants.{streams, sponge, rows-tell}
 
 -- ---- the bits of a message
 
@@ -69,6 +69,7 @@ module _ (m : List ℕ) (some : 0 < length m) where
 counted-eight : (F : Family) (b : ℕ) → bitsOf high-first 8 (countedOf F 8 b) ≡ bitsOf high-first 8 b
 counted-eight (photon p) b = ap (bitsOf high-first 8) (div-one b)
 counted-eight (spongent p) b = bits-mod high-first 8 b
+counted-eight lesamnta b = ap (bitsOf high-first 8) (div-one b)
 
 -- where all bits count, the message is its whole bytes
 pub bits-eight : (H : Variant) (m : List ℕ) → messageBits H m 8 ≡ byteBits m
@@ -87,22 +88,22 @@ uncounted H front b c k e =
 pub same-bytes : (front : List ℕ) (b c : ℕ) → length (front ++ b ∷ []) ≡ length (front ++ c ∷ [])
 same-bytes front b c = length-append front (b ∷ []) ∙ sym (length-append front (c ∷ []))
 
--- what counts of a byte fits in k bits
-pub counted-lt : (F : Family) (k b : ℕ) → k ≤ 8 → b < 256 → countedOf F k b < 2 ^ k
-counted-lt (photon p) k b h l =
+high-lt : (k b : ℕ) → k ≤ 8 → b < 256 → b / 2 ^ (8 - k) < 2 ^ k
+high-lt k b h l =
     let width : k + (8 - k) ≡ 8 = omega arith in
     shr-lt k (8 - k) (rw width l)
+
+-- what counts of a byte fits in k bits
+pub counted-lt : (F : Family) (k b : ℕ) → k ≤ 8 → b < 256 → countedOf F k b < 2 ^ k
+counted-lt (photon p) k b h l = high-lt k b h l
 counted-lt (spongent p) k b h l = mod-lt b {m = 2 ^ k} (pow-pos k)
+counted-lt lesamnta k b h l = high-lt k b h l
 
 -- ---- by number
 
--- n bits give floor(n / r) + 1 blocks
-pub bit-block-count : (v : ℕ) → known v ≡ true → (m : List Bool) → length (blocksOf (variant v) m) ≡ length m / variant v .r + 1
-bit-block-count v k m = block-count (variant v) m ∙ sponge-count (variant v) (streams v k) (sponge v k) (length m)
-
--- Two different bit strings never have the same padded row.
-pub rows-tell : (v : ℕ) → known v ≡ true → (x y : List Bool) → blocksOf (variant v) x ≡ blocksOf (variant v) y → x ≡ y
-rows-tell v k = blocks-injective (variant v) (streams v k) (sponge v k)
+-- n bits give floor(n / r) + 1 blocks of a sponge
+pub bit-block-count : (v : ℕ) → known v ≡ true → isSponge (variant v) ≡ true → (m : List Bool) → length (blocksOf (variant v) m) ≡ length m / variant v .r + 1
+bit-block-count v k e m = block-count (variant v) m ∙ sponge-count (variant v) (streams v k) (sponge v k e) (length m)
 
 -- Two messages of bytes, of whose last bytes k and l bits count, are one message where their padded rows are equal.
 module _ (v : ℕ) (named : known v ≡ true) (x y : List ℕ) (hx : (i : ℕ) → getD x i 0 < 256) (hy : (i : ℕ) → getD y i 0 < 256) (sx : 0 < length x) (sy : 0 < length y)

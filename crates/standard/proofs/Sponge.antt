@@ -10,7 +10,7 @@ use native.Mathlib.Omega.{arith}
 use lib.ListN.{length, replicate, length-replicate}
 use Rattle.standard.specs.Bits.{high-first, reordered, xorInto}
 use Rattle.standard.specs.Rounds.{Direction, forward, opposite}
-use Rattle.standard.specs.Sponge.{Family, photon, spongent, Variant, order, permutation, startState, spongePadding, spongeStep}
+use Rattle.standard.specs.Sponge.{Family, photon, spongent, lesamnta, Variant, spongeOf, isSponge, order, permutation, startState, spongePadding, spongeStep}
 use Rattle.standard.specs.Chain.{paddingOf, padding, padded, blocksOf, blockCount, stepOf, step}
 use Rattle.standard.proofs.Tests.{true-not-false}
 use Rattle.standard.proofs.BitLaws.{length-xorInto, xorInto-twice, xor-back}
@@ -137,19 +137,21 @@ module _ (H : Variant) (g : Streams H) (h : IsSponge H) where
 
 -- ---- the families
 
--- both families are sponges
-pub padding-sponge : (H : Variant) (n : ℕ) → padding H n ≡ spongePadding (H .r) n
+-- padding and step of every sponge are the sponge's
+pub padding-sponge : (H : Variant) → isSponge H ≡ true → (n : ℕ) → padding H n ≡ spongePadding (H .r) n
 unfolding padding
-padding-sponge H n = go (H .family)
+padding-sponge H e n = go (H .family) e
   where
-    go : (f : Family) → paddingOf f (H .r) n ≡ spongePadding (H .r) n
-    go (photon p) = refl
-    go (spongent p) = refl
+    go : (f : Family) → spongeOf f ≡ true → paddingOf f (H .r) n ≡ spongePadding (H .r) n
+    go (photon p) q = refl
+    go (spongent p) q = refl
+    go lesamnta q = absurd (true-not-false (sym q))
 
-pub step-sponge : (H : Variant) (s b : List Bool) → step H s b ≡ spongeStep H s b
+pub step-sponge : (H : Variant) → isSponge H ≡ true → (s b : List Bool) → step H s b ≡ spongeStep H s b
 unfolding step
-step-sponge H s b = go (H .family)
+step-sponge H e s b = go (H .family) e
   where
-    go : (f : Family) → stepOf f H s b ≡ spongeStep H s b
-    go (photon p) = refl
-    go (spongent p) = refl
+    go : (f : Family) → spongeOf f ≡ true → stepOf f H s b ≡ spongeStep H s b
+    go (photon p) q = refl
+    go (spongent p) q = refl
+    go lesamnta q = absurd (true-not-false (sym q))

@@ -1,10 +1,10 @@
 -- Bits taken in parts: the whole blocks of a string, and the rest, do not depend on where it was cut; nor does the state after them.
 -- Assumes nothing.
-use mathlib.Core.Path.{_≡_, refl, _∙_}
+use mathlib.Core.Path.{_≡_, refl, ap, _∙_}
 use mathlib.Core.Bool.{Bool}
 use mathlib.Core.List.{List, [], _∷_, _++_, flatMap, foldl-append}
 use Prim.Native.Nat.{ℕ, zero, suc, _+_, _*_, _/_, _%_, _≤_, _<_}
-use native.Mathlib.Nat.{div-add-mod', add-mul, add-comm, mul-comm, add-mul-div-right, div-eq-of-lt, zero-mul, suc-mul}
+use native.Mathlib.Nat.{div-add-mod', add-mul, add-comm, mul-comm, add-mul-div-right, div-eq-of-lt, div-self, zero-mul, suc-mul}
 use native.Mathlib.Omega.{arith}
 use lib.ListN.{length, drop, length-append, length-drop}
 use lib.Seq.{drop-append-le, drop-drop, take-all, length-take-le}
@@ -102,6 +102,12 @@ module _ (r : ℕ) (pos : 0 < r) where
   pub whole-short : (bs : List Bool) → length bs < r → wholeBlocks r bs ≡ []
   unfolding wholeBlocks cut
   whole-short bs h = rw (div-eq-of-lt h)
+
+  -- as many as one
+  pub whole-one : (bs : List Bool) → length bs ≡ r → wholeBlocks r bs ≡ bs ∷ []
+  unfolding wholeBlocks cut
+  whole-one bs e =
+      ap (λ (n : ℕ). cut r (n / r) bs) e ∙ ap (λ (n : ℕ). cut r n bs) (div-self pos) ∙ ap (λ (b : List Bool). b ∷ []) (take-all r bs (omega arith))
 
   pub rest-short : (bs : List Bool) → length bs < r → restOf r bs ≡ bs
   unfolding restOf

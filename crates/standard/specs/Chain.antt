@@ -7,16 +7,18 @@ use mathlib.Core.List.{List, [], _∷_, _++_, foldl}
 use Prim.Native.Nat.{ℕ, _+_, _-_, _*_, _/_, _%_, _^_, _<_}
 use lib.ListN.{length, getD, drop}
 use Rattle.standard.specs.Bits.{high-first, bitsOf, bitsIn, cut}
-use Rattle.standard.specs.Sponge.{Family, photon, spongent, Variant, startState, spongePadding, spongeStep, digestFrom}
+use Rattle.standard.specs.Sponge.{Family, photon, spongent, lesamnta, Variant, startState, spongePadding, spongeStep, digestFrom}
+use Rattle.standard.specs.Lesamnta.{lesamntaPadding, lesamntaStep}
 
--- the bits of whole bytes, each byte from its most significant bit on (5.2.3, note; for SPONGENT by Annex B.2)
+-- the bits of whole bytes, each byte from its most significant bit on (5.2.3, note; for SPONGENT by Annex B.2; 6.2.1)
 abbrev pub byteBits : List ℕ → List Bool
 byteBits bytes = bitsIn high-first bytes
 
--- document 02, Q-6: the number that the k counting bits of a byte make, PHOTON's k high ones and SPONGENT's k low ones
+-- document 02, Q-6 and Q-7: the number that the k counting bits of a byte make, SPONGENT's k low ones and the k high ones of PHOTON and Lesamnta-LW
 abbrev pub countedOf : Family → ℕ → ℕ → ℕ
 countedOf (photon p) k b = b / 2 ^ (8 - k)
 countedOf (spongent p) k b = b % 2 ^ k
+countedOf lesamnta k b = b / 2 ^ (8 - k)
 
 -- The bits of a message of bytes of whose last one k bits count: they join the bit string from the highest of them on, so that eight are the whole byte, and the
 -- padding's 1 follows them there. SPONGENT's low bits cannot stay in place with the 1 above them: whole bytes are followed by 80 (docs/DECISIONS.md, D-1), which
@@ -32,8 +34,9 @@ messageBits H (b ∷ c ∷ bs) k = bitsOf high-first 8 b ++ messageBits H (c ∷
 abbrev pub paddingOf : Family → ℕ → ℕ → List Bool
 paddingOf (photon p) r n = spongePadding r n
 paddingOf (spongent p) r n = spongePadding r n
+paddingOf lesamnta r n = lesamntaPadding n
 
--- 5.2.3, 5.3.3: what is added to a message of n bits
+-- 5.2.3, 5.3.3, 6.2.2: what is added to a message of n bits
 unfoldable pub padding : Variant → ℕ → List Bool
 padding H n = paddingOf (H .family) (H .r) n
 
@@ -51,11 +54,11 @@ wholeBlocks r bs = cut r (length bs / r) bs
 unfoldable pub restOf : ℕ → List Bool → List Bool
 restOf r bs = drop (length bs / r * r) bs
 
--- 5.2.3, 5.3.3: m_0, .., m_{l-1}, the blocks of the padded message
+-- 5.2.3, 5.3.3, 6.2.4: m_0, .., m_{l-1}, the blocks of the padded message
 unfoldable pub blocksOf : Variant → List Bool → List (List Bool)
 blocksOf H m = wholeBlocks (H .r) (padded H m)
 
--- 5.2.3, 5.3.3: l, how many blocks a message of n bits has
+-- 5.2.3, 5.3.3, 6.2.2: l, how many blocks a message of n bits has
 unfoldable pub blockCount : Variant → ℕ → ℕ
 blockCount H n = (n + length (padding H n)) / H .r
 
@@ -77,19 +80,20 @@ pub record DifferAt (i : ℕ) (xs ys : List (List Bool)) : Type 0 where
 abbrev pub stepOf : Family → Variant → List Bool → List Bool → List Bool
 stepOf (photon p) H s b = spongeStep H s b
 stepOf (spongent p) H s b = spongeStep H s b
+stepOf lesamnta H s b = lesamntaStep s b
 
--- 5.2.3, 5.3.3: the block step, from a state and a block to the next state
+-- 5.2.3, 5.3.3, 6.2.4: the block step, from a state and a block to the next state
 unfoldable pub step : Variant → List Bool → List Bool → List Bool
 step H s b = stepOf (H .family) H s b
 
--- 5.2.3, 5.3.3: the state after a row of blocks
+-- 5.2.3, 5.3.3, 6.2.4: the state after a row of blocks
 unfoldable pub run : Variant → List Bool → List (List Bool) → List Bool
 run H s bs = foldl (step H) s bs
 
--- 5.2.3, 5.3.3: the state after the last block of a message
+-- 5.2.3, 5.3.3, 6.2.4: the state after the last block of a message
 unfoldable pub endState : Variant → List Bool → List Bool
 endState H m = run H (startState H) (blocksOf H m)
 
--- 5.2.3, 5.3.3: hash(M), in bytes
+-- 5.2.3, 5.3.3, 6.2.4: hash(M), in bytes
 unfoldable pub digestOf : Variant → List Bool → List ℕ
 digestOf H m = digestFrom H (endState H m)

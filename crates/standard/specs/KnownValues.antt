@@ -1,17 +1,18 @@
--- The known values of document 01 that are to be proved: rows of what the definitions give and what is stated.
--- Six rows are not the paper's, and are marked so. Crates above may add rows of their own: `holds-append`.
+-- The known values that are to be proved: rows of what the definitions give and what is stated, by document 01 or, for Lesamnta-LW, by the standard.
+-- Rows that are neither's are marked so. Crates above may add rows of their own: `holds-append`.
 -- Assumes nothing.
 use mathlib.Core.Path.{_≡_}
 use mathlib.Core.Bool.{Bool, true, false}
 use mathlib.Core.List.{List, [], _∷_, map, flatMap}
 use Prim.Native.Nat.{ℕ, suc, _-_, _/_}
-use lib.ListN.{length, getD, take, drop}
+use lib.ListN.{length, getD, take, drop, replicate}
 use Rattle.standard.specs.Bits.{high-first, bitsOf, valueOf}
 use Rattle.standard.specs.Field.{mul}
 use Rattle.standard.specs.Photon.{serial, aes}
 use Rattle.standard.specs.Spongent.{lCounters, goesTo}
+use Rattle.standard.specs.Lesamnta.{wordQ, wordG, cipherConstants}
 use Rattle.standard.specs.Sponge.{startState, outputBlocks}
-use Rattle.standard.specs.Chain.{byteBits, messageBits, blocksOf}
+use Rattle.standard.specs.Chain.{byteBits, messageBits, blocksOf, digestOf}
 use Rattle.standard.specs.Variants.{variant, photon100, spongent88}
 use Rattle.standard.specs.LowestFreeBit.{lowestFreeBit}
 
@@ -41,6 +42,26 @@ abbrev pub places : ℕ → List Bool → List ℕ
 places i [] = []
 places i (true ∷ s) = i ∷ places (suc i) s
 places i (false ∷ s) = places (suc i) s
+
+-- 6.2.5.3.2, as printed but for C(25), which has lost a digit there (c3bbb82)
+abbrev pub printedConstants : List ℕ
+printedConstants =
+    0xa432337f ∷ 0x945e1f8f ∷ 0x92539a11 ∷ 0x24b90062 ∷
+    0x6971c64c ∷ 0xd6e3f449 ∷ 0x2c2f0da9 ∷ 0x33769295 ∷
+    0xeb506df2 ∷ 0x708cebfe ∷ 0xb83ab7bf ∷ 0x97df0f17 ∷
+    0x9223b802 ∷ 0x7fa29140 ∷ 0x0ff45228 ∷ 0x01fe8a45 ∷
+    0xed016ee8 ∷ 0x1da02ddd ∷ 0xee8aba1b ∷ 0x46c4c223 ∷
+    0x53cd0d24 ∷ 0xd1b46d24 ∷ 0xc1fb4124 ∷ 0xc3f2a4a4 ∷
+    0xc3b39814 ∷ 0xc3bbbf82 ∷ 0x759191b0 ∷ 0x0eb23236 ∷
+    0xb7fd6c86 ∷ 0xa0d48750 ∷ 0x141a90ea ∷ 0x6f65b45d ∷
+    0xe0d2092b ∷ 0x470fd445 ∷ 0xe5df4528 ∷ 0x1cbbe8a5 ∷
+    0xeea9c2b4 ∷ 0xc618f4d6 ∷ 0xaee8345a ∷ 0x783be0cb ∷
+    0x5412e979 ∷ 0x3c712e0f ∷ 0x87567c21 ∷ 0x2619bca4 ∷
+    0xdf0efb14 ∷ 0xc02c13e2 ∷ 0x75e3643c ∷ 0xd571a007 ∷
+    0x9a766de0 ∷ 0x134ecdbc ∷ 0xd9a41537 ∷ 0x9becdb46 ∷
+    0xa556b1a8 ∷ 0x14aad635 ∷ 0xefabe566 ∷ 0xabde566c ∷
+    0xceb6064d ∷ 0xf4e87f69 ∷ 0x286e7ccd ∷ 0xe8337039 ∷
+    0x2bf51d27 ∷ 0x85a6fa44 ∷ 0xcb7913c8 ∷ 0x196f2279 ∷ []
 
 abbrev pub knownValues : List Row
 knownValues =
@@ -77,4 +98,20 @@ knownValues =
     ∷ record { gives = serial 16 (photon100 .poly) (photon100 .z) (0 ∷ 0 ∷ 0 ∷ 0 ∷ 1 ∷ []); stated = 0 ∷ 0 ∷ 0 ∷ 1 ∷ 2 ∷ [] }
     -- variant 3: five output blocks, the last giving 16 bits
     ∷ record { gives = map length (outputBlocks (variant 3) (startState (variant 3))); stated = 36 ∷ 36 ∷ 36 ∷ 36 ∷ 16 ∷ [] }
+    -- Lesamnta-LW: Q (B.3.2) and G (B.3.3)
+    ∷ record { gives = wordQ 0xa4323129 ∷ []; stated = 0x95f80b6e ∷ [] }
+    ∷ record { gives = wordG 0x0000025600000256 0x00000256 ∷ []; stated = 0xa58d6363636326c8 ∷ [] }
+    -- the round constants (6.2.5.3.2)
+    ∷ record { gives = cipherConstants; stated = printedConstants }
+    -- "abc" (B.3.4)
+    ∷ record {
+      gives = digestOf (variant 11) (byteBits (0x61 ∷ 0x62 ∷ 0x63 ∷ []));
+      stated = 0xab ∷ 0x32 ∷ 0xca ∷ 0x45 ∷ 0x17 ∷ 0x48 ∷ 0x25 ∷ 0x5e ∷ 0x3b ∷ 0xf0 ∷ 0xe3 ∷ 0x4a ∷ 0x5a ∷ 0xd6 ∷ 0x00 ∷ 0xf0 ∷ 0xce ∷ 0x76 ∷ 0x60 ∷ 0xec ∷ 0xea ∷ 0x2f ∷ 0xe0 ∷ 0x83 ∷ 0xba ∷ 0x54 ∷ 0x13 ∷ 0x9b ∷ 0x77 ∷ 0x07 ∷ 0x66 ∷ 0xd0 ∷ [];
+    }
+    -- not the papers': the blocks of no bits, of three bytes, of one block, and of 127 and 129 bits
+    ∷ record { gives = blockValues 11 []; stated = 0x80000000000000000000000000000000 ∷ [] }
+    ∷ record { gives = blockValues 11 (0x61 ∷ 0x62 ∷ 0x63 ∷ []); stated = 0x61626380000000000000000000000000 ∷ 0x18 ∷ [] }
+    ∷ record { gives = blockValues 11 (replicate 16 0x11); stated = 0x11111111111111111111111111111111 ∷ 0x80000000000000000000000000000080 ∷ [] }
+    ∷ record { gives = bitBlockValues 11 (replicate 16 0x10) 7; stated = 0x10101010101010101010101010101011 ∷ 0x7f ∷ [] }
+    ∷ record { gives = bitBlockValues 11 (replicate 17 0x80) 1; stated = 0x80808080808080808080808080808080 ∷ 0xc0000000000000000000000000000000 ∷ 0x81 ∷ [] }
     ∷ []

@@ -1,10 +1,11 @@
--- The definitions of ISO/IEC 29192-5, clause 5 (PHOTON and SPONGENT), from bits up to the digest.
+-- The definitions of ISO/IEC 29192-5, clauses 5 (PHOTON and SPONGENT) and 6 (Lesamnta-LW), from bits up to the digest.
 pub mod Bits
 pub mod Rounds
 pub mod Grid
 pub mod Field
 pub mod Photon
 pub mod Spongent
+pub mod Lesamnta
 pub mod Sponge
 pub mod Chain
 pub mod Variants

@@ -1,4 +1,4 @@
--- The sponge (5.2.3 and 5.3.3), one for both families: start, padding, block step and its inverse, output blocks; and the images of its states.
+-- The families and their variants; the sponge (5.2.3 and 5.3.3), one for PHOTON and SPONGENT: start, padding, block step and its inverse, output blocks; and the images of states.
 -- The chain of blocks over it is `Chain`.
 -- Assumes nothing.
 use mathlib.Core.Bool.{Bool, true, false}
@@ -9,13 +9,15 @@ use Rattle.standard.specs.Bits.{Order, low-first, high-first, bitsOf, pa
 use Rattle.standard.specs.Rounds.{Direction, forward, backward}
 use Rattle.standard.specs.Photon.{PhotonParameters, photonPermutation}
 use Rattle.standard.specs.Spongent.{SpongentParameters, spongentPermutation}
+use Rattle.standard.specs.Lesamnta.{lesamntaStart}
 
 -- the function that a variant belongs to, with its own parameters
 pub data Family : Type 0 where
   photon : PhotonParameters → Family
   spongent : SpongentParameters → Family
+  lesamnta : Family
 
--- A variant: bits of the state (t), bits taken in per block (r), bits given out per block (r′), bits of the digest (n)
+-- A variant: bits of the state (t), bits taken in per block (r), bits given out per block (r′; Lesamnta-LW gives its state out at once), bits of the digest (n)
 pub record Variant : Type 0 where
   pub t : ℕ
   pub r : ℕ
@@ -23,29 +25,42 @@ pub record Variant : Type 0 where
   pub n : ℕ
   pub family : Family
 
--- how a byte's bits stand in the state. PHOTON: the leftmost bit is the most significant (5.2.3, note); SPONGENT: bit 0 is the least significant bit of byte 0 (5.3.2).
+-- whether a family is a sponge, with an internal permutation. Lesamnta-LW chains a block cipher (6.2.4).
+abbrev pub spongeOf : Family → Bool
+spongeOf (photon p) = true
+spongeOf (spongent p) = true
+spongeOf lesamnta = false
+
+-- whether a variant is
+abbrev pub isSponge : Variant → Bool
+isSponge H = spongeOf (H .family)
+
+-- how a byte's bits stand in the state. PHOTON: the leftmost bit is the most significant (5.2.3, note), and so in Lesamnta-LW (6.2.1); SPONGENT: bit 0 is the least significant bit of byte 0 (5.3.2).
 abbrev pub orderOf : Family → Order
 orderOf (photon p) = high-first
 orderOf (spongent p) = low-first
+orderOf lesamnta = high-first
 
 -- the order of a variant's state
 abbrev pub order : Variant → Order
 order H = orderOf (H .family)
 
--- 5.2.4, 5.3.4: the internal permutation of each family
+-- 5.2.4, 5.3.4: the internal permutation of each sponge. Lesamnta-LW has none; the state that stands there is never asked for.
 abbrev pub permutationOf : Family → Direction → List Bool → List Bool
 permutationOf (photon p) = photonPermutation p
 permutationOf (spongent p) = spongentPermutation p
+permutationOf lesamnta = λ w s. s
 
 -- the internal permutation on all t bits, or its inverse
 unfoldable pub permutation : Variant → Direction → List Bool → List Bool
 permutation H = permutationOf (H .family)
 
--- 5.2.3, 5.3.3: IV. PHOTON: t - 24 zeros, then n/4, r and r′, eight bits each; SPONGENT: zeros.
+-- 5.2.3, 5.3.3: IV. PHOTON: t - 24 zeros, then n/4, r and r′, eight bits each; SPONGENT: zeros. 6.2.4: H(0) of Lesamnta-LW.
 abbrev pub startOf : Variant → Family → List Bool
 startOf H (photon p) =
     replicate (H .t - 24) false ++ (bitsOf high-first 8 (H .n / 4) ++ (bitsOf high-first 8 (H .r) ++ bitsOf high-first 8 (H .r′)))
 startOf H (spongent p) = replicate (H .t) false
+startOf H lesamnta = lesamntaStart
 
 -- the state before the first block
 unfoldable pub startState : Variant → List Bool
@@ -85,9 +100,15 @@ outputBlocks H s = outputs (permutation H forward) (H .r′) (H .n) (outputCount
 unfoldable pub squeezed : Variant → List Bool → List Bool
 squeezed H s = flatMap (reordered (order H) high-first) (outputBlocks H s)
 
+-- by family, the digest's bits. 6.2.4: the last chaining value is the output of Lesamnta-LW.
+abbrev pub givenOut : Family → Variant → List Bool → List Bool
+givenOut (photon p) H s = squeezed H s
+givenOut (spongent p) H s = squeezed H s
+givenOut lesamnta H s = s
+
 -- those bits in bytes
 abbrev pub digestFrom : Variant → List Bool → List ℕ
-digestFrom H s = pack high-first (H .n / 8) (squeezed H s)
+digestFrom H s = pack high-first (H .n / 8) (givenOut (H .family) H s)
 
 -- ---- images: a state packed in bytes
 

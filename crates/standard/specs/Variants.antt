@@ -1,4 +1,4 @@
--- The ten variants, by number: Table 1 (1 to 5) and Table 9 (6 to 10), and the digest sizes of 5.2.1 and 5.3.1.
+-- The variants by number: Table 1 (1 to 5), Table 9 (6 to 10), and Lesamnta-LW (11; document 02, Q-7); and the digest sizes of 5.2.1, 5.3.1 and 6.2.4.
 -- Clause 5.3 states no rate: SPONGENT's r is that of Table C.1 and document 01, and r′ = r.
 -- Assumes nothing.
 use mathlib.Core.Bool.{Bool, _&&_}
@@ -8,7 +8,7 @@ use lib.Dec.{ltb}
 use lib.ListN.{length, getD}
 use Rattle.standard.specs.Photon.{PhotonParameters, present, unpresent, aes, unaes}
 use Rattle.standard.specs.Spongent.{SpongentParameters}
-use Rattle.standard.specs.Sponge.{photon, spongent, Variant}
+use Rattle.standard.specs.Sponge.{photon, spongent, lesamnta, Variant}
 
 -- Table 1; `unz` is no part of it (docs/DECISIONS.md, D-5)
 
@@ -62,6 +62,7 @@ variants =
     ∷ record { t = 176; r = 16; r′ = 16; n = 160; family = spongent spongent176 }
     ∷ record { t = 240; r = 16; r′ = 16; n = 224; family = spongent spongent240 }
     ∷ record { t = 272; r = 16; r′ = 16; n = 256; family = spongent spongent272 }
+    ∷ record { t = 256; r = 128; r′ = 256; n = 256; family = lesamnta }
     ∷ []
 
 -- the variant of a number, and `none` where there is none

@@ -84,9 +84,9 @@ fn recover_into(v: u32, message: &[u8], bits: u32, place: usize, image: &[u8], o
 
 // The front k bytes of an image, and an output of n bytes.
 fn recovered(v: u32, message: &[u8], bits: u32, place: usize, image: [u8; 36], k: usize, n: usize)
-    requires { ⌜ (k ≤ 36) × (n ≤ 6) ⌝ }
+    requires { ⌜ (k ≤ 36) × (n ≤ 17) ⌝ }
 {
-    let mut out = [0xA0u8; 6];
+    let mut out = [0xA0u8; lost::LONG];
     recover_into(v, message, bits, place, &image[0..k], &mut out[0..n]);
 }
 
@@ -114,7 +114,7 @@ fn few_bits(v: u8) {
 
 fn all_few_bits() {
     let mut v: u8 = 1;
-    while v <= 10 {
+    while v <= 11 {
         few_bits(v);
         v += 1;
     }
@@ -126,12 +126,20 @@ fn example(v: u8) {
     let n = whole::size(v, Wanted::EndState);
     whole(Wanted::EndState, v as u32, message, 3, n);
     pieces(v, message, 3);
-    recovered(v as u32, message, 3, 1, end_of(v as u32, message, 3), n, 6);
+    recovered(
+        v as u32,
+        message,
+        3,
+        1,
+        end_of(v as u32, message, 3),
+        n,
+        lost::LONG,
+    );
 }
 
 fn examples() {
     let mut v: u8 = 1;
-    while v <= 10 {
+    while v <= 11 {
         example(v);
         v += 1;
     }
@@ -163,6 +171,9 @@ fn refused(message: &[u8]) {
     recovered(1, message, 3, 1, end, 12, 2);
     recovered(1, message, 3, 1, end, 13, 2);
     recovered(6, b"\x00", 3, 0, lost::unreached_image(), 11, 1);
+    let other = lost::end_of(11, message);
+    recovered(11, message, 3, 2, other, 31, 15);
+    recovered(11, message, 3, 0, other, 31, 15);
 }
 
 fn update_bits(h: Hasher, piece: &[u8], bits: u32) -> Hasher {

@@ -1,9 +1,12 @@
-// The lost block: document 01's example, a message's own second block, and calls that are refused. A line gives the message, the place
-// and the image. The output is bytes A0.
+// The lost block: document 01's example, a message's own second block, the places of variant 11, and calls that are refused. A line gives the
+// message, the place and the image. The output is bytes A0.
 use crate::show;
 use crate::whole;
 use hasher::Wanted;
 ghost use Prim.Native.Nat.{_≤_};
+
+// The bytes of an output that is long enough for any block.
+pub const LONG: usize = 17;
 
 fn recover_into(v: u32, message: &[u8], place: usize, image: &[u8], out: &mut [u8]) {
     show::word(b"recover");
@@ -21,9 +24,9 @@ fn recover_into(v: u32, message: &[u8], place: usize, image: &[u8], out: &mut [u
 
 // The front k bytes of an image, and an output of n bytes.
 fn lost(v: u32, message: &[u8], place: usize, image: [u8; 36], k: usize, n: usize)
-    requires { ⌜ (k ≤ 36) × (n ≤ 6) ⌝ }
+    requires { ⌜ (k ≤ 36) × (n ≤ 17) ⌝ }
 {
-    let mut out = [0xA0u8; 6];
+    let mut out = [0xA0u8; LONG];
     recover_into(v, message, place, &image[0..k], &mut out[0..n]);
 }
 
@@ -58,13 +61,13 @@ fn own_block(v: u8) {
         1,
         end_of(v as u32, message),
         whole::size(v, Wanted::EndState),
-        6,
+        LONG,
     );
 }
 
 fn own_blocks() {
     let mut v: u8 = 1;
-    while v <= 10 {
+    while v <= 11 {
         own_block(v);
         v += 1;
     }
@@ -73,13 +76,25 @@ fn own_blocks() {
 // A place past the last, an image that is too short, and no variant.
 fn refused(message: &[u8]) {
     let end = end_of(1, message);
-    lost(1, message, 5, end, 13, 6);
-    lost(1, message, 1, end, 12, 6);
-    lost(0, message, 1, end, 13, 6);
+    lost(1, message, 5, end, 13, LONG);
+    lost(1, message, 1, end, 12, LONG);
+    lost(0, message, 1, end, 13, LONG);
+}
+
+// Variant 11 finds the block at the last place alone, which is 1 here. Of several faults the first is told; no block leads to bytes A0.
+fn last_place(message: &[u8]) {
+    let end = end_of(11, message);
+    lost(11, message, 2, end, 31, LONG);
+    lost(11, message, 0, end, 32, LONG);
+    lost(11, message, 0, end, 31, 15);
+    lost(11, message, 1, end, 31, 15);
+    lost(11, message, 1, end, 32, 15);
+    lost(11, message, 1, [0xA0u8; 36], 32, LONG);
 }
 
 pub fn all() {
     unreached();
     own_blocks();
     refused(b"Bar 7 hold.");
+    last_place(b"Bar 7 hold.");
 }

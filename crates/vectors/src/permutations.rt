@@ -58,25 +58,27 @@ fn permutations() {
 }
 
 // Bytes A0, of which the n-th is given.
-fn filled(n: usize, last: u8) -> [u8; 13]
-    requires { ⌜ (1 ≤ n) × (n ≤ 13) ⌝ }
+fn filled(n: usize, last: u8) -> [u8; 32]
+    requires { ⌜ (1 ≤ n) × (n ≤ 32) ⌝ }
 {
-    let mut s = [0xA0u8; 13];
+    let mut s = [0xA0u8; 32];
     s[n - 1] = last;
     s
 }
 
 fn refused(v: u32, n: usize, last: u8)
-    requires { ⌜ (1 ≤ n) × (n ≤ 13) ⌝ }
+    requires { ⌜ (1 ≤ n) × (n ≤ 32) ⌝ }
 {
     let mut s = filled(n, last);
     both_ways(v, &mut s[0..n]);
 }
 
-// No variant; a length that no image has; a spare half byte that is not zero.
+// No variant; a length that no image has; a spare half byte that is not zero; no sponge, also with a byte too few.
 pub fn all() {
     permutations();
     refused(0, 13, 0xA0);
     refused(1, 12, 0xA0);
     refused(1, 13, 0xA1);
+    refused(11, 32, 0xA0);
+    refused(11, 31, 0xA0);
 }

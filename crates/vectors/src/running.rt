@@ -1,4 +1,4 @@
-// The running hash of variant 1: its stages, the longest message, and what a refused start yields.
+// The running hash of variant 1: its stages, the longest message, and what a refused start yields; and of variant 11, which has the longest blocks.
 // A running hash is given, and the one that came of it is printed: with a refusal, the same.
 use crate::show;
 use crate::whole;
@@ -81,7 +81,7 @@ fn stages() {
 pub fn near_limit() -> Hasher {
     let image = [0xA0u8; 13];
     let state = sponge::images::at_front(&image);
-    let held = [0xA5, 0xA0, 0, 0, 0];
+    let held = [0xA5, 0xA0, 0, 0, 0, 0, 0, 0, 0, 0, 0, 0, 0, 0, 0, 0];
     Hasher {
         total: 134217712,
         variant: 1,
@@ -113,8 +113,21 @@ fn unknown() {
     read(h, Wanted::EndState, 36);
 }
 
+// 15 bytes are held; two more fill a block and begin another, and two blocks close the message. After 16 bytes one closes it.
+fn longest_blocks() {
+    let begun = start(11);
+    let h = update(begun, b"Bar 14, 6.20 m,");
+    let g = update(h, b" 0");
+    let f = finish(g);
+    read(f, Wanted::Digest, 32);
+    read(f, Wanted::EndState, 32);
+    let full = update(h, b" ");
+    finish(full);
+}
+
 pub fn all() {
     stages();
     limit();
     unknown();
+    longest_blocks();
 }

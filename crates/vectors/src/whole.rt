@@ -99,14 +99,16 @@ fn example(v: u8, message: &[u8]) {
 fn annex_b(v: u8) {
     if v <= 5 {
         example(v, b"The PHOTON Lightweight Hash Functions Family");
-    } else {
+    } else if v <= 10 {
         example(v, b"Sponge + Present = Spongent");
+    } else {
+        example(v, b"abc");
     }
 }
 
 fn examples() {
     let mut v: u8 = 1;
-    while v <= 10 {
+    while v <= 11 {
         annex_b(v);
         v += 1;
     }
@@ -116,6 +118,7 @@ fn examples() {
 pub fn all() {
     examples();
     whole(Wanted::Digest, 1, b"", 10);
+    whole(Wanted::Digest, 11, b"", 32);
     whole(Wanted::Digest, 1, b"\xAB\xCD", 12);
     whole(Wanted::Digest, 1, b"\xAB\xCD", 9);
     whole(Wanted::EndState, 1, b"\xAB\xCD", 12);

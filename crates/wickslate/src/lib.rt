@@ -1,7 +1,8 @@
-// The functions that other languages call: numbers, slices and the running hash, each with one number as the answer: 0 where it is done, else the number of the refusal in the low byte and the entry that it names above it.
+// The functions that other languages call: numbers, slices and the running hash, each with one number as the answer: 0 where it is done, else the number of the refusal in the low byte and the entry that it names above it. The two of the cipher never refuse, and answer nothing.
 ghost use mathlib.Core.Path.{_≡_};
 ghost use lib.ListN.{length};
 ghost use Rattle.standard.specs.Rounds.{forward, backward};
+ghost use Rattle.lesamnta.specs.Words.{ciphered};
 ghost use Rattle.answers.specs.Refusals.{answer};
 ghost use Rattle.sponge.specs.Images.{imageStatus, permutedImage};
 ghost use Rattle.hasher.specs.Running.{startedOver, updated, updatedBits, finished};
@@ -104,7 +105,7 @@ pub extern "C" fn wickslate_whole_bits(
     answers::answer_of(hasher::whole_bits(variant, message, bits, wanted_of(wanted), out))
 }
 
-// The permutation on an image: refusals 1, 6.
+// The permutation on an image: refusals 1, 17, 6.
 #[no_mangle]
 pub extern "C" fn wickslate_permute(variant: u32, image: &mut [u8]) -> u32
     ensures { λ r. ⌜ (r ≡ answer (imageStatus variant (now (image .entry))))
@@ -113,7 +114,7 @@ pub extern "C" fn wickslate_permute(variant: u32, image: &mut [u8]) -> u32
     answers::answer_of(sponge::permute(variant, image))
 }
 
-// Its inverse: refusals 1, 6.
+// Its inverse: refusals 1, 17, 6.
 #[no_mangle]
 pub extern "C" fn wickslate_unpermute(variant: u32, image: &mut [u8]) -> u32
     ensures { λ r. ⌜ (r ≡ answer (imageStatus variant (now (image .entry))))
@@ -122,7 +123,25 @@ pub extern "C" fn wickslate_unpermute(variant: u32, image: &mut [u8]) -> u32
     answers::answer_of(sponge::unpermute(variant, image))
 }
 
-// The block that, at that place among the message's padded blocks, leads to the end state of the image: refusals 1, 4, 7, 6, 5, 8.
+// The block cipher of Lesamnta-LW: a state enciphered under a key, in place. No call is refused.
+#[no_mangle]
+pub extern "C" fn wickslate_lesamnta_encrypt(key: &[u8; 16], state: &mut [u8; 32])
+    ensures { λ _. ⌜ now (state .exit) ≡ ciphered forward (now (key .entry)) (now (state .entry)) ⌝ }
+{
+    let enciphered = lesamnta::encrypt(*key, *state);
+    *state = enciphered;
+}
+
+// Its inverse under the key.
+#[no_mangle]
+pub extern "C" fn wickslate_lesamnta_decrypt(key: &[u8; 16], state: &mut [u8; 32])
+    ensures { λ _. ⌜ now (state .exit) ≡ ciphered backward (now (key .entry)) (now (state .entry)) ⌝ }
+{
+    let deciphered = lesamnta::decrypt(*key, *state);
+    *state = deciphered;
+}
+
+// The block that, at that place among the message's padded blocks, leads to the end state of the image: refusals 1, 4, 7, 17, 6, 5, 8.
 #[no_mangle]
 pub extern "C" fn wickslate_recover(
     variant: u32,
@@ -137,7 +156,7 @@ pub extern "C" fn wickslate_recover(
     answers::answer_of(recover::recover(variant, message, place, image, out))
 }
 
-// The same of a message of whose last byte so many bits count: refusals 1, 15, 4, 7, 6, 5, 8.
+// The same of a message of whose last byte so many bits count: refusals 1, 15, 4, 7, 17, 6, 5, 8.
 #[no_mangle]
 pub extern "C" fn wickslate_recover_bits(
     variant: u32,

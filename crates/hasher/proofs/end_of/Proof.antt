@@ -1,30 +1,69 @@
--- `hasher::end_of` meets its contract: one run over the padded message. Assumes nothing.
-use mathlib.Core.Path.{refl, ap₂, _∙_}
+-- `hasher::end_of` meets its contract: one run over the padded message of a sponge, and else the length's block behind it. Assumes nothing.
+use mathlib.Core.Path.{refl, sym, ap, ap₂, _∙_}
 use mathlib.Core.List.{[]}
-use Rattle.standard.specs.Variants.{variant}
-use Rattle.sponge.specs.Words.{outcome}
 use native.Mathlib.Omega.{arith}
 use borrow.Author.Needs.{needs}
-use Rattle.hasher.proofs.Calls.{outcome-front}
-use Rattle.hasher.proofs.WholeRuns.{count-most, end-run}
+use Rattle.standard.specs.Chain.{run}
+use Rattle.standard.specs.Variants.{variant}
+use Rattle.sponge.specs.Layout.{packedState}
+use Rattle.sponge.specs.Words.{outcome}
+use Rattle.hasher.proofs.Calls.{outcome-front, other-front}
+use Rattle.hasher.proofs.WholeRuns.{start-ready, count-most, sponge-run, marked-ready, marked-run}
 use Rattle.hasher.proofs.end_of.Statement.{statement}
 use Rattle.hasher.proofs.end_of.Tie as tie
 
 outcome-after-requires : tie.Need-outcome-after-requires
 outcome-after-requires c κs =
-    let counted = c .before .before .before in
-    let start = counted .before .before in
-    (start .pre .0, omega arith, omega (arith, count-most (start .args .v) (start .pre .0) _ _ (counted .block-count .ensures) (omega (arith, start .pre .1 .short))))
+    let counted = c .before .before .before .before .before in
+    let s = counted .before .before in
+    (s .pre .0, omega arith, omega (arith, count-most (s .args .v) (s .pre .0) _ _ (counted .marked-count .ensures .0) (omega (arith, s .pre .1 .short))))
 
 returns : tie.Need-returns
 returns c =
-    let counted = c .before .before .before .before in
-    let start = counted .before .before in
-    let a = start .args in
     let told = c .before .before in
-    let end = end-run (a .v) (start .pre .0) (a .bits) _ (counted .block-count .ensures) (a .front .now) (a .last) (start .pre .1) (told .before .start .result) [] (told .before .start .ensures) in
-    outcome-front (a .v) (start .pre .0) (a .wanted) _ refl _ _ (c .outcome-after .ensures ∙ ap₂ (outcome (variant (a .v))) (told .is-digest .ensures) end)
+    let sponge = told .before .before in
+    let begun = sponge .before in
+    let counted = begun .before in
+    let s = counted .before .before in
+    let a = s .args in
+    let is-sponge = sym (sponge .is-sponge .ensures) ∙ told .before .if1 .taken in
+    let end = sponge-run (a .v) (s .pre .0) (a .bits) _ (counted .marked-count .ensures .0) (a .front .now) (a .last) (s .pre .1) (begun .start .result) [] [] (begun .start .ensures) is-sponge in
+    outcome-front (a .v) (s .pre .0) (a .wanted) _ refl _ _ (c .outcome-after .ensures ∙ ap₂ (outcome (variant (a .v))) (told .is-digest .ensures) end)
+
+run-blocks-requires : tie.Need-run-blocks-requires
+run-blocks-requires c κs =
+    let begun = c .before .before .before in
+    let counted = begun .before in
+    let s = counted .before .before in (
+      s .pre .0,
+      (
+        start-ready (s .args .v) (s .pre .0) (begun .start .result) (begun .start .ensures),
+        (omega arith, omega (arith, count-most (s .args .v) (s .pre .0) _ _ (counted .marked-count .ensures .0) (omega (arith, s .pre .1 .short)))),
+      ),
+    )
+
+ended-requires : tie.Need-ended-requires
+ended-requires c κs =
+    let begun = c .before .before .before .before in
+    let counted = begun .before in
+    let s = counted .before .before in
+    let a = s .args in
+    (s .pre .0, marked-ready (a .v) (s .pre .0) (a .bits) _ (counted .marked-count .ensures .0) (a .front .now) (a .last) (s .pre .1) (begun .start .result) [] (c .run-blocks .result) (begun .start .ensures) (c .run-blocks .ensures))
+
+returns-2 : tie.Need-returns-2
+returns-2 c =
+    let run = c .before in
+    let other = run .before .before in
+    let sponge = other .before in
+    let begun = sponge .before in
+    let counted = begun .before in
+    let s = counted .before .before in
+    let a = s .args in
+    let not-sponge = sym (sponge .is-sponge .ensures) ∙ other .if1 .left in
+    let end = marked-run (a .v) (s .pre .0) (a .bits) _ (counted .marked-count .ensures .0) (a .front .now) (a .last) (s .pre .1) (begun .start .result) [] (run .run-blocks .result) (begun .start .ensures) (run .run-blocks .ensures) in
+    other-front (a .v) (s .pre .0) (a .wanted) _ refl not-sponge _ _ (c .ended .ensures ∙ ap (packedState (variant (a .v))) end)
 
 pub end-of-spec : {M : Type 1} → statement M
 end-of-spec =
-    tie.close (tie.spec (λ c κs. (c .before .pre .0, omega (arith, c .before .pre .1 .short))) (λ c κs. search needs) (λ c κs. search needs) (λ c. search needs) outcome-after-requires returns)
+    tie.close (tie.spec (λ c κs. (c .before .pre .0, omega (arith, c .before .pre .1 .short))) (λ c κs. search needs) (λ c κs. search needs) (λ c κs. search needs) (λ c. search needs) outcome-after-requires returns
+    (λ c. search needs) run-blocks-requires (λ c. omega (arith, c .before .before .before .before .before .before .before .pre .1 .short)) ended-requires returns-2)

@@ -22,7 +22,7 @@ module _ (c : tie.After-held-count) where
   fits : c .held-count .result / 4 ≤ 2 * length (entry .args .h .held)
   fits = held-fit owns (entry .pre .0) (c .held-count .ensures) (entry .pre .1 .0 .0) (c .before .block-bits .ensures) (entry .args .piece .now) (entry .args .last) (entry .args .k)
 
-  few : c .held-count .result < 40
+  few : c .held-count .result < 128
   few = held-few owns (entry .pre .0) (c .held-count .ensures)
 
 held-count-requires : tie.Need-held-count-requires

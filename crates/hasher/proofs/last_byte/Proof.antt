@@ -20,7 +20,7 @@ width c = omega arith
 with-one-requires : tie.Need-with-one-requires
 with-one-requires c κs =
     let k = c .args .c % 8 in
-    (omega arith, shr-lt k (8 - k) (rw (width c) (bytes-lt 5 (c .args .t1) _ (c .good .0) (c .args .c / 8))))
+    (omega arith, shr-lt k (8 - k) (rw (width c) (bytes-lt 16 (c .args .t1) _ (c .good .0) (c .args .c / 8))))
 
 returns : tie.Need-returns
 returns c =

@@ -30,7 +30,7 @@ difference-requires c κs =
     let s = c .before .before .before .before in
     let a = s .args in
     let w = placed s in
-    (s .pre .0, (s .pre .1 .0, (w .within, ready (a .v) _ (a .place) (a .image .now) (a .out .now) w (end-byte c) (c .at-front .ensures))))
+    (s .pre .0, (s .pre .1 .0, (w .within, (w .way, ready (a .v) _ (a .place) (a .image .now) (a .out .now) w (end-byte c) (c .at-front .ensures)))))
 
 returns : tie.Need-returns
 returns c =

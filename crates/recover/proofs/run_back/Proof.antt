@@ -30,10 +30,10 @@ abbrev many : tie.Start Inv-loop μ-loop → ℕ
 many s = length (blocksOf (variant (s .args .v)) (messageIn (s .args .front .now) (s .args .last) (s .args .bits)))
 
 few-blocks : (s : tie.Start Inv-loop μ-loop) → many s ≤ 2 ^ 32
-few-blocks s = few (s .args .v) (s .pre .0) (s .pre .1 .0)
+few-blocks s = few (s .args .v) (s .pre .0 .0) (s .pre .1 .0)
 
 end-long : (s : tie.Start Inv-loop μ-loop) → length (stateIn (variant (s .args .v)) (s .args .end)) ≡ variant (s .args .v) .t
-end-long s = state-length (s .args .v) (s .pre .0) (s .args .end) (omega arith)
+end-long s = state-length (s .args .v) (s .pre .0 .0) (s .args .end) (omega arith)
 
 quarter : (c : tie.After-block-bits Inv-loop μ-loop) → c .block-bits .result / 4 ≡ variant (c .before .before .args .v) .r / 4
 quarter c = ap (λ (n : ℕ). n / 4) (c .block-bits .ensures)
@@ -52,20 +52,20 @@ loop-holds c =
       omega arith,
       omega (arith, n, start .pre .1 .1 .0),
       start .pre .1 .1 .1
-          ∙ ap (packedState (variant (a .v))) (back-start (a .v) (start .pre .0) (start .pre .1 .0) (stateIn (variant (a .v)) (a .end)) (end-long start) _ (last ∙ n)),
+          ∙ ap (packedState (variant (a .v))) (back-start (a .v) (start .pre .0 .0) (start .pre .1 .0) (start .pre .0 .1) (stateIn (variant (a .v)) (a .end)) (end-long start) _ (last ∙ n)),
     )
 
 mul-block-at : tie.Need-mul-block-at Inv-loop μ-loop
 mul-block-at c =
     let start = c .before .before .before .before .before .before in
     let r = c .before .before .before .before in
-    place-fits (start .args .v) (start .pre .0) (start .pre .1 .0) (r .block-bits .result / 4) (quarter r) _ (omega (arith, counted (c .before .before .before), c .before .before .loop .inv))
+    place-fits (start .args .v) (start .pre .0 .0) (start .pre .1 .0) (r .block-bits .result / 4) (quarter r) _ (omega (arith, counted (c .before .before .before), c .before .before .loop .inv))
 
 block-at-requires : tie.Need-block-at-requires Inv-loop μ-loop
 block-at-requires c κs =
     let start = c .before .before .before .before .before .before in
     let v = start .args .v in
-    let k = start .pre .0 in
+    let k = start .pre .0 .0 in
     let r = c .before .before .before .before in (
       omega arith,
       omega (arith, few-halves v k (r .block-bits .result / 4) (quarter r)),
@@ -76,13 +76,13 @@ unstepped-requires : tie.Need-unstepped-requires Inv-loop μ-loop
 unstepped-requires c κs =
     let start = c .before .before .before .before .before .before .before in
     let a = start .args in
-    let k = start .pre .0 in
+    let k = start .pre .0 .0 in
     let r = c .before .before .before .before .before in
     let n = c .before .before .before .before .block-count in
     let l = c .before .before .before .loop in (
-      k,
+      start .pre .0,
       (
-        back-ready (a .v) k (start .pre .1 .0) (stateIn (variant (a .v)) (a .end)) (end-long start) (a .place + n .result - l .i + 1) (l .s) (l .inv .2),
+        back-ready (a .v) k (start .pre .1 .0) (start .pre .0 .1) (stateIn (variant (a .v)) (a .end)) (end-long start) (a .place + n .result - l .i + 1) (l .s) (l .inv .2),
         block-at-ready (a .v) k (r .block-bits .result / 4) (quarter r) (c .block-at .result) (heldThen [] 0 (a .front .now ++ a .last ∷ [])) _ (c .block-at .ensures),
       ),
     )
@@ -99,8 +99,8 @@ loop-again c =
     let j : ℕ = a .place + n .result - l .i in (
       omega (arith, l .inv),
       omega arith,
-      back-at (a .v) (start .pre .0) (start .pre .1 .0) end (end-long start) j (a .place + n .result - (l .i + 1) + 1) (omega (arith, l .inv)) (c .unstepped .result)
-          (back-more (a .v) (start .pre .0) (start .pre .1 .0) end (end-long start) (r .block-bits .result / 4) (quarter r) j (l .s) [] (x .result) (c .unstepped .result)
+      back-at (a .v) (start .pre .0 .0) (start .pre .1 .0) (start .pre .0 .1) end (end-long start) j (a .place + n .result - (l .i + 1) + 1) (omega (arith, l .inv)) (c .unstepped .result)
+          (back-more (a .v) (start .pre .0 .0) (start .pre .1 .0) (start .pre .0 .1) end (end-long start) (r .block-bits .result / 4) (quarter r) j (l .s) [] (x .result) (c .unstepped .result)
           (omega (arith, counted (c .before .before .before .before .before), l .inv)) (l .inv .2) (x .ensures) (c .unstepped .ensures)),
     )
 
@@ -109,12 +109,12 @@ returns c =
     let start = c .before .before .before .before .before in
     let a = start .args in
     let l = c .before .loop in
-    back-at (a .v) (start .pre .0) (start .pre .1 .0) (stateIn (variant (a .v)) (a .end)) (end-long start) (a .place + c .before .before .block-count .result - l .i + 1) (suc (a .place))
+    back-at (a .v) (start .pre .0 .0) (start .pre .1 .0) (start .pre .0 .1) (stateIn (variant (a .v)) (a .end)) (end-long start) (a .place + c .before .before .block-count .result - l .i + 1) (suc (a .place))
     (omega (arith, l .inv)) (l .s) (l .inv .2)
 
 pub run-back-spec : {M : Type 1} → statement M
 run-back-spec =
-    tie.close (tie.spec Inv-loop μ-loop (λ c κs. tt) (λ c. omega arith) (λ c κs. (c .before .before .pre .0, c .before .before .pre .1 .0 .short))
+    tie.close (tie.spec Inv-loop μ-loop (λ c κs. tt) (λ c. omega arith) (λ c κs. (c .before .before .pre .0 .0, c .before .before .pre .1 .0 .short))
     (λ c. omega (arith, few-blocks (c .before .before .before), c .before .before .before .pre .1 .1 .0)) loop-holds
     (λ c. omega (arith, few-blocks (c .before .before .before .before .before), counted (c .before .before), c .before .before .before .before .before .pre .1 .1 .0))
     (λ c. omega (arith, c .before .loop .inv)) (λ c. search needs) mul-block-at block-at-requires unstepped-requires (λ c. omega arith) (λ c. omega arith)

@@ -15,7 +15,7 @@ use Rattle.sponge.proofs.blocks.step_at.Tie as tie
 is-inside-requires : tie.Need-is-inside-requires
 is-inside-requires c κs =
     let start = c .before .before .before in
-    let few : variant (start .args .v) .r ≤ 36 = bounds (start .args .v) (start .pre .0 .0) .rate-most in
+    let few : variant (start .args .v) .r ≤ 128 = bounds (start .args .v) (start .pre .0 .0) .rate-most in
     (omega (arith, few, start .pre .0 .1), start .pre .0 .3)
 
 step-words-requires : tie.Need-step-words-requires
@@ -38,13 +38,13 @@ returns c =
 block-at-requires : tie.Need-block-at-requires
 block-at-requires c κs =
     let start = c .before .before .before .before .before in
-    let few : variant (start .args .v) .r ≤ 36 = bounds (start .args .v) (start .pre .0 .0) .rate-most in
+    let few : variant (start .args .v) .r ≤ 128 = bounds (start .args .v) (start .pre .0 .0) .rate-most in
     (start .pre .0 .2, omega (arith, few, start .pre .0 .1), start .pre .0 .3)
 
 step-words-requires-2 : tie.Need-step-words-requires-2
 step-words-requires-2 c κs =
     let start = c .before .before .before .before .before .before .before .before in
-    let few : variant (start .args .v) .r ≤ 36 = bounds (start .args .v) (start .pre .0 .0) .rate-most in
+    let few : variant (start .args .v) .r ≤ 128 = bounds (start .args .v) (start .pre .0 .0) .rate-most in
     ((start .pre .0 .0, omega (arith, few), λ z. refl), start .pre .1)
 
 returns-2 : tie.Need-returns-2

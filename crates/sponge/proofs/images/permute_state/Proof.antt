@@ -13,7 +13,7 @@ at-front-requires : tie.Need-at-front-requires
 at-front-requires c κs =
     let start = c .before .before in
     let a = start .args in
-    let k = start .pre .0 in
+    let k = start .pre .0 .0 in
     omega (arith, image-length (a .v) k (a .image .now) (start .pre .1), bounds (a .v) k .image-most)
 
 permuted-requires : tie.Need-permuted-requires
@@ -21,13 +21,13 @@ permuted-requires c κs =
     let start = c .before .before .before in
     let a = start .args in
     let x = c .at-front in
-    (start .pre .0, image-ready (a .v) (start .pre .0) (a .image .now) (start .pre .1) (x .result) (bytes-lt stateRoom (x .result) _ (x .ok)) (x .ensures))
+    (start .pre .0, image-ready (a .v) (start .pre .0 .0) (a .image .now) (start .pre .1) (x .result) (bytes-lt stateRoom (x .result) _ (x .ok)) (x .ensures))
 
 copy-front-requires : tie.Need-copy-front-requires
 copy-front-requires c κs =
     let start = c .before .before .before .before .before .before .before in
     let a = start .args in
-    let k = start .pre .0 in
+    let k = start .pre .0 .0 in
     let n = c .before .image-bytes .ensures in
     (omega (arith, n, bounds (a .v) k .image-most), omega (arith, n, image-length (a .v) k (a .image .now) (start .pre .1)))
 
@@ -39,7 +39,7 @@ returns c =
     let start = front .before .before .before in
     let a = start .args in
     let x = front .at-front in
-    image-permuted (a .v) (start .pre .0) (a .image .now) (start .pre .1) (x .result) (bytes-lt stateRoom (x .result) _ (x .ok)) (x .ensures)
+    image-permuted (a .v) (start .pre .0 .0) (a .image .now) (start .pre .1) (x .result) (bytes-lt stateRoom (x .result) _ (x .ok)) (x .ensures)
     (directionOf (a .way)) (permuted .permuted .result) _ (size .image-bytes .result) (size .image-bytes .ensures) (permuted .permuted .ensures) (c .before .before .copy-front .ensures)
 
 pub permute-state-spec : {M : Type 1} → statement M

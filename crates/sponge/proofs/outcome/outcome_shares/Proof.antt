@@ -2,14 +2,16 @@
 use mathlib.Core.Path.{refl}
 use native.Mathlib.Omega.{arith}
 use borrow.Author.Needs.{needs}
+use Rattle.standard.specs.Variants.{variant}
 use Rattle.sponge.proofs.outcome.outcome_shares.Statement.{statement}
 use Rattle.sponge.proofs.outcome.outcome_shares.Tie as tie
 
 outcome-with-requires : tie.Need-outcome-with-requires
+unfolding variant
 outcome-with-requires c κs =
     let pre = c .before .before .before .before .pre in (
-      (refl, pre .0, pre .1),
-      record { pairs = λ h. absurd (omega arith); shares = λ e. (omega arith, c .before .entries-288 .ensures); spread = λ h. absurd (omega arith) },
+      (refl, refl, pre .0, pre .1),
+      record { pairs = λ h. absurd (omega arith); shares = λ e. (omega arith, c .before .entries-288 .ensures); spread = λ h g. absurd (omega arith); boxes = λ e. absurd (omega arith) },
     )
 
 pub outcome-shares-spec : {M : Type 1} → statement M

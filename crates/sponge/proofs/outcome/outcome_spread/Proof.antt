@@ -1,6 +1,6 @@
 -- `sponge::outcome::outcome_spread` meets its contract: its table is the one that the variants of SPONGENT look up. Assumes nothing.
 use native.Mathlib.Omega.{arith}
-use Rattle.standard.proofs.Variants.{known-true}
+use Rattle.standard.proofs.Variants.{known-true, sponge-true}
 use borrow.Author.Needs.{needs}
 use Rattle.sponge.proofs.outcome.outcome_spread.Statement.{statement}
 use Rattle.sponge.proofs.outcome.outcome_spread.Tie as tie
@@ -10,8 +10,8 @@ outcome-with-requires c κs =
     let start = c .before .before .before .before .before .before in
     let pre = start .pre in
     let t = c .before .before .fill-table .ensures in (
-      (known-true (start .args .v) (omega (arith, pre .0)) (pre .1), pre .2, pre .3),
-      record { pairs = λ h. absurd (omega (arith, pre .0)); shares = λ e. absurd (omega (arith, pre .0)); spread = λ h. t },
+      (known-true (start .args .v) (omega (arith, pre .0)) (omega (arith, pre .1)), sponge-true (start .args .v) (omega (arith, pre .0)) (pre .1), pre .2, pre .3),
+      record { pairs = λ h. absurd (omega (arith, pre .0)); shares = λ e. absurd (omega (arith, pre .0)); spread = λ h g. t; boxes = λ e. absurd (omega (arith, pre .1)) },
     )
 
 pub outcome-spread-spec : {M : Type 1} → statement M

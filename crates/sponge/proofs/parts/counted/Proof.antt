@@ -7,7 +7,7 @@ use Rattle.standard.specs.Chain.{countedOf}
 use Rattle.standard.specs.Variants.{variant}
 use Rattle.standard.proofs.PartBytes.{counted-lt}
 use Rattle.standard.proofs.Variants.{known-low, known-high}
-use Rattle.sponge.proofs.PartBytes.{photon-counts, spongent-counts, power, power-pos}
+use Rattle.sponge.proofs.PartBytes.{photon-counts, spongent-counts, lesamnta-counts, power, power-pos}
 use Rattle.sponge.proofs.parts.counted.Statement.{statement}
 use Rattle.sponge.proofs.parts.counted.Tie as tie
 
@@ -24,11 +24,17 @@ returns c =
 
 returns-2 : tie.Need-returns-2
 returns-2 c =
-    let s = c .before in
+    let s = c .before .before in
     let a = s .args in
-    told s _ (ap (λ (n : ℕ). a .b % n) (power (a .k) (s .pre .1)) ∙ sym (spongent-counts (a .v) (omega arith) (known-high (a .v) (s .pre .0)) (a .k) (a .b)))
+    told s _ (sym (lesamnta-counts (a .v) (c .if2 .taken) (a .k) (a .b)))
+
+returns-3 : tie.Need-returns-3
+returns-3 c =
+    let s = c .before .before in
+    let a = s .args in
+    told s _ (ap (λ (n : ℕ). a .b % n) (power (a .k) (s .pre .1)) ∙ sym (spongent-counts (a .v) (omega arith) (omega (arith, known-high (a .v) (s .pre .0))) (a .k) (a .b)))
 
 pub counted-spec : {M : Type 1} → statement M
 counted-spec =
-    tie.close (tie.spec (λ c. search needs) (λ c. search needs) (λ c. search needs) returns (λ c. search needs) (λ c. search needs)
-    (λ c. power-pos (c .before .args .k) (c .before .pre .1)) returns-2)
+    tie.close (tie.spec (λ c. search needs) (λ c. search needs) (λ c. search needs) returns (λ c. search needs) (λ c. search needs) (λ c. search needs) returns-2 (λ c. search needs) (λ c. search needs)
+    (λ c. power-pos (c .before .before .args .k) (c .before .before .pre .1)) returns-3)

@@ -1,26 +1,23 @@
--- `sponge::sizes::block_count` meets its contract: floor(n / r) + 1. Assumes nothing.
+-- `sponge::sizes::block_count` meets its contract: the blocks of the 1 bit, and for what is no sponge one more. Assumes nothing.
 use mathlib.Core.Path.{sym, ap, _∙_}
-use Prim.Native.Nat.{ℕ, _+_, _/_}
-use native.Mathlib.Nat.{div-le-self}
+use Prim.Native.Nat.{ℕ, _+_}
 use native.Mathlib.Omega.{arith}
-use Rattle.standard.specs.Variants.{variant}
-use Rattle.standard.proofs.Sponge.{sponge-count}
-use Rattle.standard.proofs.Variants.{bounds, streams, sponge}
 use borrow.Author.Needs.{needs}
+use Rattle.sponge.proofs.LastBlocks.{count-sponge, count-other}
 use Rattle.sponge.proofs.sizes.block_count.Statement.{statement}
 use Rattle.sponge.proofs.sizes.block_count.Tie as tie
 
-div-result : tie.Need-div-result
-div-result c = omega (arith, c .block-bits .ensures, bounds (c .before .args .v) (c .before .pre .0) .rate-least)
-
-add-result : tie.Need-add-result
-add-result c = omega (arith, div-le-self (c .before .args .bits) (c .block-bits .result), c .before .pre .1)
-
 returns : tie.Need-returns
 returns c =
-    let v = c .before .args .v in
-    let k = c .before .pre .0 in
-    ap (λ (r : ℕ). c .before .args .bits / r + 1) (c .block-bits .ensures) ∙ sym (sponge-count (variant v) (streams v k) (sponge v k) (c .before .args .bits))
+    let s = c .before .before .before in
+    let told = sym (c .before .before .is-sponge .ensures) ∙ c .before .if1 .taken in
+    c .marked-count .ensures .0 ∙ sym (count-sponge (s .args .v) (s .pre .0) told (s .args .bits))
+
+returns-2 : tie.Need-returns-2
+returns-2 c =
+    let s = c .before .before .before in
+    let told = sym (c .before .before .is-sponge .ensures) ∙ c .before .if1 .left in
+    ap (λ (n : ℕ). n + 1) (c .marked-count2 .ensures .0) ∙ sym (count-other (s .args .v) (s .pre .0) told (s .args .bits))
 
 pub block-count-spec : {M : Type 1} → statement M
-block-count-spec = tie.close (tie.spec (λ c κs. search needs) (λ c. search needs) div-result add-result returns)
+block-count-spec = tie.close (tie.spec (λ c κs. search needs) (λ c κs. search needs) returns (λ c κs. search needs) (λ c. omega (arith, c .marked-count2 .ensures .1, c .before .before .before .pre .1)) returns-2)

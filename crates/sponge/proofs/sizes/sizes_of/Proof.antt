@@ -30,14 +30,14 @@ returns-2 : tie.Need-returns-2
 unfolding variant
 returns-2 c =
     let v = c .before .before .args .v in
-    let h : v < 11 = omega arith in (
+    let h : v < 12 = omega arith in (
       (
-        same-below (size 0) (λ k. variant k .t) 11 tt v h,
-        same-below (size 1) (λ k. variant k .r) 11 tt v h,
-        same-below (size 2) (λ k. variant k .r′) 11 tt v h,
-        same-below (size 3) (λ k. variant k .n) 11 tt v h,
+        same-below (size 0) (λ k. variant k .t) 12 tt v h,
+        same-below (size 1) (λ k. variant k .r) 12 tt v h,
+        same-below (size 2) (λ k. variant k .r′) 12 tt v h,
+        same-below (size 3) (λ k. variant k .n) 12 tt v h,
       ),
-      omega (arith, bound-below (size 0) 289 11 tt v h),
+      omega (arith, bound-below (size 0) 289 12 tt v h),
     )
 
 pub sizes-of-spec : {M : Type 1} → statement M

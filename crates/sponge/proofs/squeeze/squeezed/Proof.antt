@@ -19,7 +19,7 @@ abbrev μ-loop : tie.MeasureT-loop
 loop-holds : tie.Need-loop-holds Inv-loop μ-loop
 loop-holds c =
     let start = c .before .before .before in
-    squeezing-start (start .args .v) (start .pre .0) _ (words-length (start .args .v) (start .pre .0) (start .args .w .now)) _ _ (ap (λ (n : ℕ). n * 2) (c .before .digest-bytes .ensures)) (c .output-halves .ensures)
+    squeezing-start (start .args .v) (start .pre .0 .0) (start .pre .0 .1) _ (words-length (start .args .v) (start .pre .0 .0) (start .args .w .now)) _ _ (ap (λ (n : ℕ). n * 2) (c .before .digest-bytes .ensures)) (c .output-halves .ensures)
 
 put-front-requires : tie.Need-put-front-requires Inv-loop μ-loop
 put-front-requires c κs =
@@ -29,7 +29,7 @@ put-front-requires c κs =
 step-words-requires : tie.Need-step-words-requires Inv-loop μ-loop
 step-words-requires c κs =
     let start = c .before .before .before .before .before .before .before .before .before .before .before .before .before in
-    ((start .pre .0, omega (arith, bounds (start .args .v) (start .pre .0) .rate-most), (λ e. refl)), start .pre .1)
+    ((start .pre .0 .0, omega (arith, bounds (start .args .v) (start .pre .0 .0) .rate-most), (λ e. refl)), start .pre .1)
 
 loop-again : tie.Need-loop-again Inv-loop μ-loop
 loop-again c =
@@ -50,7 +50,7 @@ returns c =
 pub squeezed-spec : {M : Type 1} → statement M
 squeezed-spec =
     tie.close (tie.spec Inv-loop μ-loop (λ c κs. tt)
-    (λ c. omega (arith, c .digest-bytes .ensures, bounds (c .before .before .args .v) (c .before .before .pre .0) .digest-most))
+    (λ c. omega (arith, c .digest-bytes .ensures, bounds (c .before .before .args .v) (c .before .before .pre .0 .0) .digest-most))
     (λ c κs. tt) loop-holds (λ c. omega arith)
     (λ c κs. c .before .before .before .before .before .before .pre .0)
     (λ c. sym (squeezing-room _ _ _ _ _ _ _ (c .before .before .before .before .loop .inv))) (λ c. omega arith) put-front-requires

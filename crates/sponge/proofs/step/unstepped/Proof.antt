@@ -13,7 +13,7 @@ returns c =
     let a = start .args in
     let p = c .before .before .permuted in
     let x = c .xored in
-    taken-back (a .v) (start .pre .0) (a .s) (p .result) (x .result) (a .t3) (omega arith) (omega arith) (omega arith)
+    taken-back (a .v) (start .pre .0 .0) (start .pre .0 .1) (a .s) (p .result) (x .result) (a .t3) (omega arith) (omega arith) (omega arith)
     (bytes-lt stateRoom (x .result) _ (x .ok)) (omega arith) (p .ensures) (start .pre .1 .1) (x .ensures)
 
 pub unstepped-spec : {M : Type 1} → statement M

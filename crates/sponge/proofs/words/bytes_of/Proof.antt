@@ -1,8 +1,14 @@
 -- `sponge::words::bytes_of` meets its contract: all rows of a PHOTON matrix, or all bytes of a SPONGENT state. Assumes nothing.
+use mathlib.Core.Path.{_≡_, sym, subst}
+use Prim.Native.Nat.{ℕ}
 use native.Mathlib.Omega.{arith}
 use borrow.Author.Needs.{needs}
 use Rattle.standard.proofs.Variants.{bounds, known-low, known-high}
+use Rattle.standard.specs.Variants.{variant}
+use Rattle.sponge.specs.Layout.{packedState}
+use Rattle.sponge.specs.Words.{stateInWords}
 use Rattle.sponge.proofs.ImageRows.{side-of, all-rows, spongent-image}
+use Rattle.sponge.proofs.WordSteps.{lesamnta-image}
 use Rattle.sponge.proofs.words.bytes_of.Statement.{statement}
 use Rattle.sponge.proofs.words.bytes_of.Tie as tie
 
@@ -31,16 +37,21 @@ returns-5 c =
     let a = c .before .before .before .before .before .before .args in
     all-rows (a .v) (omega arith) (omega arith) 5 (c .before .if5 .taken) (a .w .now) _ (c .image8 .ensures)
 
-image-requires : tie.Need-image-requires
-image-requires c κs =
-    let s = c .before .before .before .before .before .before in
-    omega (arith, c .image-bytes .ensures, bounds (s .args .v) (s .pre) .image-most)
-
 returns-6 : tie.Need-returns-6
 returns-6 c =
+    let s = c .before .before .before .before .before .before .before .before in
+    subst (λ (n : ℕ). c .image .result ≡ packedState (variant n) (stateInWords (variant n) (s .args .w .now))) (sym (c .before .before .if6 .taken)) (lesamnta-image (s .args .w .now) _ (c .image .ensures))
+
+image-requires-2 : tie.Need-image-requires-2
+image-requires-2 c κs =
     let s = c .before .before .before .before .before .before .before in
+    omega (arith, c .image-bytes .ensures, bounds (s .args .v) (s .pre) .image-most)
+
+returns-7 : tie.Need-returns-7
+returns-7 c =
+    let s = c .before .before .before .before .before .before .before .before in
     let low = known-low (s .args .v) (s .pre) in
-    spongent-image (s .args .v) (omega (arith, low)) (known-high (s .args .v) (s .pre)) (s .args .w .now) _ _ (c .before .image-bytes .ensures) (c .image .ensures)
+    spongent-image (s .args .v) (omega (arith, low)) (omega (arith, known-high (s .args .v) (s .pre))) (s .args .w .now) _ _ (c .before .image-bytes .ensures) (c .image2 .ensures)
 
 pub bytes-of-spec : {M : Type 1} → statement M
 bytes-of-spec =
@@ -55,5 +66,7 @@ bytes-of-spec =
     (λ c κs. omega arith)
     returns-5
     (λ c κs. search needs)
-    image-requires
-    returns-6)
+    returns-6
+    (λ c κs. search needs)
+    image-requires-2
+    returns-7)

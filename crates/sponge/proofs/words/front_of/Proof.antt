@@ -1,6 +1,6 @@
 -- `sponge::words::front_of` meets its contract: the rows, or the bytes, that hold the bits given out. Assumes nothing.
 use native.Mathlib.Omega.{arith}
-use Rattle.standard.proofs.Variants.{known-low, known-high}
+use Rattle.standard.proofs.Variants.{known-low, sponge-high}
 use Rattle.sponge.proofs.ImageRows.{side-of, front-rows, spongent-front}
 use Rattle.sponge.proofs.words.front_of.Statement.{statement}
 use Rattle.sponge.proofs.words.front_of.Tie as tie
@@ -33,8 +33,8 @@ returns-5 c =
 returns-6 : tie.Need-returns-6
 returns-6 c =
     let s = c .before .before .before .before .before .before in
-    let low = known-low (s .args .v) (s .pre) in
-    spongent-front (s .args .v) (omega (arith, low)) (known-high (s .args .v) (s .pre)) (s .args .w .now) _ (c .image .ensures)
+    let low = known-low (s .args .v) (s .pre .0) in
+    spongent-front (s .args .v) (omega (arith, low)) (sponge-high (s .args .v) (s .pre .0) (s .pre .1)) (s .args .w .now) _ (c .image .ensures)
 
 pub front-of-spec : {M : Type 1} → statement M
 front-of-spec =

@@ -1,0 +1,5 @@
+pub mod LookUpLaws
+pub mod RoundLaws
+pub mod WordLaws
+pub mod StepLaws
+pub mod Undone

@@ -1,0 +1,26 @@
+-- `words_of` puts the four words of a state before four zeros.
+-- Assumes nothing.
+use mathlib.Core.Path.{ap, _∙_}
+use mathlib.Core.List.{List}
+use Prim.Native.Nat.{ℕ}
+use native.Mathlib.Omega.{arith}
+use borrow.Author.Needs.{needs}
+use Rattle.standard.specs.Bits.{high-first, bitsIn}
+use Rattle.standard.specs.Lesamnta.{bitsOfWords}
+use Rattle.standard.proofs.BitLaws.{length-bitsIn}
+use Rattle.lesamnta.specs.Words.{stateOf}
+use Rattle.lesamnta.proofs.WordLaws.{state-read}
+use Rattle.lesamnta.proofs.RoundLaws.{four}
+use Rattle.lesamnta.proofs.words_of.Statement.{statement}
+use Rattle.lesamnta.proofs.words_of.Tie as tie
+
+returns : tie.Need-returns
+unfolding stateOf
+returns c =
+    let s = c .before .before in
+    let bytes : List ℕ = s .args .bytes .now in
+    ap (bitsOfWords 64) (four (c .state-words .result) (omega arith))
+    ∙ state-read (bitsIn high-first bytes) (c .state-words .result) (omega (arith, length-bitsIn high-first bytes, s .pre)) (c .state-words .ensures)
+
+pub words-of-spec : {M : Type 1} → statement M
+words-of-spec = tie.close (tie.spec (λ c κs. search needs) (λ c. search needs) (λ c. search needs) (λ c. search needs) (λ c. search needs) returns)

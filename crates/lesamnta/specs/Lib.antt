@@ -1,0 +1,3 @@
+-- The definitions that the contracts of this crate cite, beside those of the standard.
+pub mod LookUps
+pub mod Words
