@@ -6,7 +6,7 @@ pub const LINKS: [usize; 2] = [100, 3000];
 
 /// Link 100 and link 3000 of each variant's chain. They are what the Rust
 /// version built apart gives (`cargo run --release --bin chains`).
-pub const ENDS: [[&str; 2]; 10] = [
+pub const ENDS: [[&str; 2]; 11] = [
     ["659272faae6172377275", "33e9d32c49aa20c5ad36"],
     [
         "f4d1566198aa3bd4fb4cb78f7bd24dfc",
@@ -40,6 +40,10 @@ pub const ENDS: [[&str; 2]; 10] = [
     [
         "dda7afeedd45bb3349f1a81393c5779b5fa4ecd561810d7cde47f8bdf32bdca0",
         "f89ae04daefda54578a52d3dfac78bc00c3d3176452498449b42f1952dbb4d25",
+    ],
+    [
+        "7571449b87f9e967889c03513e6ccccfb0f6ba16846949b7943a4951d1180708",
+        "0a453417ac748c2bc95c43edadf2001764673e6ab4fb24a978e2aee1073d8954",
     ],
 ];
 

@@ -4,6 +4,7 @@
 //! something, and gives the answer and what was written.
 
 use wickslate_reference as reference;
+use wickslate_reference::lesamnta;
 use wickslate_reference::manifest;
 use wickslate_reference::running::{self, Running};
 use wickslate_reference::segments::{self, Refusal};
@@ -176,6 +177,23 @@ pub fn permute(variant: u32, image: &[u8], back: bool) -> (u32, Vec<u8>) {
     };
     let expected = with_copy(image, |image| theirs(variant, image));
     expect_bytes(image, expected, |image| ours(variant, image))
+}
+
+/// Lesamnta-LW's cipher on a state, or its inverse: the state after it.
+pub fn cipher(key: [u8; 16], state: [u8; 32], back: bool) -> [u8; 32] {
+    type Ours = fn(&[u8; 16], &mut [u8; 32]);
+    type Theirs = fn([u8; 16], [u8; 32]) -> [u8; 32];
+    let (ours, theirs): (Ours, Theirs) = match back {
+        true => (wickslate::lesamnta_decrypt, lesamnta::decrypt),
+        false => (wickslate::lesamnta_encrypt, lesamnta::encrypt),
+    };
+    let lent_key = Value::new(key);
+    let mut lent = Value::new(state);
+    only_read(&[lent_key.get()], || ours(lent_key.get(), lent.lend()));
+    assert_eq!(lent_key.take_back(), key);
+    let after = lent.take_back();
+    assert_eq!(after, theirs(key, state), "{key:x?} on {state:x?}");
+    after
 }
 
 /// The lost block, into an output holding `before`.

@@ -5,12 +5,13 @@ use std::sync::LazyLock;
 
 use wickslate_reference::manifest::{RECORD_BYTES, RECORD_LIMIT};
 use wickslate_reference::padding::block_count;
+use wickslate_reference::running::HELD_BYTES;
 use wickslate_reference::{end_state, end_state_bits, Variant, BIT_LIMIT, MESSAGE_LIMIT};
 
 use crate::compare::at;
 use crate::make::{
-    bits_of, block_bytes, filled_manifest, image, list, result_bytes, spare_held, spare_state,
-    well_formed, Entry,
+    bits_of, block_bytes, filled_manifest, image, lesamnta_lw, list, result_bytes, spare_held,
+    spare_state, well_formed, Entry,
 };
 use crate::random::Random;
 use crate::wickslate::Hasher;
@@ -51,21 +52,26 @@ pub struct Call {
 }
 
 impl Call {
-    /// Nothing is wrong for any operation on an open running hash.
+    /// Nothing is wrong for any operation on an open running hash, nor for any
+    /// other but that Lesamnta-LW has no permutation.
     pub fn sound(variant: &Variant) -> Call {
         Call::about(variant, MESSAGE)
     }
 
     /// The same about this message; the place and the entries may be past its
-    /// end.
+    /// end. The place of Lesamnta-LW is the last.
     pub fn about(variant: &Variant, message: &'static [u8]) -> Call {
         let mut random = Random::of_test("a sound call");
+        let place = match variant.is_sponge() {
+            true => 3,
+            false => block_count(variant, 8 * message.len()) - 1,
+        };
         Call {
             number: variant.number,
             h: well_formed(&mut random, variant, 0, 8 * 11),
             message,
             bits: 8,
-            place: 3,
+            place,
             image: end_state(variant.number, message).expect("within the limit"),
             entries: vec![(0, 2), (3, 2)],
             cut: 0,
@@ -108,7 +114,7 @@ impl Call {
 /// A closed running hash holds no bits.
 fn close(call: &mut Call) {
     call.h.stage = 1;
-    call.h.held = [0; 5];
+    call.h.held = [0; HELD_BYTES];
 }
 
 /// Something that is wrong: the answer to it, and how a call comes by it.
@@ -135,7 +141,7 @@ fn fault<'a>(answer: u32, spoil: impl Fn(&mut Call) + 'a) -> Fault<'a> {
 }
 
 fn unknown_variant(variant: &Variant) -> Vec<Fault<'_>> {
-    [0, 11, 256 + variant.number, u32::MAX]
+    [0, 12, 256 + variant.number, u32::MAX]
         .map(|number| fault(1, move |call| call.number = number))
         .into()
 }
@@ -143,7 +149,7 @@ fn unknown_variant(variant: &Variant) -> Vec<Fault<'_>> {
 fn malformed(variant: &Variant) -> Vec<Fault<'_>> {
     let mut faults = vec![
         fault(2, |call| call.h.variant = 0),
-        fault(2, |call| call.h.variant = 11),
+        fault(2, |call| call.h.variant = 12),
         fault(2, |call| call.h.stage = 2),
         fault(2, |call| call.h.total = BIT_LIMIT as u32 + 1),
         fault(2, |call| {
@@ -241,6 +247,24 @@ fn no_such_place(variant: &Variant) -> Vec<Fault<'_>> {
     ]
 }
 
+/// A permutation is asked of Lesamnta-LW.
+fn not_sponge() -> Vec<Fault<'static>> {
+    vec![fault(17, |call| call.number = lesamnta_lw().number)]
+}
+
+/// The first place of several, and the last but one, where only the last will
+/// do.
+fn not_last(variant: &Variant) -> Vec<Fault<'_>> {
+    if variant.is_sponge() {
+        return Vec::new();
+    }
+    let count = move |call: &Call| block_count(variant, bits_of(call.message, call.bits));
+    vec![
+        fault(17, |call| call.place = 0),
+        fault(17, move |call| call.place = count(call) - 2),
+    ]
+}
+
 fn no_such_entry() -> Vec<Fault<'static>> {
     vec![
         fault(7, |call| call.entry = call.entries.len()),
@@ -289,7 +313,7 @@ fn bad_manifest(variant: &Variant) -> Vec<Fault<'_>> {
 /// In the second record, as in [`not_rising`].
 fn bad_record(variant: &Variant) -> Vec<Fault<'_>> {
     let (number, digest) = (RECORD_BYTES + 2, RECORD_BYTES + 3);
-    let mut faults: Vec<_> = [0, 11, 255]
+    let mut faults: Vec<_> = [0, 12, 255]
         .map(|wrong| fault(13, move |call| call.manifest[number] = wrong))
         .into();
     if variant.digest_bytes() < 32 {
@@ -363,9 +387,9 @@ pub fn of_whole_bits(variant: &Variant, wanted: u32) -> Vec<Fault<'_>> {
     row([unknown, bad_bit_number(), too_long(), short])
 }
 
-/// The faults of `permute` and `unpermute`.
+/// The faults of `permute` and `unpermute`, for a sponge.
 pub fn of_permute(variant: &Variant) -> Vec<Fault<'_>> {
-    row([unknown_variant(variant), bad_image(variant)])
+    row([unknown_variant(variant), not_sponge(), bad_image(variant)])
 }
 
 /// The faults of `recover`.
@@ -374,6 +398,7 @@ pub fn of_recover(variant: &Variant) -> Vec<Fault<'_>> {
         unknown_variant(variant),
         too_long(),
         no_such_place(variant),
+        not_last(variant),
         bad_image(variant),
         too_short(block_bytes(variant)),
         no_block(variant),
@@ -387,6 +412,7 @@ pub fn of_recover_bits(variant: &Variant) -> Vec<Fault<'_>> {
         bad_bit_number(),
         too_long(),
         no_such_place(variant),
+        not_last(variant),
         bad_image(variant),
         too_short(block_bytes(variant)),
         no_block(variant),

@@ -87,7 +87,7 @@ pub fn only_read<T>(inputs: &[&[u8]], call: impl FnOnce() -> T) -> T {
     answer
 }
 
-/// The running hash with a known byte where it has no field.
+/// The running hash with a known byte wherever it has no field.
 pub fn filled_behind(h: Hasher) -> Hasher {
     h.filled(GUARD)
 }

@@ -5,7 +5,8 @@ use std::collections::BTreeMap;
 use std::ops::Range;
 
 use wickslate_reference::manifest::RECORD_BYTES;
-use wickslate_reference::running::Running;
+use wickslate_reference::padding::block_count;
+use wickslate_reference::running::{Running, HELD_BYTES};
 use wickslate_reference::{digest, Family, Variant, BIT_LIMIT, VARIANTS};
 
 use crate::compare::hasher;
@@ -13,15 +14,16 @@ use crate::lent::filled_behind;
 use crate::random::Random;
 use crate::wickslate::Hasher;
 
-/// Variant numbers that no variant has. The low byte of the last four is that
+/// Variant numbers that no variant has. The low byte of the last five is that
 /// of a variant.
-pub const UNKNOWN: [u32; 9] = [
+pub const UNKNOWN: [u32; 10] = [
     0,
-    11,
+    12,
     128,
     255,
     u32::MAX,
     0x101,
+    0x10b,
     0x1_0005,
     0x100_000a,
     0xffff_ff06,
@@ -50,9 +52,40 @@ pub fn none() -> Hasher {
     filled_behind(Hasher::default())
 }
 
-/// Any one of the ten variants.
+/// Any one of the variants.
 pub fn variant(random: &mut Random) -> &'static Variant {
     &VARIANTS[random.below(VARIANTS.len())]
+}
+
+/// Any one of those that are sponges.
+pub fn sponge(random: &mut Random) -> &'static Variant {
+    loop {
+        let variant = variant(random);
+        if variant.is_sponge() {
+            return variant;
+        }
+    }
+}
+
+/// Lesamnta-LW, the one that is no sponge.
+pub fn lesamnta_lw() -> &'static Variant {
+    &VARIANTS[10]
+}
+
+/// The places of a message of so many bits at which a block can be found again:
+/// all of a sponge, and of Lesamnta-LW the last.
+pub fn places(variant: &Variant, bits: usize) -> Range<usize> {
+    let count = block_count(variant, bits);
+    match variant.is_sponge() {
+        true => 0..count,
+        false => count - 1..count,
+    }
+}
+
+/// One of these places.
+pub fn place(random: &mut Random, variant: &Variant, bits: usize) -> usize {
+    let places = places(variant, bits);
+    places.start + random.below(places.len())
 }
 
 /// The bytes that hold a block.
@@ -76,7 +109,7 @@ pub fn bits_of(message: &[u8], bits: u32) -> usize {
 /// The bits of a last byte that count.
 pub fn counting(family: Family, bits: u32) -> u8 {
     match family {
-        Family::Photon => 0xff << (8 - bits),
+        Family::Photon | Family::LesamntaLw => 0xff << (8 - bits),
         Family::Spongent => 0xff >> (8 - bits),
     }
 }
@@ -95,7 +128,7 @@ pub fn block_edges(variant: &Variant) -> Vec<usize> {
 /// it, in the order in which the family's images hold bits.
 pub fn bits_from(family: Family, first: usize, bytes: usize) -> Vec<(usize, u8)> {
     let weight = |bit: usize| match family {
-        Family::Photon => 0x80 >> (bit % 8),
+        Family::Photon | Family::LesamntaLw => 0x80 >> (bit % 8),
         Family::Spongent => 0x01 << (bit % 8),
     };
     (first..8 * bytes)
@@ -109,8 +142,8 @@ pub fn spare_held(variant: &Variant, stage: u8, total: u32) -> Vec<(usize, u8)> 
         0 => total as usize % variant.block_bits,
         _ => 0,
     };
-    // Held bits are packed from the high bit in both families.
-    bits_from(Family::Photon, count, 5)
+    // Held bits are packed from the high bit in every family.
+    bits_from(Family::Photon, count, HELD_BYTES)
 }
 
 /// The state bits of a running hash that must be zero.

@@ -27,8 +27,8 @@ impl Answer {
     }
 }
 
-/// The running hash as the archive lays it out, with a name for the byte that
-/// belongs to no field, so that all 48 can be set and looked at.
+/// The running hash as the archive lays it out, with a name for the bytes that
+/// belong to no field, so that all 60 can be set and looked at.
 #[repr(C)]
 #[derive(Clone, Copy, Debug, PartialEq, Eq)]
 pub struct Hasher {
@@ -41,9 +41,9 @@ pub struct Hasher {
     /// The state's image, and zeros.
     pub state: [u8; 36],
     /// The bits that fill no block yet, and zeros.
-    pub held: [u8; 5],
+    pub held: [u8; 16],
     /// No field.
-    pub behind: u8,
+    pub behind: [u8; 2],
 }
 
 impl Default for Hasher {
@@ -54,29 +54,30 @@ impl Default for Hasher {
             variant: 0,
             stage: 0,
             state: [0; 36],
-            held: [0; 5],
-            behind: 0,
+            held: [0; 16],
+            behind: [0; 2],
         }
     }
 }
 
 impl Hasher {
-    /// The same fields, with this byte where there is none.
+    /// The same fields, with this byte wherever there is none.
     pub fn filled(self, byte: u8) -> Hasher {
         Hasher {
-            behind: byte,
+            behind: [byte; 2],
             ..self
         }
     }
 }
 
 const _: () = {
-    assert!(size_of::<Hasher>() == 48 && align_of::<Hasher>() == 4);
+    assert!(size_of::<Hasher>() == 60 && align_of::<Hasher>() == 4);
     assert!(offset_of!(Hasher, total) == 0);
     assert!(offset_of!(Hasher, variant) == 4);
     assert!(offset_of!(Hasher, stage) == 5);
     assert!(offset_of!(Hasher, state) == 6);
     assert!(offset_of!(Hasher, held) == 42);
+    assert!(offset_of!(Hasher, behind) == 58);
 };
 
 /// A segment list and the number of its next entry, as the archive lays them
@@ -144,6 +145,8 @@ mod archive {
         ) -> Answer;
         pub fn wickslate_permute(variant: u32, image: *mut u8, bytes: usize) -> Answer;
         pub fn wickslate_unpermute(variant: u32, image: *mut u8, bytes: usize) -> Answer;
+        pub fn wickslate_lesamnta_encrypt(key: *const [u8; 16], state: *mut [u8; 32]);
+        pub fn wickslate_lesamnta_decrypt(key: *const [u8; 16], state: *mut [u8; 32]);
         pub fn wickslate_recover(
             variant: u32,
             message: *const u8,
@@ -211,7 +214,7 @@ pub fn update(h: &mut Hasher, piece: &[u8]) -> Answer {
 }
 
 /// Takes a piece of whose last byte `bits` bits count, the high ones for PHOTON
-/// and the low ones for SPONGENT: refusals 2, 3, 15, 16, 4.
+/// and Lesamnta-LW and the low ones for SPONGENT: refusals 2, 3, 15, 16, 4.
 pub fn update_bits(h: &mut Hasher, piece: &[u8], bits: u32) -> Answer {
     // SAFETY: see above.
     unsafe { archive::wickslate_update_bits(h, piece.as_ptr(), piece.len(), bits) }
@@ -268,19 +271,33 @@ pub fn whole_bits(variant: u32, message: &[u8], bits: u32, wanted: u32, out: &mu
     }
 }
 
-/// The permutation on an image: refusals 1, 6.
+/// The permutation on an image: refusals 1, 17, 6.
 pub fn permute(variant: u32, image: &mut [u8]) -> Answer {
     // SAFETY: see above.
     unsafe { archive::wickslate_permute(variant, image.as_mut_ptr(), image.len()) }
 }
 
-/// The inverse of the permutation on an image: refusals 1, 6.
+/// The inverse of the permutation on an image: refusals 1, 17, 6.
 pub fn unpermute(variant: u32, image: &mut [u8]) -> Answer {
     // SAFETY: see above.
     unsafe { archive::wickslate_unpermute(variant, image.as_mut_ptr(), image.len()) }
 }
 
-/// The lost block: refusals 1, 4, 7, 6, 5, 8.
+/// Lesamnta-LW's block cipher with this key on a state: it is never refused.
+pub fn lesamnta_encrypt(key: &[u8; 16], state: &mut [u8; 32]) {
+    // SAFETY: see above.
+    unsafe { archive::wickslate_lesamnta_encrypt(key, state) }
+}
+
+/// The inverse of Lesamnta-LW's block cipher with this key on a state: it is
+/// never refused.
+pub fn lesamnta_decrypt(key: &[u8; 16], state: &mut [u8; 32]) {
+    // SAFETY: see above.
+    unsafe { archive::wickslate_lesamnta_decrypt(key, state) }
+}
+
+/// The lost block, for Lesamnta-LW only at the last place: refusals 1, 4, 7,
+/// 17, 6, 5, 8.
 pub fn recover(variant: u32, message: &[u8], place: usize, image: &[u8], out: &mut [u8]) -> Answer {
     // SAFETY: see above.
     unsafe {
@@ -298,7 +315,7 @@ pub fn recover(variant: u32, message: &[u8], place: usize, image: &[u8], out: &m
 }
 
 /// The lost block of a message of whose last byte `bits` bits count, as for
-/// [`update_bits`]: refusals 1, 15, 4, 7, 6, 5, 8.
+/// [`update_bits`]: refusals 1, 15, 4, 7, 17, 6, 5, 8.
 pub fn recover_bits(
     variant: u32,
     message: &[u8],

@@ -7,16 +7,18 @@ use wickslate_conformance::compare::{
     finish, read, recover, recover_bits, start, update, update_bits, whole, whole_bits,
 };
 use wickslate_conformance::make::{
-    bits_of, counting, image, none, result_bytes, total, variant, well_formed, BAD_BIT_NUMBERS,
+    self, bits_of, counting, image, none, result_bytes, sponge, total, variant, well_formed,
+    BAD_BIT_NUMBERS,
 };
 use wickslate_conformance::random::Random;
 use wickslate_conformance::settings::{amount, minutes};
 use wickslate_conformance::wickslate::{self, Answer, Hasher};
 use wickslate_reference::bits::{pack, Order};
 use wickslate_reference::padding::{block, block_count};
+use wickslate_reference::running::HELD_BYTES;
 use wickslate_reference::{
-    digest_bits, end_state_bits, Family, Message, Padding, Variant, BIT_LIMIT, MESSAGE_LIMIT,
-    VARIANTS,
+    digest_bits, end_state_bits, sponges, Family, Message, Padding, Variant, BIT_LIMIT,
+    MESSAGE_LIMIT, VARIANTS,
 };
 
 /// The greatest total.
@@ -122,7 +124,7 @@ fn long_traces() {
 fn padded(family: Family, message: &[u8], bits: u32) -> Vec<u8> {
     let (&last, before) = message.split_last().expect("a byte");
     let high = match family {
-        Family::Photon => last & counting(family, bits),
+        Family::Photon | Family::LesamntaLw => last & counting(family, bits),
         Family::Spongent => last << (8 - bits),
     };
     let one = 0x80 >> bits;
@@ -140,10 +142,17 @@ fn the_padded_message_in_plain_bytes() {
             return;
         }
         let mut bytes = padded(variant.family, message, bits);
-        let blocks = bits_of(message, bits) / variant.block_bits + 1;
-        bytes.resize((blocks * variant.block_bits).div_ceil(8), 0);
+        let length = bits_of(message, bits);
+        if variant.is_sponge() {
+            let blocks = length / variant.block_bits + 1;
+            bytes.resize((blocks * variant.block_bits).div_ceil(8), 0);
+        } else {
+            // The message ends inside a block: the 1 is in that one too.
+            bytes.resize(length.div_ceil(128) * 16 + 8, 0);
+            bytes.extend((length as u64).to_be_bytes());
+        }
         let (answer, full) = update(begun(variant), &bytes);
-        assert_eq!((answer, full.held), (0, [0; 5]));
+        assert_eq!((answer, full.held), (0, [0; HELD_BYTES]));
         let (_, ended) = finish(taken(variant, &[], message, bits));
         assert_eq!(full.state, ended.state, "{} {bits}", variant.name);
     });
@@ -172,6 +181,9 @@ fn known_last_blocks() {
     let end = end_state_bits(6, &[0xb6, 0x03], 3).expect("a short message");
     let found = recover_bits(6, &[0xb6, 0x03], 3, 1, &end, &[0]);
     assert_eq!(found, (0, vec![0x70]), "header");
+    let end = end_state_bits(11, &[0xb6, 0x60], 3).expect("a short message");
+    let found = recover_bits(11, &[0xb6, 0x60], 3, 1, &end, &[0; 16]);
+    assert_eq!(found, (0, 11_u128.to_be_bytes().into()), "the length");
     let mut empty = vec![0; 11];
     assert!(wickslate::whole(6, b"", 1, &mut empty).is_done());
     assert!(wickslate::unpermute(6, &mut empty).is_done());
@@ -303,7 +315,7 @@ fn end_state(random: &mut Random, variant: &Variant, message: &[u8], bits: u32) 
 fn one_changed_block_shows() {
     let mut random = Random::of_test("one_changed_block_shows");
     for _ in 0..amount(40, 2) {
-        for variant in &VARIANTS {
+        for variant in sponges() {
             let (bytes, bits) = (1 + random.below(40), 1 + random.below(8) as u32);
             let message = random.bytes(bytes);
             let (other, _) = with_other_block(&mut random, variant, &message, bits);
@@ -314,7 +326,8 @@ fn one_changed_block_shows() {
     }
 }
 
-/// Each single bit that counts, and each that does not.
+/// Each single bit that counts, and each that does not. That one shows is
+/// promised of the sponges, and seen here of Lesamnta-LW too.
 #[test]
 fn one_changed_bit_shows_if_it_counts() {
     let mut random = Random::of_test("one_changed_bit_shows_if_it_counts");
@@ -346,7 +359,12 @@ fn each_block_is_found_again() {
         let end = end_state_bits(variant.number, message, bits).expect("a short message");
         let all = places(variant.family, message, bits);
         let count = block_count(variant, all.len());
-        for place in 0..count {
+        let found = make::places(variant, all.len());
+        for place in 0..found.start {
+            let given = recover_bits(variant.number, message, bits, place, &end, &OUT);
+            assert_eq!(given, (17, OUT.to_vec()));
+        }
+        for place in found {
             let own = own_block(variant, message, bits, place);
             let mut forgotten = message.to_vec();
             let behind = all.iter().skip(place * variant.block_bits);
@@ -369,7 +387,7 @@ fn each_block_is_found_again() {
 fn a_changed_block_is_found() {
     let mut random = Random::of_test("a_changed_block_is_found");
     for _ in 0..amount(300, 10) {
-        let variant = variant(&mut random);
+        let variant = sponge(&mut random);
         let (bytes, bits) = (1 + random.below(60), 1 + random.below(8) as u32);
         let message = random.bytes(bytes);
         let (other, place) = with_other_block(&mut random, variant, &message, bits);
@@ -393,7 +411,7 @@ fn states_that_no_block_leads_to() {
         let (bytes, bits) = (1 + random.below(30), 1 + random.below(8) as u32);
         let message = random.bytes(bytes);
         let end = image(&mut random, variant);
-        let place = random.below(block_count(variant, bits_of(&message, bits)));
+        let place = make::place(&mut random, variant, bits_of(&message, bits));
         let given = recover_bits(variant.number, &message, bits, place, &end, &OUT);
         assert_eq!(given, (8, OUT.to_vec()));
     }
@@ -444,9 +462,13 @@ fn numbers_of_bits_that_no_byte_has() {
                 assert_eq!(unknown, 1, "behind no variant");
             }
             let given = |place, end: &[u8]| recover_bits(number, message, bits, place, end, &OUT).0;
-            assert_eq!(given(0, &end), bad(8));
+            let place = if variant.is_sponge() { 0 } else { 1 };
+            assert_eq!(given(place, &end), bad(8));
             assert_eq!(given(usize::MAX, &end), bad(7), "and no such place");
-            assert_eq!(given(0, &[]), bad(6), "and no image");
+            assert_eq!(given(place, &[]), bad(6), "and no image");
+            if !variant.is_sponge() {
+                assert_eq!(given(0, &[]), bad(17), "and not the last place");
+            }
         }
     }
 }
@@ -481,7 +503,8 @@ fn every_message_can_end() {
         for total in (0..3 * block).chain(LIMIT - block + 1..=LIMIT) {
             let h = well_formed(&mut random, variant, 0, total);
             let (answer, ended) = finish(h);
-            assert_eq!((answer, ended.total, ended.held), (0, total, [0; 5]));
+            assert_eq!((answer, ended.total), (0, total));
+            assert_eq!(ended.held, [0; HELD_BYTES]);
             for wanted in [0, 1] {
                 let out = &OUT[..result_bytes(variant, wanted)];
                 assert_eq!(read(ended, wanted != 0, out).0, 0);
@@ -532,7 +555,8 @@ fn lengths_at_the_limit() {
                 assert_eq!(answer, Answer(5), "{}", variant.name);
             }
             let count = block_count(variant, bits_of(longest, bits));
-            for (place, refusal) in [(count - 1, 6), (count, 7)] {
+            let before = if variant.is_sponge() { 6 } else { 17 };
+            for (place, refusal) in [(count - 2, before), (count - 1, 6), (count, 7)] {
                 let given = recover_bits(number, longest, bits, place, &[], &OUT);
                 assert_eq!(given.0, refusal, "{}", variant.name);
             }
@@ -542,19 +566,26 @@ fn lengths_at_the_limit() {
     }
 }
 
-/// The variant that takes the least time for a byte.
+/// The sponge that takes the least time for a byte.
 const FAST: &Variant = &VARIANTS[4];
 
-/// The digests under [`FAST`] of bytes 31, the most that there can be, by how
-/// many bits of the last one count, as the Rust version gave them.
-const OF_LONGEST: [(u32, &str); 2] = [
+/// The digests of bytes 31, the most that there can be, by how many bits of the
+/// last one count, as the Rust version gave them.
+const OF_LONGEST: [(&Variant, u32, &str); 3] = [
     (
+        FAST,
         7,
         "6b186e05f907bf58d8f2c21a78243dda09071b34ca2ca6fa6c96367a9f78931e",
     ),
     (
+        FAST,
         8,
         "439942cae5995486622ae4e0916178391b821ef95305819181da1ffa70e148f9",
+    ),
+    (
+        &VARIANTS[10],
+        7,
+        "6fb7c9ad244070e14e381c441933336b3073b5078c743219596076f9990e74b6",
     ),
 ];
 
@@ -563,26 +594,27 @@ const OF_LONGEST: [(u32, &str); 2] = [
 #[test]
 fn messages_at_the_limit() {
     let message = vec![0x31; MESSAGE_LIMIT];
-    for (bits, expected) in &OF_LONGEST[..amount(2, 0)] {
+    for (variant, bits, expected) in OF_LONGEST.into_iter().take(amount(3, 0)) {
+        let number = variant.number;
         if minutes().is_some() {
-            let given = digest_bits(FAST.number, &message, *bits).expect("not too long");
-            assert_eq!(hexadecimal(&given), *expected);
+            let given = digest_bits(number, &message, bits).expect("not too long");
+            assert_eq!(hexadecimal(&given), expected);
         }
-        let mut out = vec![0; FAST.digest_bytes()];
-        assert!(wickslate::whole_bits(FAST.number, &message, *bits, 0, &mut out).is_done());
-        assert_eq!(hexadecimal(&out), *expected);
+        let mut out = vec![0; variant.digest_bytes()];
+        assert!(wickslate::whole_bits(number, &message, bits, 0, &mut out).is_done());
+        assert_eq!(hexadecimal(&out), expected);
 
         let mut h = Hasher::default();
         let (first, last) = message.split_at(9_999_999);
-        assert!(wickslate::start(&mut h, FAST.number).is_done());
+        assert!(wickslate::start(&mut h, number).is_done());
         assert!(wickslate::update(&mut h, first).is_done());
-        assert!(wickslate::update_bits(&mut h, last, *bits).is_done());
+        assert!(wickslate::update_bits(&mut h, last, bits).is_done());
         assert_eq!(h.total, LIMIT - 8 + bits);
-        let refusal = if *bits == 8 { 4 } else { 16 };
+        let refusal = if bits == 8 { 4 } else { 16 };
         assert_eq!(wickslate::update_bits(&mut h, b"\xff", 1).0, refusal);
         assert!(wickslate::finish(&mut h).is_done());
         out.fill(0);
         assert!(wickslate::digest(&h, &mut out).is_done());
-        assert_eq!(hexadecimal(&out), *expected);
+        assert_eq!(hexadecimal(&out), expected);
     }
 }

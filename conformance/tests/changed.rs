@@ -1,5 +1,6 @@
-//! What changes within one block always shows in the end state: values of two
-//! bytes, and any bits of a block, whichever way each message is cut.
+//! What changes within one block always shows in the end state of a sponge:
+//! values of two bytes, and any bits of a block, whichever way each message is
+//! cut. Nothing of the kind is promised of Lesamnta-LW.
 
 use wickslate_conformance::compare::{digest_list, finish, read, start, update, whole};
 use wickslate_conformance::make::{self, list, list_message, none, Entry};
@@ -7,7 +8,7 @@ use wickslate_conformance::random::Random;
 use wickslate_conformance::settings::amount;
 use wickslate_conformance::wickslate::Hasher;
 use wickslate_reference::padding::{block, block_count};
-use wickslate_reference::{Message, Padding, Variant, VARIANTS};
+use wickslate_reference::{sponges, Message, Padding, Variant};
 
 /// The offsets at which a value of two bytes lies in one block, and after how
 /// many bytes they come again.
@@ -44,7 +45,7 @@ fn turned(message: &[u8], offset: usize) -> Vec<u8> {
 #[test]
 fn offsets_of_values_that_lie_in_one_block() {
     let message = Random::of_test("offsets_of_values").bytes(91);
-    for (variant, (offsets, period)) in VARIANTS.iter().zip(OFFSETS) {
+    for (variant, (offsets, period)) in sponges().zip(OFFSETS) {
         for offset in 0..message.len() - 1 {
             let changed = changed_blocks(variant, &message, &turned(&message, offset));
             let in_one = offsets.contains(&(offset % period));
@@ -96,7 +97,7 @@ fn end_state(random: &mut Random, variant: &Variant, message: &[u8]) -> Vec<u8> 
 fn another_value_in_one_block() {
     let mut random = Random::of_test("another_value_in_one_block");
     for _ in 0..amount(40, 2) {
-        for variant in &VARIANTS {
+        for variant in sponges() {
             let Some((message, offset)) = with_value(&mut random, variant) else {
                 continue;
             };
@@ -112,7 +113,7 @@ fn another_value_in_one_block() {
 fn other_bits_of_one_block() {
     let mut random = Random::of_test("other_bits_of_one_block");
     for _ in 0..amount(40, 2) {
-        for variant in &VARIANTS {
+        for variant in sponges() {
             let bytes = 1 + random.below(40);
             let message = random.bytes(bytes);
             let other = with_other_block(&mut random, variant, &message);
@@ -143,7 +144,7 @@ fn with_other_block(random: &mut Random, variant: &Variant, message: &[u8]) -> V
 #[test]
 fn states_part_with_the_block_that_differs() {
     let mut random = Random::of_test("states_part_with_the_block");
-    for variant in &VARIANTS {
+    for variant in sponges() {
         let message = random.bytes(30);
         let other = with_other_block(&mut random, variant, &message);
         let place = changed_blocks(variant, &message, &other)[0];
@@ -180,7 +181,7 @@ fn with_bytes(buffer: &[u8], places: &[usize], bytes: &[u8]) -> Vec<u8> {
 fn another_value_under_the_same_list() {
     let mut random = Random::of_test("another_value_under_the_same_list");
     for _ in 0..amount(40, 2) {
-        for variant in &VARIANTS {
+        for variant in sponges() {
             let entries = make::entries(&mut random, 30, 100);
             let (list, places) = (list(&entries), places(&entries));
             let front = 2 + list.len();
@@ -215,7 +216,7 @@ fn another_value_under_the_same_list() {
 fn an_empty_segment_elsewhere() {
     let buffer = Random::of_test("an_empty_segment_elsewhere").bytes(90);
     let mut in_one_block = 0;
-    for variant in &VARIANTS {
+    for variant in sponges() {
         for empty in 0..6 {
             let [first, second] = [1, 2].map(|gap| {
                 let mut entries: Vec<Entry> = (0..6).map(|k| (15 * k, 10)).collect();
@@ -246,7 +247,7 @@ fn a_border_that_is_moved() {
         let (begin, end) = (random.below(20), 700 + random.below(20));
         let apart = random.pick(&[1, 2, 255, 256, 257, 512]);
         let border = begin + random.below(100);
-        for variant in &VARIANTS {
+        for variant in sponges() {
             let [first, second] = [border, border + apart].map(|border| {
                 let [begin, border, end] = [begin, border, end].map(|place| place as u32);
                 [(begin, border - begin), (border, end - border), (900, 5)]

@@ -1,7 +1,7 @@
 //! Empty slices, whose address is that of no memory at all.
 
 use wickslate_conformance::lent::filled_behind;
-use wickslate_conformance::make::list;
+use wickslate_conformance::make::{list, places};
 use wickslate_conformance::wickslate::{self, Hasher};
 use wickslate_reference::{digest, VARIANTS};
 
@@ -43,7 +43,7 @@ fn an_empty_message_or_piece_with_a_bit_number() {
             let mut h = begun;
             assert_eq!(wickslate::update_bits(&mut h, &none, bits).0, 15);
             assert_eq!(filled_behind(h), begun);
-            let (out, block) = (&mut [0; 36], &mut [0; 5]);
+            let (out, block) = (&mut [0; 36], &mut [0; 16]);
             assert_eq!(wickslate::whole_bits(number, &none, bits, 1, out).0, 15);
             let recover = wickslate::recover_bits(number, &none, bits, 0, &image, block);
             assert_eq!(recover.0, 15);
@@ -63,15 +63,17 @@ fn an_empty_output_or_image() {
         assert_eq!(wickslate::whole(number, b"abc", 1, &mut nowhere()).0, 5);
         let bits = wickslate::whole_bits(number, b"abc", 3, 1, &mut nowhere());
         assert_eq!(bits.0, 5);
-        assert_eq!(wickslate::permute(number, &mut nowhere()).0, 6);
-        assert_eq!(wickslate::unpermute(number, &mut nowhere()).0, 6);
+        let refusal = if variant.is_sponge() { 6 } else { 17 };
+        assert_eq!(wickslate::permute(number, &mut nowhere()).0, refusal);
+        assert_eq!(wickslate::unpermute(number, &mut nowhere()).0, refusal);
         let (message, image) = (nowhere(), vec![0; variant.image_bytes()]);
         let recover =
             |image: &[u8]| wickslate::recover(number, &message, 0, image, &mut nowhere()).0;
         assert_eq!(recover(&nowhere()), 6);
         assert_eq!(recover(&image), 5);
+        let place = places(variant, 3).start;
         let recover_bits =
-            |image: &[u8]| wickslate::recover_bits(number, b"a", 3, 0, image, &mut nowhere()).0;
+            |image: &[u8]| wickslate::recover_bits(number, b"a", 3, place, image, &mut nowhere()).0;
         assert_eq!(recover_bits(&nowhere()), 6);
         assert_eq!(recover_bits(&image), 5);
     }

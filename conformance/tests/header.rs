@@ -6,6 +6,7 @@ use std::fs;
 use std::path::{Path, PathBuf};
 use std::process::Command;
 
+use wickslate_conformance::header::{declared, text};
 use wickslate_conformance::make::block_bytes;
 use wickslate_reference as reference;
 use wickslate_reference::VARIANTS;
@@ -25,6 +26,8 @@ uint32_t wickslate_whole(uint32_t, const uint8_t *, size_t, uint32_t, uint8_t *,
 uint32_t wickslate_whole_bits(uint32_t, const uint8_t *, size_t, uint32_t, uint32_t, uint8_t *, size_t);
 uint32_t wickslate_permute(uint32_t, uint8_t *, size_t);
 uint32_t wickslate_unpermute(uint32_t, uint8_t *, size_t);
+void wickslate_lesamnta_encrypt(const uint8_t[16], uint8_t[32]);
+void wickslate_lesamnta_decrypt(const uint8_t[16], uint8_t[32]);
 uint32_t wickslate_recover(uint32_t, const uint8_t *, size_t, size_t, const uint8_t *, size_t,
                            uint8_t *, size_t);
 uint32_t wickslate_recover_bits(uint32_t, const uint8_t *, size_t, uint32_t, size_t,
@@ -74,13 +77,16 @@ fn constants() -> Vec<(String, usize)> {
         ("NOT_RISING", reference::NOT_RISING),
         ("BAD_BIT_NUMBER", reference::BAD_BIT_NUMBER),
         ("INSIDE_BYTE", reference::INSIDE_BYTE),
+        ("NOT_SPONGE", reference::NOT_SPONGE),
     ] {
         constants.push((name.into(), number.into()));
     }
     for (name, value) in [
         ("MOST_DIGEST_BYTES", 32),
         ("MOST_IMAGE_BYTES", 36),
-        ("MOST_BLOCK_BYTES", 5),
+        ("MOST_BLOCK_BYTES", 16),
+        ("LESAMNTA_LW_KEY_BYTES", reference::lesamnta::KEY_BYTES),
+        ("LESAMNTA_LW_STATE_BYTES", reference::lesamnta::STATE_BYTES),
         ("MOST_MESSAGE_BYTES", reference::MESSAGE_LIMIT),
         ("MOST_MESSAGE_BITS", reference::BIT_LIMIT),
         ("ENTRY_BYTES", 8),
@@ -99,10 +105,6 @@ fn constants() -> Vec<(String, usize)> {
 
 fn include() -> PathBuf {
     Path::new(env!("CARGO_MANIFEST_DIR")).join("../include")
-}
-
-fn header() -> String {
-    fs::read_to_string(include().join("wickslate.h")).expect("the header")
 }
 
 /// A program that asks the compiler to compare every constant.
@@ -169,7 +171,7 @@ void send(const uint8_t *bytes, size_t length);
 
 /// Each example of the header, as a function.
 fn examples() -> Vec<String> {
-    let header = header();
+    let header = text();
     let indented = |line: &str| line.strip_prefix(" *     ").map(str::to_string);
     // An example follows an empty line; other indented lines do not.
     let paragraphs = header.split("\n *\n").filter_map(|paragraph| {
@@ -185,16 +187,26 @@ fn examples() -> Vec<String> {
         .collect()
 }
 
+/// The functions that are declared again.
+fn prototypes() -> Vec<&'static str> {
+    let name = |line: &'static str| {
+        let (_, behind) = line.split_once(" wickslate_")?;
+        behind.split('(').next()
+    };
+    PROTOTYPES
+        .lines()
+        .filter(|line| line.starts_with("uint32_t ") || line.starts_with("void "))
+        .filter_map(name)
+        .collect()
+}
+
 #[test]
 fn every_function_has_an_example_that_compiles() {
     let examples = examples();
-    for function in PROTOTYPES
-        .lines()
-        .filter_map(|line| line.strip_prefix("uint32_t "))
-    {
-        let call = &function[..=function.find('(').expect("arguments")];
+    for name in prototypes() {
+        let call = format!("wickslate_{name}(");
         assert!(
-            examples.iter().any(|example| example.contains(call)),
+            examples.iter().any(|example| example.contains(&call)),
             "{call}"
         );
     }
@@ -214,7 +226,7 @@ fn the_readme_compiles() {
 /// No constant of the header is left out above.
 #[test]
 fn every_constant_is_compared() {
-    let header = header();
+    let header = text();
     let defined = header
         .lines()
         .filter_map(|line| line.strip_prefix("#define WICKSLATE_"))
@@ -229,7 +241,7 @@ fn every_constant_is_compared() {
     assert_eq!(names, known);
 }
 
-/// A sound call of every function, word by word.
+/// A sound call of every function that answers, word by word.
 const CALLS: [(&str, &str); 17] = [
     ("start", "&h 1"),
     ("update", "&h in 9"),
@@ -250,20 +262,43 @@ const CALLS: [(&str, &str); 17] = [
     ("check_manifest", "in 9"),
 ];
 
+/// A sound call of every function that answers nothing.
+const SILENT_CALLS: [(&str, &str); 2] = [
+    ("lesamnta_encrypt", "key state"),
+    ("lesamnta_decrypt", "key state"),
+];
+
 /// A line for every sound call, for every one whose answer is thrown away, and
 /// for every address that is null; and the warning that each has to draw.
 fn careless_lines() -> Vec<(String, Option<&'static str>)> {
     let mut lines = Vec::new();
     for (name, words) in CALLS {
-        let words: Vec<&str> = words.split(' ').collect();
-        let call = |words: &[&str]| format!("wickslate_{name}({});", words.join(", "));
-        lines.push((format!("answer = {}", call(&words)), None));
-        lines.push((call(&words), Some("unused-result")));
-        for k in (0..words.len()).filter(|&k| words[k].parse::<u32>().is_err()) {
-            let mut with_null = words.clone();
-            with_null[k] = "NULL";
-            lines.push((format!("answer = {}", call(&with_null)), Some("nonnull")));
-        }
+        lines.push((call(name, words), Some("unused-result")));
+        lines.extend(sound_and_null_lines("answer = ", name, words));
+    }
+    for (name, words) in SILENT_CALLS {
+        lines.extend(sound_and_null_lines("", name, words));
+    }
+    lines
+}
+
+fn call(name: &str, words: &str) -> String {
+    format!("wickslate_{name}({});", words.replace(' ', ", "))
+}
+
+/// A line for a sound call, and one for every address that is null.
+fn sound_and_null_lines(
+    front: &str,
+    name: &str,
+    words: &str,
+) -> Vec<(String, Option<&'static str>)> {
+    let mut lines = vec![(format!("{front}{}", call(name, words)), None)];
+    let words: Vec<&str> = words.split(' ').collect();
+    for k in (0..words.len()).filter(|&k| words[k].parse::<u32>().is_err()) {
+        let mut with_null = words.clone();
+        with_null[k] = "NULL";
+        let line = format!("{front}{}", call(name, &with_null.join(" ")));
+        lines.push((line, Some("nonnull")));
     }
     lines
 }
@@ -275,6 +310,8 @@ extern wickslate_hasher h;
 extern wickslate_cursor c;
 extern const uint8_t in[9];
 extern uint8_t out[9];
+extern const uint8_t key[WICKSLATE_LESAMNTA_LW_KEY_BYTES];
+extern uint8_t state[WICKSLATE_LESAMNTA_LW_STATE_BYTES];
 extern uint32_t number, answer;
 void careless(void);
 void careless(void) {
@@ -305,15 +342,11 @@ fn careless_calls_draw_warnings_in_cpp() {
 /// No function of the header is left out above.
 #[test]
 fn every_function_is_tried() {
-    let names = |text: &str, before: &str| -> Vec<String> {
-        text.lines()
-            .filter_map(|line| line.strip_prefix(before)?.split('(').next())
-            .map(str::to_string)
-            .collect()
-    };
-    let mut declared = names(&header(), "WICKSLATE_CALL uint32_t wickslate_");
-    let mut typed = names(PROTOTYPES, "uint32_t wickslate_");
-    let mut called = CALLS.map(|(name, _)| name);
+    let header = text();
+    let mut declared: Vec<&str> = header.lines().filter_map(declared).collect();
+    let mut typed = prototypes();
+    let calls = CALLS.iter().chain(&SILENT_CALLS);
+    let mut called: Vec<&str> = calls.map(|&(name, _)| name).collect();
     declared.sort_unstable();
     typed.sort_unstable();
     called.sort_unstable();

@@ -1,15 +1,15 @@
-//! The permutations and their inverses on images, and the refusals 1, 6.
+//! The permutations and their inverses on images, and the refusals 1, 17, 6.
 
 use wickslate_conformance::compare::permute;
-use wickslate_conformance::make::{bits_from, image, UNKNOWN};
+use wickslate_conformance::make::{bits_from, image, lesamnta_lw, UNKNOWN};
 use wickslate_conformance::random::Random;
 use wickslate_conformance::settings::amount;
-use wickslate_reference::VARIANTS;
+use wickslate_reference::sponges;
 
 #[test]
 fn random_images_both_ways() {
     let mut random = Random::of_test("random_images_both_ways");
-    for variant in &VARIANTS {
+    for variant in sponges() {
         for _ in 0..amount(400, 10) {
             let before = image(&mut random, variant);
             for back in [false, true] {
@@ -25,7 +25,7 @@ fn random_images_both_ways() {
 /// The zero image, and each image with a single bit.
 #[test]
 fn images_of_one_bit() {
-    for variant in &VARIANTS {
+    for variant in sponges() {
         let zero = vec![0; variant.image_bytes()];
         assert_eq!(permute(variant.number, &zero, false).0, 0);
         for (byte, bit) in bits_from(variant.family, 0, zero.len()) {
@@ -43,7 +43,7 @@ fn images_of_one_bit() {
 #[test]
 fn wrong_lengths_are_no_images() {
     let mut random = Random::of_test("wrong_lengths_are_no_images");
-    for variant in &VARIANTS {
+    for variant in sponges() {
         let wrong = (0..=40).filter(|&bytes| bytes != variant.image_bytes());
         for bytes in wrong.chain([255, 256, 4096]) {
             for image in [vec![0; bytes], random.bytes(bytes)] {
@@ -55,9 +55,23 @@ fn wrong_lengths_are_no_images() {
     }
 }
 
+/// Of its own length or any other: it is no sponge.
+#[test]
+fn lesamnta_lw_has_no_permutation() {
+    let mut random = Random::of_test("lesamnta_lw_has_no_permutation");
+    for bytes in (0..=40).chain([255, 256, 4096]) {
+        for image in [vec![0; bytes], random.bytes(bytes)] {
+            for back in [false, true] {
+                let given = permute(lesamnta_lw().number, &image, back);
+                assert_eq!(given, (17, image.clone()));
+            }
+        }
+    }
+}
+
 #[test]
 fn unknown_variants_come_before_bad_images() {
-    for number in std::iter::once(0).chain(11..=1024).chain(UNKNOWN) {
+    for number in std::iter::once(0).chain(12..=1024).chain(UNKNOWN) {
         for back in [false, true] {
             for bytes in [0, 11, 13, 36, 37] {
                 assert_eq!(permute(number, &vec![0; bytes], back).0, 1);

@@ -2,36 +2,53 @@
 //! twice: the calls that hash run it by look-ups in combined tables on words
 //! that stay in place from block to block, and `wickslate_permute` step by step
 //! on an image. A state that the first takes over some blocks must be the one
-//! that the second takes over the same blocks, cut and added here by hand. The
-//! Rust version makes every call as well.
+//! that the second takes over the same blocks, cut and added here by hand. A
+//! state of Lesamnta-LW must be the one that `wickslate_lesamnta_encrypt` makes.
+//! The Rust version makes every call as well.
 
-use wickslate_conformance::compare::{finish, permute, read, update};
+use wickslate_conformance::compare::{cipher, finish, permute, read, update};
 use wickslate_conformance::make::{bits_from, spare_state, well_formed};
 use wickslate_conformance::random::Random;
 use wickslate_conformance::settings::amount;
 use wickslate_conformance::wickslate::Hasher;
+use wickslate_reference::running::HELD_BYTES;
 use wickslate_reference::{Family, Variant, VARIANTS};
 
 /// A bit of some bytes: the byte, and the bit's value in it.
 type Bit = (usize, u8);
 
 /// The bits of so many bytes. Blocks and held bits are read from the high bit
-/// of each byte in both families, and a block's bit goes to the same bit of an
+/// of each byte in every family, and a block's bit goes to the same bit of an
 /// image, which for SPONGENT makes it bytes added to bytes.
 fn bits(bytes: usize) -> Vec<Bit> {
     bits_from(Family::Photon, 0, bytes)
 }
 
 /// Adds the set ones of these bits to the front of the image, and runs the
-/// permutation by plain steps.
+/// permutation by plain steps. For Lesamnta-LW they replace the front, which is
+/// the key.
 fn step(variant: &Variant, image: &mut Vec<u8>, bytes: &[u8], block: &[Bit]) {
     assert_eq!(block.len(), variant.block_bits, "a whole block");
+    let key = image.clone();
+    if !variant.is_sponge() {
+        image[..16].fill(0);
+    }
     for (&(byte, bit), (at, value)) in block.iter().zip(bits(image.len())) {
         if bytes[byte] & bit != 0 {
             image[at] ^= value;
         }
     }
-    permuted(variant, image);
+    match variant.is_sponge() {
+        true => permuted(variant, image),
+        false => *image = enciphered(&key[..16], image),
+    }
+}
+
+/// Runs Lesamnta-LW's cipher.
+fn enciphered(key: &[u8], image: &[u8]) -> Vec<u8> {
+    let key = key.try_into().expect("half an image");
+    let image = image.try_into().expect("an image");
+    cipher(key, image, false).into()
 }
 
 /// Runs the permutation by plain steps.
@@ -73,7 +90,7 @@ fn filled(random: &mut Random, variant: &Variant, byte: u8) -> Hasher {
 /// Takes whole blocks in one piece, and by plain steps.
 fn expect_same(variant: &Variant, before: Hasher, bytes: &[u8]) {
     let (answer, after) = update(before, bytes);
-    assert_eq!((answer, after.held), (0, [0; 5]));
+    assert_eq!((answer, after.held), (0, [0; HELD_BYTES]));
     let mut image = image_of(variant, &before);
     for block in bits(bytes.len()).chunks(variant.block_bits) {
         step(variant, &mut image, bytes, block);
@@ -148,8 +165,26 @@ fn many_blocks_in_one_piece() {
     }
 }
 
-/// The last block, of the held bits, a one and zeros, and the permutations
-/// between the blocks of a digest.
+/// The bytes of the last block: the held bits, a one and zeros. Lesamnta-LW has
+/// the length behind them, in a block in which nothing is held.
+fn last_blocks(variant: &Variant, h: &Hasher) -> Vec<u8> {
+    let held = h.total as usize % variant.block_bits;
+    let count = match variant.is_sponge() || held == 0 {
+        true => 1,
+        false => 2,
+    };
+    let mut last = h.held.to_vec();
+    last.resize((count * variant.block_bits).div_ceil(8), 0);
+    let (byte, bit) = bits(last.len())[held];
+    last[byte] |= bit;
+    if !variant.is_sponge() {
+        let half = last.len() - 8;
+        last[half..].copy_from_slice(&u64::from(h.total).to_be_bytes());
+    }
+    last
+}
+
+/// The last blocks, and the permutations between the blocks of a digest.
 #[test]
 fn ends_and_digests() {
     let mut random = Random::of_test("ends_and_digests");
@@ -159,11 +194,11 @@ fn ends_and_digests() {
             let before = well_formed(&mut random, variant, 0, total as u32);
             let (answer, after) = finish(before);
             assert_eq!(answer, 0);
-            let mut last = before.held;
-            let (byte, bit) = bits(5)[total];
-            last[byte] |= bit;
+            let last = last_blocks(variant, &before);
             let mut image = image_of(variant, &before);
-            step(variant, &mut image, &last, &bits(5)[..variant.block_bits]);
+            for block in bits(last.len()).chunks_exact(variant.block_bits) {
+                step(variant, &mut image, &last, block);
+            }
             assert_eq!(image_of(variant, &after), image, "{} ends", variant.name);
 
             let digest = squeezed(variant, image);
@@ -173,15 +208,17 @@ fn ends_and_digests() {
     }
 }
 
-/// The digest of an end state, by plain steps.
+/// The digest of an end state, by plain steps. Lesamnta-LW's is that state, and
+/// takes none.
 fn squeezed(variant: &Variant, mut image: Vec<u8>) -> Vec<u8> {
     let mut digest = vec![0; variant.digest_bytes()];
+    let front = bits(variant.output_bits.div_ceil(8));
     for (k, (byte, bit)) in bits(digest.len()).into_iter().enumerate() {
         let from = k % variant.output_bits;
         if k > 0 && from == 0 {
             permuted(variant, &mut image);
         }
-        let (at, value) = bits(5)[from];
+        let (at, value) = front[from];
         if image[at] & value != 0 {
             digest[byte] |= bit;
         }

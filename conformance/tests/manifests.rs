@@ -70,11 +70,11 @@ fn damaged_manifests() {
 #[test]
 fn whole_records_come_before_each_record() {
     let full = [0xff; 10];
-    let firsts = [(record(7, 1, &full), 0), (record(7, 11, b""), 13)];
+    let firsts = [(record(7, 1, &full), 0), (record(7, 12, b""), 13)];
     let seconds = [
         (record(8, 1, &full), 0),
-        (record(8, 11, b""), 13),
-        (record(7, 11, b""), 13),
+        (record(8, 12, b""), 13),
+        (record(7, 12, b""), 13),
         (record(7, 1, &full), 14),
         (record(6, 1, &full), 14),
     ];
@@ -96,7 +96,7 @@ fn whole_records_come_before_each_record() {
 
 #[test]
 fn the_longest_manifest() {
-    let wrong = (0..1024).flat_map(|axis| record(axis, 11, b""));
+    let wrong = (0..1024).flat_map(|axis| record(axis, 12, b""));
     for (long, refusal) in [
         (of_axes(64_512..=65_535), 0),
         (wrong.collect(), 13),
@@ -166,7 +166,7 @@ fn expect_earlier(count: usize, places: &[usize]) {
             let before = spaced(falling - 1);
             for ((place, byte), axis) in [
                 ((2, 0), before),
-                ((2, 11), before - 1),
+                ((2, 12), before - 1),
                 ((3 + 11, 1), before),
                 ((34, 0x80), 0),
             ] {
@@ -194,7 +194,7 @@ fn records_are_looked_at_in_turn() {
 #[test]
 fn every_variant_byte() {
     for byte in 0..=255 {
-        let known = (1..=10).contains(&byte);
+        let known = (1..=11).contains(&byte);
         let list = record(0x0b0b, byte, b"");
         assert_eq!(check_manifest(&list), if known { 0 } else { 13 }, "{byte}");
     }
@@ -270,7 +270,7 @@ fn rows_of_four_records() {
 fn an_axis_comes_once() {
     let sound = of_axes((0..20).map(spaced));
     for axis in (0..20).map(spaced) {
-        for second in [record(axis, 6, b""), record(axis, 10, &[0xff; 32])] {
+        for second in [record(axis, 6, b""), record(axis, 11, &[0xff; 32])] {
             for place in (0..=sound.len()).step_by(35) {
                 let mut list = sound.clone();
                 list.splice(place..place, second.clone());

@@ -18,7 +18,8 @@ fn above_a_byte(low: u32) -> impl Iterator<Item = u32> {
     with_bit.chain([low | 0xffff_ff00])
 }
 
-/// Every call that takes a variant, with nothing wrong but perhaps its number.
+/// Every call that takes a variant, with nothing wrong but perhaps its number
+/// and, in the second and the third, that Lesamnta-LW has no permutation.
 fn answers(random: &mut Random, variant: &Variant, number: u32) -> Vec<u32> {
     let open = well_formed(random, variant, 0, 7);
     let end = end_state(variant.number, MESSAGE).expect("a short message");
@@ -44,7 +45,11 @@ fn answers(random: &mut Random, variant: &Variant, number: u32) -> Vec<u32> {
 fn a_variant_is_not_cut_to_a_byte() {
     let mut random = Random::of_test("a_variant_is_not_cut_to_a_byte");
     for variant in &VARIANTS {
-        assert_eq!(answers(&mut random, variant, variant.number), [0; 11]);
+        let mut sound = [0; 11];
+        if !variant.is_sponge() {
+            sound[1..3].fill(17);
+        }
+        assert_eq!(answers(&mut random, variant, variant.number), sound);
         for number in above_a_byte(variant.number).chain([u32::MAX]) {
             assert_eq!(answers(&mut random, variant, number), [1; 11], "{number}");
         }

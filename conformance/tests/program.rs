@@ -10,7 +10,7 @@ use wickslate_conformance::programs::{self, expect, fed, root};
 use wickslate_conformance::random::Random;
 use wickslate_reference::{digest, MESSAGE_LIMIT, VARIANTS};
 
-/// The variant that takes the least time for a byte.
+/// The sponge that takes the least time for a byte.
 const FAST: u32 = 5;
 
 fn program() -> Command {
@@ -67,7 +67,7 @@ fn a_variant_byte_alone() {
 
 #[test]
 fn unknown_variants() {
-    for number in [0, 11, u32::from(b'1'), u32::from(b'p'), 128, 255] {
+    for number in [0, 12, u32::from(b'1'), u32::from(b'p'), 128, 255] {
         for message in [&b""[..], b"abc", &[7; 100_000]] {
             let output = fed(program(), vec![input(number, message)]);
             expect_line(&output, 0, "refused 1");
@@ -80,6 +80,14 @@ fn the_known_message() {
     let message = b"The PHOTON Lightweight Hash Functions Family";
     let output = fed(program(), vec![input(1, message)]);
     expect_line(&output, 0, "07d1723459751e368532");
+}
+
+/// Annex B.3 of the standard.
+#[test]
+fn the_known_message_of_lesamnta_lw() {
+    let output = fed(program(), vec![b"\x0babc".to_vec()]);
+    let line = "ab32ca451748255e3bf0e34a5ad600f0ce7660ecea2fe083ba54139b770766d0";
+    expect_line(&output, 0, line);
 }
 
 /// Every byte value, line ends and zeros among them, and random bytes.
@@ -178,7 +186,7 @@ fn the_script_refuses_wrong_words() {
     for words in [&[][..], &["photon-100"], &["photon-100", "a", "b"]] {
         expect_complaint(&script(words).output().expect("an end"), 2, wanted);
     }
-    for name in ["photon-80", "0", "11", "", "spongent"] {
+    for name in ["photon-80", "0", "12", "", "spongent", "lesamnta"] {
         let output = script(&[name, "-"]).output().expect("an end");
         let complaint = format!("{name} is not a variant (digest --help lists them)");
         expect_complaint(&output, 2, &complaint);

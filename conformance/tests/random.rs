@@ -10,19 +10,21 @@ use wickslate_conformance::wickslate::{self, Answer, Hasher};
 use wickslate_conformance::{compare, settings};
 use wickslate_reference::manifest::RECORD_BYTES;
 use wickslate_reference::padding::block_count;
+use wickslate_reference::running::HELD_BYTES;
 use wickslate_reference::{digest, digest_bits, Variant, MESSAGE_LIMIT};
 
-/// The variant that takes the least time for a byte.
+/// The sponge that takes the least time for a byte.
 const FAST: u32 = 5;
 
 /// A random call: its answer.
 type Call = fn(&mut Random) -> u32;
 
 /// The running hash has five calls, and comes twice.
-const CALLS: [Call; 10] = [
+const CALLS: [Call; 11] = [
     whole,
     whole_bits,
     image,
+    cipher,
     running,
     running,
     one_entry,
@@ -35,7 +37,7 @@ const CALLS: [Call; 10] = [
 #[test]
 fn random_calls() {
     let mut random = Random::of_test("random_calls");
-    let mut seen = [0; 17];
+    let mut seen = [0; 18];
     match settings::minutes() {
         None => {
             for _ in 0..settings::amount(30_000, 6000) {
@@ -50,7 +52,7 @@ fn random_calls() {
             }
         }
     }
-    println!("answers 0 to 16: {seen:?}");
+    println!("answers 0 to 17: {seen:?}");
     assert!(!seen.contains(&0), "an answer did not come up: {seen:?}");
 }
 
@@ -128,10 +130,17 @@ fn image(random: &mut Random) -> u32 {
     compare::permute(number(random, variant), &image, back).0
 }
 
+/// It has no answer: 0 stands for it.
+fn cipher(random: &mut Random) -> u32 {
+    let (key, state) = (random.array(), random.array());
+    compare::cipher(key, state, random.once_in(2));
+    0
+}
+
 fn running(random: &mut Random) -> u32 {
     let h = near_hasher(random);
     match random.below(5) {
-        0 => compare::start(h, random.below(14) as u32).0,
+        0 => compare::start(h, random.below(15) as u32).0,
         1 => compare::finish(h).0,
         2 => {
             let out = output(random, 36);
@@ -159,7 +168,7 @@ fn near_hasher(random: &mut Random) -> Hasher {
         1 => h.stage ^= bit,
         2 => h.total ^= 1 << random.below(32),
         3 => h.state[random.below(36)] ^= bit,
-        4 => h.held[random.below(5)] ^= bit,
+        4 => h.held[random.below(HELD_BYTES)] ^= bit,
         _ => {}
     }
     h

@@ -1,19 +1,19 @@
-//! The lost block, and the refusals 1, 4, 7, 6, 5 and 8 alone and against
+//! The lost block, and the refusals 1, 4, 7, 17, 6, 5 and 8 alone and against
 //! their neighbours.
 
 use wickslate_conformance::compare::recover;
-use wickslate_conformance::make::{block_bytes, image, variant, UNKNOWN};
+use wickslate_conformance::make::{block_bytes, image, place, places, sponge, variant, UNKNOWN};
 use wickslate_conformance::random::Random;
 use wickslate_conformance::settings::amount;
 use wickslate_conformance::wickslate;
 use wickslate_reference::bits::{pack, Order};
 use wickslate_reference::padding::{block, block_count};
 use wickslate_reference::{
-    end_state, permute, Message, Padding, Variant, BIT_LIMIT, MESSAGE_LIMIT, VARIANTS,
+    end_state, permute, sponges, Message, Padding, Variant, BIT_LIMIT, MESSAGE_LIMIT, VARIANTS,
 };
 
 const MESSAGE: &[u8] = b"Bar 14, 6.20 m, 0.4 m/s";
-const OUT: [u8; 6] = [0x5e; 6];
+const OUT: [u8; 17] = [0x5e; 17];
 
 /// The block of a message at a place, packed, and the rest of the output.
 fn own_block(variant: &Variant, message: &[u8], place: usize) -> Vec<u8> {
@@ -28,10 +28,10 @@ fn own_block(variant: &Variant, message: &[u8], place: usize) -> Vec<u8> {
 fn every_block_of_a_message() {
     let mut random = Random::of_test("every_block_of_a_message");
     for variant in &VARIANTS {
-        for bytes in 0..amount(14, 5) {
+        for bytes in (0..amount(14, 5)).chain([15, 16, 17, 32]) {
             let message = random.bytes(bytes);
             let end = end_state(variant.number, &message).expect("a short message");
-            for place in 0..block_count(variant, 8 * bytes) {
+            for place in places(variant, 8 * bytes) {
                 let own = own_block(variant, &message, place);
                 let mut forgotten = message.clone();
                 for byte in forgotten_bytes(variant, place, bytes) {
@@ -46,7 +46,8 @@ fn every_block_of_a_message() {
     }
 }
 
-/// The bytes of a message that lie wholly in one block.
+/// The bytes of a message that lie wholly in one block: none in the last of
+/// Lesamnta-LW.
 fn forgotten_bytes(variant: &Variant, place: usize, bytes: usize) -> impl Iterator<Item = usize> {
     let first = (place * variant.block_bits).div_ceil(8);
     let end = (place + 1) * variant.block_bits / 8;
@@ -59,7 +60,7 @@ fn forgotten_bytes(variant: &Variant, place: usize, bytes: usize) -> impl Iterat
 fn blocks_of_another_message() {
     let mut random = Random::of_test("blocks_of_another_message");
     for _ in 0..amount(300, 10) {
-        let variant = variant(&mut random);
+        let variant = sponge(&mut random);
         let bytes = 1 + random.below(60);
         let message = random.bytes(bytes);
         let mut other = message.clone();
@@ -92,7 +93,7 @@ fn any_end_states() {
         let bytes = random.below(30);
         let message = random.bytes(bytes);
         let end = image(&mut random, variant);
-        let place = random.below(block_count(variant, 8 * bytes));
+        let place = place(&mut random, variant, 8 * bytes);
         assert_eq!(recover(variant.number, &message, place, &end, &OUT).0, 8);
     }
 }
@@ -101,7 +102,7 @@ fn any_end_states() {
 /// block's reach; each bit of the block is not.
 #[test]
 fn single_bits_of_the_state_before_the_last_permutation() {
-    for variant in &VARIANTS {
+    for variant in sponges() {
         let mut start = end_state(variant.number, b"").expect("the empty message");
         assert!(wickslate::unpermute(variant.number, &mut start).is_done());
         for bit in 0..variant.state_bits {
@@ -145,7 +146,7 @@ impl Call<'_> {
         Call {
             number: variant.number,
             message: MESSAGE,
-            place: 3,
+            place: 3.min(places(variant, 8 * MESSAGE.len()).end - 1),
             image: end_state(variant.number, MESSAGE).expect("a short message"),
             out: block_bytes(variant),
         }
@@ -245,7 +246,30 @@ fn the_place_comes_before_the_image() {
     }
 }
 
-/// The longest message has its last place, and no place behind it.
+/// Any place of Lesamnta-LW but the last.
+#[test]
+fn a_place_that_is_not_the_last_comes_before_the_image() {
+    for variant in &VARIANTS {
+        let first = places(variant, 8 * MESSAGE.len()).start;
+        assert_eq!(first, if variant.is_sponge() { 0 } else { 2 });
+        for place in 0..first {
+            let call = Call {
+                place,
+                ..Call::sound(variant)
+            };
+            assert_eq!(call.answer(), 17);
+            let call = Call {
+                image: Vec::new(),
+                ..call
+            };
+            assert_eq!(call.answer(), 17, "and no image");
+            assert_eq!(Call { out: 0, ..call }.answer(), 17, "and too short");
+        }
+    }
+}
+
+/// The longest message has its last place, and no place behind it. For
+/// Lesamnta-LW the place before will not do.
 #[test]
 fn places_of_the_longest_message() {
     let longest = vec![0; MESSAGE_LIMIT];
@@ -260,6 +284,14 @@ fn places_of_the_longest_message() {
             };
             assert_eq!(call.answer(), refusal, "{}", variant.name);
         }
+        let call = Call {
+            message: &longest,
+            place: count - 2,
+            image: Vec::new(),
+            ..Call::sound(variant)
+        };
+        let refusal = if variant.is_sponge() { 6 } else { 17 };
+        assert_eq!(call.answer(), refusal, "{}", variant.name);
     }
 }
 
@@ -283,7 +315,7 @@ fn the_output_comes_before_the_block() {
     let mut random = Random::of_test("the_output_comes_before_the_block");
     for variant in &VARIANTS {
         let elsewhere = image(&mut random, variant);
-        for out in 0..8 {
+        for out in 0..18 {
             let call = Call {
                 out,
                 ..Call::sound(variant)

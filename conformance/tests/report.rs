@@ -24,7 +24,7 @@ use wickslate_conformance::settings::{self, amount};
 use wickslate_reference::manifest::{report, Counts};
 use wickslate_reference::{digest, Variant, MESSAGE_LIMIT, VARIANTS};
 
-/// The variant that takes the least time for a byte.
+/// The sponge that takes the least time for a byte.
 const FAST: &Variant = &VARIANTS[4];
 
 const UNREADABLE: &str = "report: standard input cannot be read\n";
@@ -116,7 +116,7 @@ fn three() -> Vec<u8> {
 fn refused() -> [(Vec<u8>, &'static str); 3] {
     [
         (vec![1; 34], "refused 12\n"),
-        (record(7, 11, b""), "refused 13\n"),
+        (record(7, 12, b""), "refused 13\n"),
         (record(7, 1, b"").repeat(2), "refused 14\n"),
     ]
 }
@@ -156,7 +156,7 @@ fn every_variant() {
         stream.extend(table(axis, &contents));
     }
     let lines = place.expect_same(&list, &stream);
-    assert_eq!(lines, counted([10, 20, 10, 10, 0, 0]));
+    assert_eq!(lines, counted([11, 22, 11, 11, 0, 0]));
 }
 
 /// Tables of the axes that are listed, and of others, in any order; some are
@@ -279,8 +279,8 @@ fn lists_of_every_length() {
     let [first, second, wrong, again] = [
         record_of(7, FAST, HOLD),
         record_of(8, FAST, HOLD),
-        record(9, 11, b""),
-        record(8, 11, b""),
+        record(9, 12, b""),
+        record(8, 12, b""),
     ];
     let list = [&first[..], &second, &wrong].concat();
     for bytes in 0..=list.len() {
@@ -304,7 +304,7 @@ fn lists_of_every_length() {
 fn as_many_records_as_can_be() {
     let place = Place::of_test("as many records as can be");
     let records = |count: u16| -> Vec<u8> {
-        let record = |axis: u16| record(axis, 1 + (axis % 10) as u8, b"");
+        let record = |axis: u16| record(axis, 1 + (axis % 11) as u8, b"");
         (0..count).flat_map(record).collect()
     };
     let last = table(511, b"");
@@ -345,7 +345,7 @@ fn axes_that_do_not_rise() {
         record_of(7, &VARIANTS[1], LIFT),
         record_of(8, FAST, LIFT),
     ];
-    let wrong = record(7, 11, b"");
+    let wrong = record(7, 12, b"");
     for (records, refusal) in [
         ([&hold, &hold, &other], "refused 14\n"),
         ([&hold, &lift, &other], "refused 14\n"),

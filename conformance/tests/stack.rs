@@ -3,17 +3,15 @@
 //! --nocapture` prints it.
 
 use std::collections::BTreeMap;
-use std::fs;
-use std::path::Path;
 use std::sync::LazyLock;
 
 use wickslate_conformance::faults::{self, Call, Fault, LONG};
-use wickslate_conformance::make::{bits_of, filled_manifest, well_formed};
+use wickslate_conformance::header::{self, declared};
+use wickslate_conformance::make::{bits_of, filled_manifest, places, well_formed};
 use wickslate_conformance::random::Random;
 use wickslate_conformance::settings;
 use wickslate_conformance::stack::{depth, Function};
 use wickslate_conformance::wickslate::{Answer, Cursor};
-use wickslate_reference::padding::block_count;
 use wickslate_reference::{Variant, MESSAGE_LIMIT, VARIANTS};
 
 // By their addresses alone.
@@ -28,6 +26,8 @@ extern "C" {
     fn wickslate_whole_bits();
     fn wickslate_permute();
     fn wickslate_unpermute();
+    fn wickslate_lesamnta_encrypt();
+    fn wickslate_lesamnta_decrypt();
     fn wickslate_recover();
     fn wickslate_recover_bits();
     fn wickslate_entry();
@@ -41,11 +41,12 @@ extern "C" {
 const ROOM: usize = 64;
 
 /// The lengths of messages, of which the last has many blocks.
-const LENGTHS: [usize; 10] = [0, 1, 2, 3, 4, 5, 9, 18, 36, 500];
+const LENGTHS: [usize; 13] = [0, 1, 2, 3, 4, 5, 9, 15, 16, 17, 18, 36, 500];
 
 /// The totals in bytes below this one hold bits in every number that whole
-/// bytes leave: PHOTON-196 holds none again after nine, and the others sooner.
-const TOTALS: u32 = 9;
+/// bytes leave: Lesamnta-LW holds none again after sixteen, and the others
+/// sooner.
+const TOTALS: u32 = 16;
 
 static MESSAGE: LazyLock<Vec<u8>> = LazyLock::new(|| Random::of_test("stack").bytes(500));
 
@@ -137,6 +138,17 @@ impl Most {
         self.call("unpermute", wickslate_unpermute, &words)
     }
 
+    /// Lesamnta-LW's cipher and its inverse, with the bytes of an image and of
+    /// some message. They answer nothing.
+    fn cipher(&mut self, call: &Call) {
+        let mut state: [u8; 32] = call.image[..].try_into().expect("an image");
+        let key = &MESSAGE[..16];
+        let words = [key.as_ptr() as usize, state.as_mut_ptr() as usize];
+        self.call("lesamnta_encrypt", wickslate_lesamnta_encrypt, &words);
+        self.call("lesamnta_decrypt", wickslate_lesamnta_decrypt, &words);
+        assert_eq!(state[..], call.image, "there and back");
+    }
+
     fn recover(&mut self, call: &Call) -> u32 {
         let mut out = call.output();
         let (number, place) = (call.number as usize, call.place);
@@ -208,8 +220,12 @@ impl Most {
         self.each(&sound, &faults::of_start(variant), Most::start);
         self.each(&sound, &faults::of_update(variant), Most::update);
         self.each(&sound, &faults::of_finish(variant), Most::finish);
-        self.each(&sound, &faults::of_permute(variant), Most::permute);
-        self.each(&sound, &faults::of_permute(variant), Most::unpermute);
+        if variant.is_sponge() {
+            self.each(&sound, &faults::of_permute(variant), Most::permute);
+            self.each(&sound, &faults::of_permute(variant), Most::unpermute);
+        } else {
+            self.cipher(&sound);
+        }
         self.each(&sound, &faults::of_recover(variant), Most::recover);
         self.each(&sound, &faults::of_entry(), Most::entry);
         self.each(&sound, &faults::of_entry(), Most::advance);
@@ -261,8 +277,7 @@ impl Most {
     /// The first block lost, one in the middle and the last, of the message
     /// and of none.
     fn recover_calls(&mut self, call: &mut Call, variant: &Variant) {
-        let count = block_count(variant, 8 * call.message.len());
-        for place in [0, count / 2, count - 1] {
+        for place in some_places(variant, 8 * call.message.len()) {
             call.place = place;
             self.each(call, &faults::no_block(variant), Most::recover);
         }
@@ -283,27 +298,30 @@ impl Most {
         for wanted in [0, 1] {
             assert_eq!(self.whole_bits(call, wanted), 0);
         }
-        let count = block_count(variant, bits_of(call.message, call.bits));
-        for place in [0, count / 2, count - 1] {
+        for place in some_places(variant, bits_of(call.message, call.bits)) {
             call.place = place;
             self.each(call, &faults::no_block(variant), Most::recover_bits);
         }
     }
 }
 
+/// The first place at which a block can be found, one in the middle and the
+/// last.
+fn some_places(variant: &Variant, bits: usize) -> [usize; 3] {
+    let places = places(variant, bits);
+    [places.start, places.end / 2, places.end - 1].map(|place| place.max(places.start))
+}
+
 /// The bytes that the header says each function needs, in its order.
 fn stated() -> Vec<(String, usize)> {
-    let path = Path::new(env!("CARGO_MANIFEST_DIR")).join("../include/wickslate.h");
-    let header = fs::read_to_string(path).expect("the header");
     let mut stated = Vec::new();
     let mut last = None;
-    for line in header.lines() {
+    for line in header::text().lines() {
         if let Some(words) = line.strip_prefix(" * Stack:") {
             let digits: String = words.chars().filter(char::is_ascii_digit).collect();
             last = Some(digits.parse().expect("a number of bytes"));
         }
-        if let Some(function) = line.strip_prefix("WICKSLATE_CALL uint32_t wickslate_") {
-            let name = function.split('(').next().expect("a name");
+        if let Some(name) = declared(line) {
             stated.push((name.to_string(), last.take().expect("a number of bytes")));
         }
     }
@@ -328,7 +346,7 @@ fn every_call_leaves_some_of_what_the_header_says() {
         }
     }
     if settings::minutes().is_some() {
-        // The variant that takes the least time for a byte.
+        // The sponge that takes the least time for a byte.
         let variant = &VARIANTS[4];
         let mut call = Call::about(variant, &LONG[..MESSAGE_LIMIT]);
         most.message_calls(&mut call, variant, 1);

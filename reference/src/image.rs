@@ -1,5 +1,5 @@
-//! Images: states packed in bytes. A state is the list of its bits, PHOTON's
-//! from the leftmost bit, SPONGENT's from bit 0.
+//! Images: states packed in bytes. A state is the list of its bits, SPONGENT's
+//! from bit 0, the others' from the leftmost bit.
 
 use crate::bits::{pack, unpack, Order};
 use crate::variants::{Family, Variant};
@@ -7,7 +7,7 @@ use crate::variants::{Family, Variant};
 /// The order in which a family's images hold the state's bits.
 pub fn order(family: Family) -> Order {
     match family {
-        Family::Photon => Order::HighestFirst,
+        Family::Photon | Family::LesamntaLw => Order::HighestFirst,
         Family::Spongent => Order::LowestFirst,
     }
 }

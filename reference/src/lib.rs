@@ -1,21 +1,25 @@
-//! PHOTON and SPONGENT of ISO/IEC 29192-5, written from the standard's rules.
+//! PHOTON, SPONGENT and Lesamnta-LW of ISO/IEC 29192-5, written from the
+//! standard's rules.
 //!
 //! This is the second version that the proved library is compared with, so
 //! it takes other ways to the same results: constants come from their shift
 //! registers, the mixing matrix is a matrix power, inverses are solved for
 //! or read backwards, a message is the list of its bits wherever it ends, the
-//! sponge works on such lists, and a report keeps its records in a map.
+//! sponge works on such lists, the words of all rounds of a cipher are one row,
+//! and a report keeps its records in a map.
 //!
-//! Variants go by the numbers 1 to 10 of [`VARIANTS`]. A call that is
+//! Variants go by the numbers 1 to 11 of [`VARIANTS`]. A call that is
 //! refused gives its refusal number and leaves the caller's bytes as they
-//! were. [`spongent::Spongent::trace`] tells SPONGENT's rounds layer by layer.
+//! were. [`spongent::Spongent::trace`] tells SPONGENT's rounds layer by layer,
+//! and [`lesamnta`] has the block cipher of Lesamnta-LW.
 //!
 //! ```
 //! use wickslate_reference::{digest, digest_bits, permute};
 //!
 //! let message = b"Sponge + Present = Spongent";
 //! assert_eq!(digest(6, message).unwrap()[..4], [0x69, 0x97, 0x1b, 0xf9]);
-//! assert_eq!(digest(11, message), Err(1));
+//! assert_eq!(digest(11, b"abc").unwrap()[..4], [0xab, 0x32, 0xca, 0x45]);
+//! assert_eq!(digest(12, message), Err(1));
 //!
 //! // Three bits of the last byte count, in SPONGENT the low ones.
 //! assert_eq!(digest_bits(6, &[0xb7], 3), digest_bits(6, &[0x07], 3));
@@ -23,14 +27,17 @@
 //!
 //! let mut image = [0; 12];
 //! assert_eq!(permute(6, &mut image), 6, "an image of SPONGENT-88 has 11 bytes");
+//! assert_eq!(permute(11, &mut image), 17, "Lesamnta-LW is no sponge");
 //! ```
 
 #![forbid(unsafe_code)]
 #![warn(missing_docs)]
 
 pub mod bits;
+pub mod chain;
 pub mod field;
 pub mod image;
+pub mod lesamnta;
 pub mod lookup;
 pub mod manifest;
 pub mod matrix;
@@ -49,11 +56,11 @@ pub mod variants;
 pub use message::Message;
 pub use padding::Padding;
 pub use printed::{padding_table, rounds_page, vector_lines};
-pub use variants::{variant, Family, Variant, VARIANTS};
+pub use variants::{sponges, variant, Family, Variant, VARIANTS};
 
 /// The number of a call that was not refused.
 pub const DONE: u8 = 0;
-/// Refusal: the variant number is not 1 to 10.
+/// Refusal: the variant number is not 1 to 11.
 pub const UNKNOWN_VARIANT: u8 = 1;
 /// Refusal: the running hash is not well formed.
 pub const MALFORMED: u8 = 2;
@@ -78,7 +85,7 @@ pub const PAST_END: u8 = 11;
 /// Refusal: a manifest that cannot be read, is not in whole records, or has
 /// more than 512.
 pub const BAD_MANIFEST: u8 = 12;
-/// Refusal: a record's variant is not 1 to 10, or a byte behind its digest is
+/// Refusal: a record's variant is not 1 to 11, or a byte behind its digest is
 /// not zero.
 pub const BAD_RECORD: u8 = 13;
 /// Refusal: a record's axis number is not above that of the record before it.
@@ -87,6 +94,9 @@ pub const NOT_RISING: u8 = 14;
 pub const BAD_BIT_NUMBER: u8 = 15;
 /// Refusal: the pieces so far end inside a byte, so that none can follow.
 pub const INSIDE_BYTE: u8 = 16;
+/// Refusal: Lesamnta-LW has no permutation, and only its last block can be
+/// found again.
+pub const NOT_SPONGE: u8 = 17;
 
 /// The greatest number of message bytes.
 pub const MESSAGE_LIMIT: usize = 16_777_215;
@@ -94,13 +104,13 @@ pub const MESSAGE_LIMIT: usize = 16_777_215;
 pub const BIT_LIMIT: usize = 134_217_720;
 
 /// Runs the variant's permutation on an image in place. Gives 0, or the
-/// refusal number 1 or 6.
+/// refusal number 1, 17 or 6.
 pub fn permute(number: u32, image: &mut [u8]) -> u8 {
     change_image(number, image, sponge::permute_state)
 }
 
 /// Runs the inverse of the variant's permutation on an image in place.
-/// Gives 0, or the refusal number 1 or 6.
+/// Gives 0, or the refusal number 1, 17 or 6.
 pub fn unpermute(number: u32, image: &mut [u8]) -> u8 {
     change_image(number, image, sponge::unpermute_state)
 }
@@ -148,17 +158,17 @@ pub fn message_check(number: u32, message: Message) -> Result<&'static Variant, 
 
 fn digest_of(number: u32, padding: Padding, message: Message) -> Result<Vec<u8>, u8> {
     let variant = message_check(number, message)?;
-    let state = sponge::absorb_message(variant, padding, &message.bits(variant.family));
+    let state = chain::end_state(variant, padding, &message.bits(variant.family));
     Ok(bits::pack(
         bits::Order::HighestFirst,
-        &sponge::squeeze(variant, &state),
+        &chain::digest(variant, &state),
     ))
 }
 
 fn end_state_of(number: u32, message: Message) -> Result<Vec<u8>, u8> {
     let variant = message_check(number, message)?;
     let bits = message.bits(variant.family);
-    let state = sponge::absorb_message(variant, Padding::NextBit, &bits);
+    let state = chain::end_state(variant, Padding::NextBit, &bits);
     Ok(image::of_state(variant, &state))
 }
 
@@ -167,6 +177,9 @@ fn change_image(number: u32, image: &mut [u8], change: fn(&Variant, &mut [bool])
     let Some(variant) = variant(number) else {
         return UNKNOWN_VARIANT;
     };
+    if !variant.is_sponge() {
+        return NOT_SPONGE;
+    }
     let Some(mut state) = image::to_state(variant, image) else {
         return BAD_IMAGE;
     };

@@ -80,6 +80,50 @@ impl Matrix {
     }
 }
 
+/// A matrix made ready for columns: the product of a column is a sum over
+/// its cells, so the summand of each cell value in each row stands ready.
+pub struct ColumnSums {
+    size: usize,
+    elements: usize,
+    /// At `row * elements + cell`: a whole column, its cell i in byte i.
+    summands: Vec<u64>,
+}
+
+impl ColumnSums {
+    /// The sums of a matrix of at most eight rows.
+    pub fn new(field: &Field, matrix: &Matrix) -> ColumnSums {
+        let summand = |row: usize, cell: usize| {
+            let product = |i: usize| u64::from(field.product(matrix.rows[i][row], cell as u8));
+            (0..matrix.size()).fold(0, |column, i| column | product(i) << (8 * i))
+        };
+        let of_row = |row| (0..field.elements()).map(move |cell| summand(row, cell));
+        ColumnSums {
+            size: matrix.size(),
+            elements: field.elements(),
+            summands: (0..matrix.size()).flat_map(of_row).collect(),
+        }
+    }
+
+    /// The product of one column, given from its top: cell i in byte i.
+    pub fn product(&self, column: impl Iterator<Item = u8>) -> [u8; 8] {
+        let sum = column.enumerate().fold(0, |sum, (i, cell)| {
+            sum ^ self.summands[i * self.elements + usize::from(cell)]
+        });
+        sum.to_le_bytes()
+    }
+
+    /// Multiplies each column of a square of cells by the matrix. The square is
+    /// one row-by-row list.
+    pub fn apply(&self, cells: &mut [u8]) {
+        for j in 0..self.size {
+            let column = self.product((0..self.size).map(|i| cells[i * self.size + j]));
+            for i in 0..self.size {
+                cells[i * self.size + j] = column[i];
+            }
+        }
+    }
+}
+
 /// A row with every cell multiplied by the factor.
 fn scaled(field: &Field, factor: u8, row: &[u8]) -> Vec<u8> {
     row.iter()
@@ -129,5 +173,20 @@ mod tests {
             rows: vec![row, vec![4, 5, 6], sum],
         };
         assert_eq!(matrix.inverse(&field), None);
+    }
+    /// The sums of a matrix give what the product of matrices gives.
+    #[test]
+    fn sums_of_columns_are_products() {
+        let field = Field::of_bytes();
+        let matrix = Matrix {
+            rows: vec![vec![2, 3, 7], vec![0, 0x8d, 1], vec![0xff, 4, 0]],
+        };
+        let mut cells = vec![0x53, 0, 1, 0xca, 0x80, 2, 0xff, 0x1b, 0];
+        let square = Matrix {
+            rows: cells.chunks(3).map(<[u8]>::to_vec).collect(),
+        };
+        let expected = matrix.times(&field, &square).rows.concat();
+        ColumnSums::new(&field, &matrix).apply(&mut cells);
+        assert_eq!(cells, expected);
     }
 }

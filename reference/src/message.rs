@@ -44,14 +44,14 @@ impl<'a> Message<'a> {
     }
 
     /// The bits that count, the highest of each byte first. Of a last byte
-    /// PHOTON takes the high bits and SPONGENT the low ones.
+    /// SPONGENT takes the low bits and the others the high ones.
     pub fn bits(&self, family: Family) -> Vec<bool> {
         let mut bits = unpack(Order::HighestFirst, self.bytes);
         if let Some(number) = self.bit_number {
             let last = bits.split_off(bits.len() - 8);
             let number = number as usize;
             bits.extend(match family {
-                Family::Photon => &last[..number],
+                Family::Photon | Family::LesamntaLw => &last[..number],
                 Family::Spongent => &last[8 - number..],
             });
         }
@@ -63,7 +63,7 @@ impl<'a> Message<'a> {
 mod tests {
     use super::*;
 
-    const FAMILIES: [Family; 2] = [Family::Photon, Family::Spongent];
+    const FAMILIES: [Family; 3] = [Family::Photon, Family::Spongent, Family::LesamntaLw];
 
     /// The bits that count, as digits.
     fn digits(message: Message, family: Family) -> String {
@@ -77,13 +77,14 @@ mod tests {
     #[test]
     fn the_high_bits_count_or_the_low_ones() {
         // 1011 0111.
-        let photon = ["1", "10", "101", "1011", "10110", "101101", "1011011"];
-        let spongent = ["1", "11", "111", "0111", "10111", "110111", "0110111"];
+        let high = ["1", "10", "101", "1011", "10110", "101101", "1011011"];
+        let low = ["1", "11", "111", "0111", "10111", "110111", "0110111"];
         for number in 1..8 {
             let message = Message::ending(&[0xb7], number);
             let k = number as usize - 1;
-            assert_eq!(digits(message, Family::Photon), photon[k]);
-            assert_eq!(digits(message, Family::Spongent), spongent[k]);
+            assert_eq!(digits(message, Family::Photon), high[k]);
+            assert_eq!(digits(message, Family::LesamntaLw), high[k]);
+            assert_eq!(digits(message, Family::Spongent), low[k]);
         }
     }
 
@@ -91,6 +92,7 @@ mod tests {
     fn bytes_before_the_last_count_whole() {
         let message = Message::ending(&[0xab, 0xcd], 3);
         assert_eq!(digits(message, Family::Photon), "10101011110");
+        assert_eq!(digits(message, Family::LesamntaLw), "10101011110");
         assert_eq!(digits(message, Family::Spongent), "10101011101");
     }
 
@@ -111,7 +113,7 @@ mod tests {
             for byte in 0..=255u8 {
                 let high = byte >> (8 - number) << (8 - number);
                 let low = byte << (8 - number) >> (8 - number);
-                for (family, alone) in FAMILIES.into_iter().zip([high, low]) {
+                for (family, alone) in FAMILIES.into_iter().zip([high, low, high]) {
                     let [all, alone] = [[0x31, byte], [0x31, alone]]
                         .map(|bytes| digits(Message::ending(&bytes, number), family));
                     assert_eq!(all, alone, "{number} bits of {byte:02x}");

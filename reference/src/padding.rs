@@ -1,5 +1,6 @@
-//! From a message's bits to blocks (clauses 5.2.3 and 5.3.3).
+//! From a message's bits to blocks (clauses 5.2.3, 5.3.3 and 6.2.2).
 
+use crate::bits::{unpack, Order};
 use crate::variants::{Family, Variant};
 
 /// Two readings of where the added 1 goes after a message of whole bytes.
@@ -11,22 +12,46 @@ pub enum Padding {
     NextBit,
     /// In SPONGENT it is the lowest bit not yet taken, counted as the state
     /// counts bits: the byte 01. Kept for the comparison with Annex B alone;
-    /// PHOTON counts from the highest bit, so nothing changes there.
+    /// the other families count from the highest bit, so nothing changes there.
     LowestFreeBit,
 }
 
-/// The number of blocks of a padded message of so many bits.
+/// The number of blocks of a padded message of so many bits. That of
+/// Lesamnta-LW ends in a block of its own for the length.
 pub fn block_count(variant: &Variant, bits: usize) -> usize {
-    bits / variant.block_bits + 1
+    match variant.is_sponge() {
+        true => bits / variant.block_bits + 1,
+        false => bits.div_ceil(variant.block_bits) + 1,
+    }
+}
+
+/// What the padding adds behind a message of so many bits, up to the end of the
+/// last block: a 1 among zeros and, for Lesamnta-LW, the length in 64 bits.
+pub fn added(variant: &Variant, padding: Padding, bits: usize) -> Vec<bool> {
+    let all = block_count(variant, bits) * variant.block_bits;
+    let mut added = vec![false; all - bits];
+    added[bits_before_one(variant.family, padding)] = true;
+    if variant.family == Family::LesamntaLw {
+        let length = unpack(Order::HighestFirst, &(bits as u64).to_be_bytes());
+        added.truncate(added.len() - length.len());
+        added.extend(length);
+    }
+    added
 }
 
 /// Block `index` of the padded message, from 0.
 pub fn block(variant: &Variant, padding: Padding, message: &[bool], index: usize) -> Vec<bool> {
-    let one = message.len() + bits_before_one(variant.family, padding);
     let first = index * variant.block_bits;
-    (first..first + variant.block_bits)
-        .map(|place| message.get(place).copied().unwrap_or(place == one))
-        .collect()
+    let end = first + variant.block_bits;
+    if let Some(whole) = message.get(first..end) {
+        return whole.to_vec();
+    }
+    let added = added(variant, padding, message.len());
+    let bit = |place: usize| match message.get(place) {
+        Some(&bit) => bit,
+        None => added[place - message.len()],
+    };
+    (first..end).map(bit).collect()
 }
 
 /// How many zeros the padding puts before its 1.

@@ -6,7 +6,7 @@ use std::sync::OnceLock;
 
 use crate::field::Field;
 use crate::lookup;
-use crate::matrix::Matrix;
+use crate::matrix::{ColumnSums, Matrix};
 use crate::sbox;
 
 /// N_r, the same for all sizes.
@@ -131,43 +131,6 @@ impl Photon {
 fn substitute(cells: &mut [u8], table: &[u8]) {
     for cell in cells {
         *cell = table[usize::from(*cell)];
-    }
-}
-
-/// A matrix made ready for columns: the product of a column is a sum over
-/// its cells, so the summand of each cell value in each row stands ready.
-struct ColumnSums {
-    size: usize,
-    elements: usize,
-    /// At `row * elements + cell`: a whole column, its cell i in byte i.
-    summands: Vec<u64>,
-}
-
-impl ColumnSums {
-    fn new(field: &Field, matrix: &Matrix) -> ColumnSums {
-        let summand = |row: usize, cell: usize| {
-            let product = |i: usize| u64::from(field.product(matrix.rows[i][row], cell as u8));
-            (0..matrix.size()).fold(0, |column, i| column | product(i) << (8 * i))
-        };
-        let of_row = |row| (0..field.elements()).map(move |cell| summand(row, cell));
-        ColumnSums {
-            size: matrix.size(),
-            elements: field.elements(),
-            summands: (0..matrix.size()).flat_map(of_row).collect(),
-        }
-    }
-
-    /// Multiplies each column of the state by the matrix.
-    fn apply(&self, cells: &mut [u8]) {
-        for j in 0..self.size {
-            let column = (0..self.size).fold(0, |sum, i| {
-                let cell = usize::from(cells[i * self.size + j]);
-                sum ^ self.summands[i * self.elements + cell]
-            });
-            for i in 0..self.size {
-                cells[i * self.size + j] = column.to_le_bytes()[i];
-            }
-        }
     }
 }
 

@@ -4,12 +4,17 @@
 
 use crate::bits::{pack, unpack, Order};
 use crate::message::Message;
+use crate::padding::{added, Padding};
 use crate::variants::{variant, Variant};
-use crate::{image, sponge};
+use crate::{chain, image};
 use crate::{
     BAD_BIT_NUMBER, BIT_LIMIT, DONE, INSIDE_BYTE, MALFORMED, OUTPUT_TOO_SHORT, TOO_LONG,
     UNKNOWN_VARIANT, WRONG_STAGE,
 };
+
+/// The bytes for bits that do not fill a block yet: those of the longest
+/// block.
+pub const HELD_BYTES: usize = 16;
 
 /// A running hash, well formed or not.
 #[derive(Clone, Copy, Debug, PartialEq, Eq)]
@@ -24,7 +29,7 @@ pub struct Running {
     pub state: [u8; 36],
     /// The bits that do not fill a block yet, from the high end of the first
     /// byte, and zeros.
-    pub held: [u8; 5],
+    pub held: [u8; HELD_BYTES],
 }
 
 /// What a well-formed running hash stands for.
@@ -41,12 +46,12 @@ pub fn start(number: u32) -> (u8, Running) {
         stage: 0,
         total: 0,
         state: [0; 36],
-        held: [0; 5],
+        held: [0; HELD_BYTES],
     };
     match variant(number) {
         None => (UNKNOWN_VARIANT, empty),
         Some(known) => {
-            let state = sponge::start_state(known);
+            let state = chain::start_state(known);
             let begun = Running {
                 variant: number as u8,
                 state: padded(&image::of_state(known, &state)),
@@ -90,7 +95,8 @@ impl Running {
         (DONE, self.with(&parts, 0, total as u32))
     }
 
-    /// Closes the hash. Refusals 2 and 3, with the hash as it was.
+    /// Closes the hash: it takes every block that the padding leaves. Refusals
+    /// 2 and 3, with the hash as it was.
     pub fn finish(self) -> (u8, Running) {
         let Some(mut parts) = self.parts() else {
             return (MALFORMED, self);
@@ -98,9 +104,8 @@ impl Running {
         if self.stage != 0 {
             return (WRONG_STAGE, self);
         }
-        let mut rest = vec![false; parts.variant.block_bits - parts.held.len()];
-        rest[0] = true;
-        parts.take(rest);
+        let bits = self.total as usize;
+        parts.take(added(parts.variant, Padding::NextBit, bits));
         (DONE, self.with(&parts, 1, self.total))
     }
 
@@ -116,7 +121,7 @@ impl Running {
         let result = if end_state {
             image::of_state(parts.variant, &parts.state)
         } else {
-            let digest = sponge::squeeze(parts.variant, &parts.state);
+            let digest = chain::digest(parts.variant, &parts.state);
             pack(Order::HighestFirst, &digest)
         };
         write_front(&result, out)
@@ -163,7 +168,7 @@ impl Open {
         let blocks = self.held.chunks_exact(self.variant.block_bits);
         let rest = blocks.remainder().to_vec();
         for block in blocks {
-            sponge::block_step(self.variant, &mut self.state, block);
+            chain::block_step(self.variant, &mut self.state, block);
         }
         self.held = rest;
     }

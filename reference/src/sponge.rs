@@ -1,25 +1,30 @@
-//! The sponge on bit strings (clauses 5.2.3 and 5.3.3). A state is the list
-//! of its bits, PHOTON's from the leftmost, SPONGENT's from bit 0.
+//! The sponge on bit strings (clauses 5.2.3 and 5.3.3), for the variants that
+//! are one. A state is the list of its bits, PHOTON's from the leftmost,
+//! SPONGENT's from bit 0.
 
 use crate::bits::{unpack, Order};
-use crate::padding::{block, block_count, Padding};
 use crate::variants::{Family, Variant};
 use crate::{photon, spongent};
 
+/// Why a function here panics if it is asked about Lesamnta-LW.
+const NO_SPONGE: &str = "Lesamnta-LW is no sponge";
+
 /// The state before the first block.
 pub fn start_state(variant: &Variant) -> Vec<bool> {
-    let mut state = vec![false; variant.state_bits];
-    if variant.family == Family::Photon {
-        let sizes = [
-            variant.digest_bits / 4,
-            variant.block_bits,
-            variant.output_bits,
-        ];
-        let bytes = sizes.map(|size| size as u8);
-        state.truncate(variant.state_bits - 24);
-        state.extend(unpack(Order::HighestFirst, &bytes));
+    match variant.family {
+        Family::Photon => {
+            let sizes = [
+                variant.digest_bits / 4,
+                variant.block_bits,
+                variant.output_bits,
+            ];
+            let mut state = vec![false; variant.state_bits - 24];
+            state.extend(unpack(Order::HighestFirst, &sizes.map(|size| size as u8)));
+            state
+        }
+        Family::Spongent => vec![false; variant.state_bits],
+        Family::LesamntaLw => panic!("{NO_SPONGE}"),
     }
-    state
 }
 
 /// Runs the variant's permutation.
@@ -27,6 +32,7 @@ pub fn permute_state(variant: &Variant, state: &mut [bool]) {
     match variant.family {
         Family::Photon => photon::of_size(variant.state_bits).permute(state),
         Family::Spongent => spongent::of_size(variant.state_bits).permute(state),
+        Family::LesamntaLw => panic!("{NO_SPONGE}"),
     }
 }
 
@@ -35,6 +41,7 @@ pub fn unpermute_state(variant: &Variant, state: &mut [bool]) {
     match variant.family {
         Family::Photon => photon::of_size(variant.state_bits).unpermute(state),
         Family::Spongent => spongent::of_size(variant.state_bits).unpermute(state),
+        Family::LesamntaLw => panic!("{NO_SPONGE}"),
     }
 }
 
@@ -59,14 +66,23 @@ pub fn block_step(variant: &Variant, state: &mut [bool], block: &[bool]) {
     permute_state(variant, state);
 }
 
-/// The state after all blocks of the padded message, which is given in bits.
-pub fn absorb_message(variant: &Variant, padding: Padding, message: &[bool]) -> Vec<bool> {
-    let mut state = start_state(variant);
-    for index in 0..block_count(variant, message.len()) {
-        let block = block(variant, padding, message, index);
-        block_step(variant, &mut state, &block);
+/// One block step taken back.
+pub fn block_step_back(variant: &Variant, state: &mut [bool], block: &[bool]) {
+    unpermute_state(variant, state);
+    xor_block(variant, state, block);
+}
+
+/// The block that leads from one state to another in one step: what the fronts
+/// of the two differ in before the permutation. None if they differ behind it.
+pub fn block_between(variant: &Variant, before: &[bool], after: &[bool]) -> Option<Vec<bool>> {
+    let mut difference = after.to_vec();
+    unpermute_state(variant, &mut difference);
+    for (bit, &other) in difference.iter_mut().zip(before) {
+        *bit ^= other;
     }
-    state
+    let block = read_block(variant, &difference, variant.block_bits);
+    xor_block(variant, &mut difference, &block);
+    (!difference.contains(&true)).then_some(block)
 }
 
 /// The digest that follows from the state after the last block. As many
@@ -89,5 +105,6 @@ fn place(family: Family, index: usize) -> usize {
     match family {
         Family::Photon => index,
         Family::Spongent => 8 * (index / 8) + 7 - index % 8,
+        Family::LesamntaLw => panic!("{NO_SPONGE}"),
     }
 }

@@ -1,21 +1,24 @@
-//! The ten hash functions and their sizes (clauses 5.2.1 and 5.3.1, Table 1
-//! and Table 9; SPONGENT's rates are those of Table C.1).
+//! The eleven hash functions and their sizes (clauses 5.2.1, 5.3.1 and 6.2,
+//! Table 1 and Table 9; SPONGENT's rates are those of Table C.1).
 
-/// The two families; they differ in permutation, start state and bit order.
+/// The three families; they differ in block step, start state, padding and bit
+/// order.
 #[derive(Clone, Copy, Debug, PartialEq, Eq)]
 pub enum Family {
-    /// Clause 5.2.
+    /// Clause 5.2, sponges.
     Photon,
-    /// Clause 5.3.
+    /// Clause 5.3, sponges.
     Spongent,
+    /// Clause 6.2, a chain over a block cipher.
+    LesamntaLw,
 }
 
 /// One hash function. All sizes are in bits.
 #[derive(Clone, Copy, Debug, PartialEq, Eq)]
 pub struct Variant {
-    /// The number that calls use, 1 to 10.
+    /// The number that calls use, 1 to 11.
     pub number: u32,
-    /// The family's name and the size of the state.
+    /// The family's name and, for a sponge, the size of the state.
     pub name: &'static str,
     /// The family.
     pub family: Family,
@@ -23,13 +26,18 @@ pub struct Variant {
     pub state_bits: usize,
     /// r, a block of the message.
     pub block_bits: usize,
-    /// r', a block of the digest.
+    /// r', a block of the digest; Lesamnta-LW gives all of it out at once.
     pub output_bits: usize,
     /// n, the digest.
     pub digest_bits: usize,
 }
 
 impl Variant {
+    /// Whether a permutation takes its blocks in. All but Lesamnta-LW have one.
+    pub fn is_sponge(&self) -> bool {
+        self.family != Family::LesamntaLw
+    }
+
     /// The bytes that hold a state.
     pub fn image_bytes(&self) -> usize {
         self.state_bits.div_ceil(8)
@@ -42,7 +50,7 @@ impl Variant {
 }
 
 /// All variants, in the order of their numbers.
-pub static VARIANTS: [Variant; 10] = [
+pub static VARIANTS: [Variant; 11] = [
     photon(1, "photon-100", 100, [20, 16], 80),
     photon(2, "photon-144", 144, [16, 16], 128),
     photon(3, "photon-196", 196, [36, 36], 160),
@@ -53,7 +61,21 @@ pub static VARIANTS: [Variant; 10] = [
     spongent(8, "spongent-176", 176, 16, 160),
     spongent(9, "spongent-240", 240, 16, 224),
     spongent(10, "spongent-272", 272, 16, 256),
+    Variant {
+        number: 11,
+        name: "lesamnta-lw",
+        family: Family::LesamntaLw,
+        state_bits: 256,
+        block_bits: 128,
+        output_bits: 256,
+        digest_bits: 256,
+    },
 ];
+
+/// The variants that are sponges, in the same order.
+pub fn sponges() -> impl Iterator<Item = &'static Variant> {
+    VARIANTS.iter().filter(|variant| variant.is_sponge())
+}
 
 /// The variant with this number.
 pub fn variant(number: u32) -> Option<&'static Variant> {

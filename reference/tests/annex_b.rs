@@ -1,9 +1,10 @@
-//! The examples of Annex B.1 and B.2, typed from the standard.
+//! The examples of Annex B, typed from the standard.
 
 mod hexadecimal;
 
 use hexadecimal::bytes;
-use wickslate_reference::{digest, image, permute, sponge, unpermute, variant};
+use wickslate_reference::lesamnta::{g, q, round_constants};
+use wickslate_reference::{chain, digest, end_state, image, permute, sponge, unpermute, variant};
 
 /// One example: the state before and after one permutation as images, and a
 /// digest.
@@ -190,7 +191,7 @@ fn examples() -> impl Iterator<Item = Example> {
 #[test]
 fn photon_starts_from_the_printed_value() {
     for example in photon_examples() {
-        let variant = variant(example.variant).expect("a number from 1 to 10");
+        let variant = variant(example.variant).expect("a number from 1 to 11");
         let start = image::of_state(variant, &sponge::start_state(variant));
         assert_eq!(start, example.before, "{}", example.clause);
     }
@@ -199,7 +200,7 @@ fn photon_starts_from_the_printed_value() {
 #[test]
 fn spongent_starts_from_zero() {
     for example in spongent_examples() {
-        let variant = variant(example.variant).expect("a number from 1 to 10");
+        let variant = variant(example.variant).expect("a number from 1 to 11");
         let start = image::of_state(variant, &sponge::start_state(variant));
         assert_eq!(start, vec![0; example.after.len()], "{}", example.clause);
     }
@@ -246,4 +247,35 @@ fn messages_are_the_printed_strings() {
     ] {
         assert_eq!(bytes(example.message), string.as_bytes());
     }
+}
+
+/// B.3.2.
+#[test]
+fn function_q_gives_the_printed_word() {
+    assert_eq!(q(0xa432_3129), 0x95f8_0b6e);
+}
+
+/// B.3.3.
+#[test]
+fn function_g_gives_the_printed_words() {
+    assert_eq!(g(0x0000_0256_0000_0256, 0x0000_0256), 0xa58d_6363_6363_26c8);
+}
+
+/// That of B.3.2 with the first round constant added to it.
+#[test]
+fn the_printed_words_are_those_of_the_start() {
+    let word: u32 = 0x0000_0256;
+    assert_eq!(round_constants()[0] ^ word, 0xa432_3129);
+    let lesamnta_lw = variant(11).expect("a number from 1 to 11");
+    let start = image::of_state(lesamnta_lw, &chain::start_state(lesamnta_lw));
+    assert_eq!(start, word.to_be_bytes().repeat(8));
+}
+
+/// B.3.4. The end state is the digest.
+#[test]
+fn lesamnta_lw_gives_the_printed_hash() {
+    let printed = "ab32ca45 1748255e 3bf0e34a 5ad600f0 ce7660ec ea2fe083 ba54139b 770766d0";
+    assert_eq!(bytes("616263"), b"abc");
+    assert_eq!(digest(11, b"abc"), Ok(bytes(printed)));
+    assert_eq!(end_state(11, b"abc"), Ok(bytes(printed)));
 }

@@ -10,7 +10,7 @@ use generator::Generator;
 use wickslate_reference::bits::{pack, Order};
 use wickslate_reference::padding::{block, block_count};
 use wickslate_reference::recover::{recover, recover_bits};
-use wickslate_reference::running::{start, Running};
+use wickslate_reference::running::{start, Running, HELD_BYTES};
 use wickslate_reference::{
     digest, digest_bits, end_state, end_state_bits, message_check, unpermute, variant, Family,
     Message, Padding, Variant, BIT_LIMIT, MESSAGE_LIMIT, VARIANTS,
@@ -27,7 +27,7 @@ fn blocks(variant: &Variant, message: &[bool]) -> Vec<Vec<bool>> {
 
 /// The same for a message of bytes, as digits.
 fn digits(number: u32, message: Message) -> Vec<String> {
-    let variant = variant(number).expect("a number from 1 to 10");
+    let variant = variant(number).expect("a number from 1 to 11");
     let digit = |bit| if bit { '1' } else { '0' };
     blocks(variant, &message.bits(variant.family))
         .into_iter()
@@ -52,6 +52,21 @@ fn known_blocks_of_photon() {
         of(1, &three, 5),
         ["00000000000000000001", "01000000000000000000"]
     );
+}
+
+/// The high bits, as in PHOTON, and the length behind them.
+#[test]
+fn known_blocks_of_lesamnta_lw() {
+    let length = |bits: usize| format!("{}{bits:064b}", "0".repeat(64));
+    let with_zeros = |front: &str| format!("{front:0<128}");
+    let of = |bytes, bits| digits(11, Message::ending(bytes, bits));
+    let three = [with_zeros("1011"), length(3)];
+    assert_eq!(of(&[0b1010_0000], 3), three);
+    assert_eq!(of(&[0b1011_1111], 3), three);
+    let eleven = [with_zeros("101010111101"), length(11)];
+    assert_eq!(of(&[0xab, 0xcd], 3), eleven);
+    let one = format!("1{:0127b}", 0);
+    assert_eq!(digits(11, Message::whole(&[])), [one]);
 }
 
 #[test]
@@ -101,7 +116,7 @@ fn no_two_bit_strings_have_the_same_padded_row() {
 /// The bits of a last byte that count.
 fn counting(family: Family, bits: u32) -> u8 {
     match family {
-        Family::Photon => 0xff << (8 - bits),
+        Family::Photon | Family::LesamntaLw => 0xff << (8 - bits),
         Family::Spongent => 0xff >> (8 - bits),
     }
 }
@@ -120,13 +135,22 @@ fn eight_bits_are_all_of_them() {
             let end = end_state_bits(number, &message, 8);
             assert_eq!(end, end_state(number, &message));
             let end = end.expect("not refused");
-            let [mut with, mut without] = [[0xa0; 6]; 2];
+            let [mut with, mut without] = [[0xa0; 17]; 2];
             let given = recover_bits(number, &message, 8, 1, &end, &mut with);
             assert_eq!(given, recover(number, &message, 1, &end, &mut without));
             assert_eq!(with, without);
             let (_, begun) = start(number);
             assert_eq!(begun.update_bits(&message, 8), begun.update(&message));
         }
+    }
+}
+
+/// The first place at which a block can be found: for Lesamnta-LW the last.
+fn first_found(variant: &Variant, message: &[u8], bits: u32) -> usize {
+    let length = Message::ending(message, bits).length() as usize;
+    match variant.is_sponge() {
+        true => 0,
+        false => block_count(variant, length) - 1,
     }
 }
 
@@ -151,11 +175,12 @@ fn bits_that_do_not_count_change_nothing() {
                 let [one, other] = both.each_ref().map(|m| end_state_bits(number, m, bits));
                 assert_eq!(one, other);
                 let end = one.expect("not refused");
+                let place = first_found(variant, &message, bits);
                 let [one, other] = both.each_ref().map(|m| {
-                    let mut out = [0xa0; 6];
-                    (recover_bits(number, m, bits, 0, &end, &mut out), out)
+                    let mut out = [0xa0; 17];
+                    (recover_bits(number, m, bits, place, &end, &mut out), out)
                 });
-                assert_eq!(one, other);
+                assert_eq!((one.0, one), (0, other));
                 let (_, begun) = start(number);
                 let [one, other] = both.each_ref().map(|m| begun.update_bits(m, bits));
                 assert_eq!(one, other);
@@ -164,7 +189,8 @@ fn bits_that_do_not_count_change_nothing() {
     }
 }
 
-/// Every bit that counts is another message, with another end state.
+/// Every bit that counts is another message, with another end state. That is
+/// promised of the sponges, and seen here of Lesamnta-LW too.
 #[test]
 fn each_bit_that_counts_shows() {
     for message in messages().take(5) {
@@ -218,11 +244,22 @@ fn pieces_give_what_the_whole_message_gives() {
 #[test]
 fn held_bits_are_packed_from_the_high_end() {
     let held = |number, bytes: &[u8], bits| start(number).1.update_bits(bytes, bits).1.held;
-    assert_eq!(held(2, &[0xb7], 3), [0b1010_0000, 0, 0, 0, 0]);
-    assert_eq!(held(6, &[0xb7], 3), [0b1110_0000, 0, 0, 0, 0]);
-    assert_eq!(held(6, &[0xab, 0x35], 7), [0b0110_1010, 0, 0, 0, 0]);
-    assert_eq!(held(8, &[0xab, 0x35], 7), [0xab, 0b0110_1010, 0, 0, 0]);
-    assert_eq!(held(1, &[0xab, 0xcd, 0xef], 5), [0b1000_0000, 0, 0, 0, 0]);
+    let with_zeros = |front: &[u8]| {
+        let mut held = [0; HELD_BYTES];
+        held[..front.len()].copy_from_slice(front);
+        held
+    };
+    assert_eq!(held(2, &[0xb7], 3), with_zeros(&[0b1010_0000]));
+    assert_eq!(held(6, &[0xb7], 3), with_zeros(&[0b1110_0000]));
+    assert_eq!(held(6, &[0xab, 0x35], 7), with_zeros(&[0b0110_1010]));
+    assert_eq!(held(8, &[0xab, 0x35], 7), with_zeros(&[0xab, 0b0110_1010]));
+    let five = held(1, &[0xab, 0xcd, 0xef], 5);
+    assert_eq!(five, with_zeros(&[0b1000_0000]));
+    let seven = held(11, &[0xab, 0x35], 7);
+    assert_eq!(seven, with_zeros(&[0xab, 0b0011_0100]));
+    assert_eq!(held(11, &[0xff; 16], 7)[14..], [0xff, 0xfe]);
+    assert_eq!(held(11, &[0xff; 16], 8), with_zeros(&[]));
+    assert_eq!(held(11, &[0xff; 17], 1), with_zeros(&[0x80]));
 }
 
 #[test]
@@ -232,11 +269,16 @@ fn a_message_has_its_own_blocks_at_every_place() {
             for bits in 1..=8 {
                 let end = end_state_bits(variant.number, &message, bits).expect("not refused");
                 let string = Message::ending(&message, bits).bits(variant.family);
+                let first = first_found(variant, &message, bits);
                 for (place, own) in blocks(variant, &string).iter().enumerate() {
                     let own = pack(Order::HighestFirst, own);
-                    let mut out = vec![0xa0; own.len()];
+                    let expected = match place < first {
+                        true => (17, vec![0xa0; own.len()]),
+                        false => (0, own),
+                    };
+                    let mut out = vec![0xa0; expected.1.len()];
                     let given = recover_bits(variant.number, &message, bits, place, &end, &mut out);
-                    assert_eq!((given, out), (0, own), "{} {bits}", variant.name);
+                    assert_eq!((given, out), expected, "{} {bits}", variant.name);
                 }
             }
         }
@@ -252,6 +294,14 @@ fn places_follow_the_number_of_bits() {
     };
     assert_eq!([1, 2, 3].map(place), [7; 3], "one block");
     assert_eq!([4, 5, 6, 7, 8].map(place), [0; 5], "two blocks");
+    let place_of_lesamnta = |bytes: usize, bits| {
+        let end = end_state_bits(11, &[0; 17][..bytes], bits).expect("not refused");
+        recover_bits(11, &[0; 17][..bytes], bits, 2, &end, &mut [0; 16])
+    };
+    for bits in 1..=8 {
+        assert_eq!(place_of_lesamnta(16, bits), 7, "two blocks");
+        assert_eq!(place_of_lesamnta(17, bits), 0, "three blocks");
+    }
 }
 
 /// Each check before the one that follows it.
@@ -261,9 +311,10 @@ fn refusals_of_whole_messages_come_in_order() {
     for call in [digest_bits, end_state_bits] {
         for bits in [0, 9, 10, 255, 256 + 3, u32::MAX] {
             assert_eq!(call(0, b"", bits), Err(1));
-            assert_eq!(call(11, &long, bits), Err(1));
+            assert_eq!(call(12, &long, bits), Err(1));
             for message in [b"", &b"abc"[..], &long] {
                 assert_eq!(call(1, message, bits), Err(15));
+                assert_eq!(call(11, message, bits), Err(15));
             }
         }
         for bits in 1..=8 {
@@ -281,7 +332,9 @@ fn refusals_of_the_lost_block_come_in_order() {
     let good = end_state_bits(1, b"abc", 3).expect("not refused");
     let wrong = [0xa0; 13];
     type Call<'a> = (u32, &'a [u8], u32, usize, &'a [u8], usize, u8);
-    let calls: [Call; 10] = [
+    let end = end_state_bits(11, b"abc", 3).expect("not refused");
+    let nowhere = [0xa0; 32];
+    let calls: [Call; 19] = [
         (0, &long, 9, 0, &good, 3, 1),
         (1, &long, 9, 0, &good, 3, 15),
         (1, b"abc", 0, 0, &good, 3, 15),
@@ -292,6 +345,15 @@ fn refusals_of_the_lost_block_come_in_order() {
         (1, b"abc", 3, 0, &wrong, 2, 5),
         (1, b"abc", 3, 0, &wrong, 3, 8),
         (1, b"abc", 3, 0, &good, 3, 0),
+        (12, &long, 9, 0, &end, 16, 1),
+        (11, &long, 9, 0, &end, 16, 15),
+        (11, &long, 1, 0, &end, 16, 4),
+        (11, b"abc", 3, 2, &end[..31], 16, 7),
+        (11, b"abc", 3, 0, &end[..31], 15, 17),
+        (11, b"abc", 3, 1, &end[..31], 15, 6),
+        (11, b"abc", 3, 1, &nowhere, 15, 5),
+        (11, b"abc", 3, 1, &nowhere, 16, 8),
+        (11, b"abc", 3, 1, &end, 16, 0),
     ];
     for (number, message, bits, place, image, bytes, refusal) in calls {
         let mut out = vec![0xa0; bytes];
@@ -366,9 +428,9 @@ fn the_limit_is_one_of_bits() {
 #[test]
 fn held_bits_follow_from_the_total_in_bits() {
     for variant in &VARIANTS {
-        for total in (0..80).chain(BIT_LIMIT - 40..=BIT_LIMIT) {
+        for total in (0..=2 * variant.block_bits).chain(BIT_LIMIT - 40..=BIT_LIMIT) {
             let count = total % variant.block_bits;
-            for bit in 0..40 {
+            for bit in 0..8 * HELD_BYTES {
                 let mut running = after(variant.number, total);
                 running.held[bit / 8] = 0x80 >> (bit % 8);
                 let status = running.finish().0;

@@ -1,16 +1,15 @@
-//! The sponge block by block: what its parts give must be what the whole
-//! message gives.
+//! The hash functions block by block: what their parts give must be what the
+//! whole message gives.
 
 mod generator;
 
 use generator::Generator;
 use wickslate_reference::bits::{pack, unpack, Order};
+use wickslate_reference::chain::{self, block_step, start_state};
 use wickslate_reference::padding::{block, block_count};
-use wickslate_reference::sponge::{
-    block_step, permute_state, read_block, squeeze, start_state, unpermute_state, xor_block,
-};
+use wickslate_reference::sponge::{permute_state, read_block, squeeze, unpermute_state, xor_block};
 use wickslate_reference::{
-    digest, end_state, image, unpermute, variant, Message, Padding, Variant, VARIANTS,
+    digest, end_state, image, sponges, unpermute, variant, Message, Padding, Variant, VARIANTS,
 };
 
 const SEED: u64 = 0x0005_2919_2abc_def1;
@@ -48,17 +47,34 @@ fn in_pieces(variant: &Variant, pieces: &[&[u8]]) -> Vec<bool> {
             held = rest;
         }
     }
-    held.push(true);
-    held.resize(variant.block_bits, false);
-    block_step(variant, &mut state, &held);
+    held.extend(closing(variant, 8 * pieces.concat().len()));
+    for block in held.chunks(variant.block_bits) {
+        block_step(variant, &mut state, block);
+    }
     state
+}
+
+/// What is put behind a message of so many bits: a 1 and zeros up to the end of
+/// a block. In Lesamnta-LW they end 64 bits behind the end of one, and the
+/// length follows.
+fn closing(variant: &Variant, bits: usize) -> Vec<bool> {
+    let mut closing = vec![true];
+    if variant.is_sponge() {
+        let end = (bits + 1).next_multiple_of(variant.block_bits);
+        closing.resize(end - bits, false);
+    } else {
+        let end = bits.next_multiple_of(variant.block_bits) + 64;
+        closing.resize(end - bits, false);
+        closing.extend(unpack(Order::HighestFirst, &(bits as u64).to_be_bytes()));
+    }
+    closing
 }
 
 #[test]
 fn pieces_lead_to_the_end_state_and_digest_of_the_whole() {
     let mut generator = Generator::new(SEED);
     for variant in &VARIANTS {
-        for length in 0..24 {
+        for length in 0..40 {
             let message = generator.bytes(length);
             let first = below(&mut generator, length + 1);
             let second = first + below(&mut generator, length - first + 1);
@@ -76,7 +92,7 @@ fn pieces_lead_to_the_end_state_and_digest_of_the_whole() {
             );
             assert_eq!(
                 digest(variant.number, &message),
-                Ok(pack(Order::HighestFirst, &squeeze(variant, &state))),
+                Ok(pack(Order::HighestFirst, &chain::digest(variant, &state))),
                 "{name}, {length} bytes cut at {first} and {second}"
             );
         }
@@ -99,7 +115,7 @@ fn difference_at(variant: &Variant, message: &[u8], place: usize, end: &[bool]) 
 #[test]
 fn every_block_comes_back_from_the_end_state() {
     let mut generator = Generator::new(SEED);
-    for variant in &VARIANTS {
+    for variant in sponges() {
         let message = generator.bytes(11);
         let count = block_count(variant, 8 * message.len());
         let end = after_blocks(variant, &message, count);
@@ -118,7 +134,7 @@ fn every_block_comes_back_from_the_end_state() {
 /// start.
 #[test]
 fn a_state_that_no_block_leads_to() {
-    let spongent_88 = variant(6).expect("a number from 1 to 10");
+    let spongent_88 = variant(6).expect("a number from 1 to 11");
     let mut state = vec![0; 11];
     state[1] = 0x01;
     let mut state = image::to_state(spongent_88, &state).expect("eleven bytes");
@@ -131,7 +147,7 @@ fn a_state_that_no_block_leads_to() {
 #[test]
 fn spongent_adds_message_bytes_to_state_bytes_in_order() {
     for number in [8, 9, 10] {
-        let variant = variant(number).expect("a number from 1 to 10");
+        let variant = variant(number).expect("a number from 1 to 11");
         let mut after = end_state(number, &[0xab]).expect("not refused");
         assert_eq!(unpermute(number, &mut after), 0);
         let mut expected = vec![0; variant.image_bytes()];
@@ -151,7 +167,7 @@ fn photon_adds_blocks_to_the_leftmost_bits() {
 #[test]
 fn start_states_end_in_the_sizes() {
     for (number, sizes) in [(1, [0x14, 0x14, 0x10]), (4, [0x38, 0x20, 0x20])] {
-        let variant = variant(number).expect("a number from 1 to 10");
+        let variant = variant(number).expect("a number from 1 to 11");
         let start = start_state(variant);
         let (zeros, last) = start.split_at(variant.state_bits - 24);
         assert!(!zeros.contains(&true));
@@ -163,7 +179,7 @@ fn start_states_end_in_the_sizes() {
 /// and 16 bits of a fifth.
 #[test]
 fn the_last_output_block_is_cut() {
-    let photon_196 = variant(3).expect("a number from 1 to 10");
+    let photon_196 = variant(3).expect("a number from 1 to 11");
     let mut state = after_blocks(photon_196, b"abc", 1);
     let digest = squeeze(photon_196, &state);
     assert_eq!(digest.len(), 160);
@@ -177,7 +193,7 @@ fn the_last_output_block_is_cut() {
 /// PHOTON-100 takes in 20 bits at a time but gives out 16.
 #[test]
 fn photon_100_gives_out_sixteen_bits_at_a_time() {
-    let photon_100 = variant(1).expect("a number from 1 to 10");
+    let photon_100 = variant(1).expect("a number from 1 to 11");
     let mut state = after_blocks(photon_100, b"abc", 2);
     let digest = squeeze(photon_100, &state);
     assert_eq!(digest.len(), 80);

@@ -1,12 +1,12 @@
-//! Tables 3 to 6 and 8 and Figures 2 to 6, typed from the standard, against
-//! what the rules generate.
+//! Tables 3 to 6 and 8, Figures 2 to 6 and the round constants of clause
+//! 6.2.5.3.2, typed from the standard, against what the rules generate.
 
 mod hexadecimal;
 
 use hexadecimal::bytes;
 use wickslate_reference::field::Field;
 use wickslate_reference::matrix::Matrix;
-use wickslate_reference::{lookup, photon, sbox};
+use wickslate_reference::{lesamnta, lookup, photon, sbox};
 
 const TABLE_3: &str = "
     1 3 7 14 13 11 6 12 9 2 5 10
@@ -102,6 +102,25 @@ const FIGURE_6: &str = "
     22 153 239 111 144 75
     150 203 210 121 36 167";
 
+/// As they are printed: one has seven digits.
+const ROUND_CONSTANTS: &str = "
+    a432337f 945e1f8f 92539a11 24b90062
+    6971c64c d6e3f449 2c2f0da9 33769295
+    eb506df2 708cebfe b83ab7bf 97df0f17
+    9223b802 7fa29140 0ff45228 01fe8a45
+    ed016ee8 1da02ddd ee8aba1b 46c4c223
+    53cd0d24 d1b46d24 c1fb4124 c3f2a4a4
+    c3b39814 c3bbb82 759191b0 0eb23236
+    b7fd6c86 a0d48750 141a90ea 6f65b45d
+    e0d2092b 470fd445 e5df4528 1cbbe8a5
+    eea9c2b4 c618f4d6 aee8345a 783be0cb
+    5412e979 3c712e0f 87567c21 2619bca4
+    df0efb14 c02c13e2 75e3643c d571a007
+    9a766de0 134ecdbc d9a41537 9becdb46
+    a556b1a8 14aad635 efabe566 abde566c
+    ceb6064d f4e87f69 286e7ccd e8337039
+    2bf51d27 85a6fa44 cb7913c8 196f2279";
+
 /// The rows of a table of decimal numbers.
 fn rows(table: &str) -> Vec<Vec<u8>> {
     let number = |word: &str| word.parse().expect("a number below 256");
@@ -172,4 +191,43 @@ fn inverse_substitutions_lead_back() {
             assert_eq!(usize::from(back[usize::from(entry)]), index);
         }
     }
+}
+
+/// The generator as the standard prints it, with the word that it adds.
+fn constant_generator() -> [u32; 64] {
+    let mut constants = [0; 64];
+    let mut c: u32 = 0xffff_ffff;
+    for i in 0..=189 {
+        c = if c & 1 == 1 {
+            (c >> 1) ^ 0xdbcd_cc80
+        } else {
+            c >> 1
+        };
+        if i % 3 == 0 {
+            constants[i / 3] = c;
+        }
+    }
+    constants
+}
+
+/// The register of the polynomial is the printed generator.
+#[test]
+fn the_polynomial_generates_what_the_printed_generator_does() {
+    assert_eq!(lesamnta::round_constants(), constant_generator());
+}
+
+/// All are the printed ones but C(25), of which a digit was lost in print.
+#[test]
+fn round_constants_are_the_printed_ones_but_one() {
+    let printed: Vec<&str> = ROUND_CONSTANTS.split_whitespace().collect();
+    let generated: Vec<String> = lesamnta::round_constants()
+        .iter()
+        .map(|constant| format!("{constant:08x}"))
+        .collect();
+    assert_eq!(printed.len(), generated.len());
+    let differing: Vec<(usize, &str, &str)> = (0..64)
+        .map(|r| (r, printed[r], generated[r].as_str()))
+        .filter(|(_, printed, generated)| printed != generated)
+        .collect();
+    assert_eq!(differing, [(25, "c3bbb82", "c3bbbf82")]);
 }

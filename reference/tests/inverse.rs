@@ -3,7 +3,7 @@
 mod generator;
 
 use generator::Generator;
-use wickslate_reference::{permute, unpermute, Variant, VARIANTS};
+use wickslate_reference::{permute, sponges, unpermute, Variant};
 
 const SEED: u64 = 0x2919_2005_1234_5678;
 const STATES: usize = 300;
@@ -21,7 +21,7 @@ fn random_image(generator: &mut Generator, variant: &Variant) -> Vec<u8> {
 /// expects the first to move the state and the second to bring it back.
 fn expect_undone(calls: [fn(u32, &mut [u8]) -> u8; 2]) {
     let mut generator = Generator::new(SEED);
-    for variant in &VARIANTS {
+    for variant in sponges() {
         for _ in 0..STATES {
             let before = random_image(&mut generator, variant);
             let mut image = before.clone();

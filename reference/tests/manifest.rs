@@ -17,6 +17,9 @@ const PHOTON_144: &str = "A1AA703C545E0C2DC1AEEC32AF3CB3E3";
 const SPONGENT: &[u8] = b"Sponge + Present = Spongent";
 const SPONGENT_88: &str = "69971BF96DEF95BFC46822";
 
+const LESAMNTA: &[u8] = b"abc";
+const LESAMNTA_LW: &str = "AB32CA451748255E3BF0E34A5AD600F0CE7660ECEA2FE083BA54139B770766D0";
+
 /// A record, with zeros behind its digest.
 fn record(axis: u16, variant: u8, digest: &str) -> Vec<u8> {
     let mut record = [&axis.to_be_bytes()[..], &[variant], &bytes(digest)].concat();
@@ -76,7 +79,7 @@ fn lists_in_whole_records_pass() {
 #[test]
 fn every_variant_byte() {
     for variant in 0..=255 {
-        let known = (1..=10).contains(&variant);
+        let known = (1..=11).contains(&variant);
         let expected = if known { Ok(()) } else { Err(13) };
         assert_eq!(check(&record(7, variant, "")), expected, "{variant}");
     }
@@ -99,7 +102,7 @@ fn every_byte_behind_a_digest() {
 /// every record is wrong too, or none rises.
 #[test]
 fn whole_records_come_first() {
-    for (record, refusal) in [(record(7, 11, ""), 13), (record(7, 1, ""), 14)] {
+    for (record, refusal) in [(record(7, 12, ""), 13), (record(7, 1, ""), 14)] {
         let wrong = record.repeat(513);
         assert_eq!(check(&wrong), Err(12));
         assert_eq!(check(&wrong[..17_919]), Err(12));
@@ -250,6 +253,14 @@ fn tables_are_told_apart() {
 fn a_table_that_comes_twice() {
     let twice = table(258, SPONGENT).repeat(2);
     assert_eq!(counts(&three(), &twice[..]), [3, 2, 2, 0, 2, 0]);
+}
+
+/// A digest that fills its record.
+#[test]
+fn tables_by_lesamnta_lw() {
+    let list = [three(), record(600, 11, LESAMNTA_LW)].concat();
+    let stream = [table(600, LESAMNTA), table(600, b""), table(7, PHOTON)].concat();
+    assert_eq!(counts(&list, &stream[..]), [4, 3, 2, 1, 2, 0]);
 }
 
 /// The right digest under another variant of equally many bytes.

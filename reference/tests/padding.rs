@@ -5,8 +5,8 @@ mod hexadecimal;
 
 use hexadecimal::bytes;
 use wickslate_reference::bits::{pack, Order};
-use wickslate_reference::padding::{block, block_count};
-use wickslate_reference::{digest_with, padding_table, variant, Message, Padding};
+use wickslate_reference::padding::{added, block, block_count};
+use wickslate_reference::{digest_with, padding_table, variant, Message, Padding, BIT_LIMIT};
 
 /// Clause, variant and digest of the SPONGENT examples, all of one message.
 const ANNEX_B_2: [(&str, u32, &str); 5] = [
@@ -55,16 +55,21 @@ fn the_printed_table_has_both_digests_of_each_example() {
     assert_eq!(lines.next(), None);
 }
 
+/// The blocks of a message of whole bytes in hexadecimal.
+fn blocks(number: u32, padding: Padding, message: &[u8]) -> Vec<String> {
+    blocks_of(number, padding, Message::whole(message))
+}
+
 /// The blocks of a message in hexadecimal; a block of PHOTON may end in the
 /// middle of a byte, and no digit is printed for what the byte has left.
-fn blocks(number: u32, padding: Padding, message: &[u8]) -> Vec<String> {
-    let variant = variant(number).expect("a number from 1 to 10");
+fn blocks_of(number: u32, padding: Padding, message: Message) -> Vec<String> {
+    let variant = variant(number).expect("a number from 1 to 11");
     let digits = |bits: &[bool]| -> String {
         let bytes = pack(Order::HighestFirst, bits);
         let all: String = bytes.iter().map(|byte| format!("{byte:02X}")).collect();
         all[..bits.len() / 4].to_string()
     };
-    let message = Message::whole(message).bits(variant.family);
+    let message = message.bits(variant.family);
     (0..block_count(variant, message.len()))
         .map(|index| digits(&block(variant, padding, &message, index)))
         .collect()
@@ -94,6 +99,62 @@ fn known_blocks_of_the_other_reading() {
     assert_eq!(lowest(6, &[]), ["01"]);
     assert_eq!(lowest(8, &[0xab]), ["AB01"]);
     assert_eq!(lowest(8, &[0xab, 0xcd]), ["ABCD", "0100"]);
-    // PHOTON has no other reading.
+    // The other families have no other reading.
     assert_eq!(lowest(1, &[0xab, 0xcd]), ["ABCD8"]);
+    assert_eq!(
+        lowest(11, &[0xab, 0xcd]),
+        blocks(11, Padding::NextBit, &[0xab, 0xcd])
+    );
+}
+
+/// So many bits, all of them 1, and bits 1 behind them that do not count.
+fn ones(bits: usize) -> Vec<String> {
+    let bytes = vec![0xff; bits.div_ceil(8)];
+    let message = match bits {
+        0 => Message::whole(&bytes),
+        _ => Message::ending(&bytes, (bits as u32 - 1) % 8 + 1),
+    };
+    blocks_of(11, Padding::NextBit, message)
+}
+
+/// The last block of Lesamnta-LW ends in the number of bits. The 1 stands there
+/// too if the message fills its blocks, and otherwise in the block before.
+#[test]
+fn lesamnta_lw_ends_in_the_length() {
+    const FULL: &str = "FFFFFFFFFFFFFFFFFFFFFFFFFFFFFFFF";
+    const TWO_ONES: &str = "C0000000000000000000000000000000";
+    let expected: [(usize, &[&str]); 8] = [
+        (0, &["80000000000000000000000000000000"]),
+        (1, &[TWO_ONES, "00000000000000000000000000000001"]),
+        (127, &[FULL, "0000000000000000000000000000007F"]),
+        (128, &[FULL, "80000000000000000000000000000080"]),
+        (129, &[FULL, TWO_ONES, "00000000000000000000000000000081"]),
+        (255, &[FULL, FULL, "000000000000000000000000000000FF"]),
+        (256, &[FULL, FULL, "80000000000000000000000000000100"]),
+        (
+            257,
+            &[FULL, FULL, TWO_ONES, "00000000000000000000000000000101"],
+        ),
+    ];
+    for (bits, blocks) in expected {
+        assert_eq!(ones(bits), blocks, "{bits} bits");
+    }
+}
+
+/// A 1, k + 63 zeros and 64 bits, with the least k that fills blocks of 128 bits
+/// behind the message.
+#[test]
+fn lesamnta_lw_adds_what_its_rule_says() {
+    let lesamnta_lw = variant(11).expect("a number from 1 to 11");
+    for bits in (0..1000).chain(BIT_LIMIT - 300..=BIT_LIMIT) {
+        let k = (0..128)
+            .find(|k| (bits + k) % 128 == 0)
+            .expect("one of 128");
+        let mut rule = vec![true];
+        rule.resize(1 + k + 63, false);
+        rule.extend((0..64).rev().map(|place| bits >> place & 1 == 1));
+        assert_eq!(added(lesamnta_lw, Padding::NextBit, bits), rule, "{bits}");
+        let all = 128 * block_count(lesamnta_lw, bits);
+        assert_eq!(bits + rule.len(), all, "{bits}");
+    }
 }

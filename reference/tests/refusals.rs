@@ -4,8 +4,11 @@ use wickslate_reference::{
     digest, digest_with, end_state, message_check, permute, unpermute, Message, Padding, VARIANTS,
 };
 
+/// Lesamnta-LW, the last of [`SIZES`] and no sponge.
+const LESAMNTA_LW: u32 = 11;
+
 /// Number, name, image bytes and digest bytes of each variant.
-const SIZES: [(u32, &str, usize, usize); 10] = [
+const SIZES: [(u32, &str, usize, usize); 11] = [
     (1, "photon-100", 13, 10),
     (2, "photon-144", 18, 16),
     (3, "photon-196", 25, 20),
@@ -16,9 +19,19 @@ const SIZES: [(u32, &str, usize, usize); 10] = [
     (8, "spongent-176", 22, 20),
     (9, "spongent-240", 30, 28),
     (10, "spongent-272", 34, 32),
+    (LESAMNTA_LW, "lesamnta-lw", 32, 32),
 ];
 
-const UNKNOWN: [u32; 6] = [0, 11, 255, 256 + 1, (1 << 24) + 10, u32::MAX];
+const UNKNOWN: [u32; 7] = [0, 12, 255, 256 + 1, 256 + 11, (1 << 24) + 10, u32::MAX];
+
+/// The sizes of the variants that are sponges.
+fn sponge_sizes() -> impl Iterator<Item = (u32, &'static str, usize, usize)> {
+    let sponges = SIZES
+        .into_iter()
+        .filter(|&(number, ..)| number != LESAMNTA_LW);
+    assert_eq!(sponges.clone().count(), 10);
+    sponges
+}
 
 /// Makes both calls and expects the same refusal and the same bytes after.
 fn expect_refused(number: u32, image: &[u8], refusal: u8) {
@@ -48,9 +61,19 @@ fn unknown_variants_are_refused_before_images_are_looked_at() {
     }
 }
 
+/// Whatever image comes with it.
+#[test]
+fn lesamnta_lw_has_no_permutation() {
+    for length in 0..=40 {
+        for byte in [0x00, 0xa0, 0xff] {
+            expect_refused(LESAMNTA_LW, &vec![byte; length], 17);
+        }
+    }
+}
+
 #[test]
 fn images_of_a_wrong_length_are_refused() {
-    for (number, _, bytes, _) in SIZES {
+    for (number, _, bytes, _) in sponge_sizes() {
         for length in [0, bytes - 1, bytes + 1] {
             // All zeros too, so that only the length can be at fault.
             expect_refused(number, &vec![0xa0; length], 6);
@@ -61,7 +84,7 @@ fn images_of_a_wrong_length_are_refused() {
 
 #[test]
 fn a_spare_nibble_must_be_zero() {
-    for (number, _, bytes, _) in SIZES {
+    for (number, _, bytes, _) in sponge_sizes() {
         for spare in 1..16 {
             let mut image = vec![0xa0; bytes];
             image[bytes - 1] |= spare;
@@ -77,7 +100,7 @@ fn a_spare_nibble_must_be_zero() {
 
 #[test]
 fn images_of_the_right_length_are_permuted() {
-    for (number, _, bytes, _) in SIZES {
+    for (number, _, bytes, _) in sponge_sizes() {
         for call in [permute, unpermute] {
             let mut image = vec![0xa0; bytes];
             assert_eq!(call(number, &mut image), 0, "variant {number}");

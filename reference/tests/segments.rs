@@ -2,7 +2,7 @@
 //! apart.
 
 use wickslate_reference::segments::{digest_list, message};
-use wickslate_reference::{digest, message_check, Message, MESSAGE_LIMIT};
+use wickslate_reference::{digest, message_check, Message, MESSAGE_LIMIT, VARIANTS};
 
 const SIX: &[u8] = &[0, 1, 2, 3, 4, 5];
 
@@ -53,9 +53,12 @@ fn a_moved_border_shows() {
 fn the_result_is_that_of_the_message() {
     let list = list(&[(1, 1), (2, 4)]);
     let message = message(&list, SIX).expect("a sound list");
-    let mut out = [0; 10];
-    assert_eq!(digest_list(1, &list, SIX, false, &mut out), Ok(()));
-    assert_eq!(digest(1, &message).as_deref(), Ok(&out[..]));
+    for variant in &VARIANTS {
+        let number = variant.number;
+        let mut out = vec![0; variant.digest_bytes()];
+        assert_eq!(digest_list(number, &list, SIX, false, &mut out), Ok(()));
+        assert_eq!(digest(number, &message), Ok(out), "{}", variant.name);
+    }
 }
 
 /// The limit counts the two bytes and the list.

@@ -73,6 +73,40 @@ fn lines_begin_with_annex_b() {
     }
 }
 
+/// The values of Annex B.3, and the two steps that lead to its hash.
+#[test]
+fn lines_have_annex_b_3() {
+    let start = "00000256".repeat(4);
+    let hash = "ab32ca451748255e3bf0e34a5ad600f0ce7660ecea2fe083ba54139b770766d0";
+    let lines = vector_lines();
+    for line in [
+        "q 11 a4323129 0 95f80b6e",
+        "g 11 0000025600000256+00000256 0 a58d6363636326c8",
+        &format!("digest 11 616263 0 {hash}"),
+        &format!("end-state 11 616263 0 {hash}"),
+        &format!("pieces 11 616263 0 {hash}"),
+    ] {
+        assert!(lines.lines().any(|printed| printed == line), "{line}");
+    }
+    let calls: Vec<&str> = lines
+        .lines()
+        .filter(|line| line.starts_with("encrypt ") || line.starts_with("decrypt "))
+        .collect();
+    let [first, back, second, _] = calls[..] else {
+        panic!("two steps and their inverses: {calls:?}");
+    };
+    let block = format!("61626380{}", "0".repeat(24));
+    let (_, value) = first.rsplit_once(' ').expect("five words");
+    assert_eq!(
+        first,
+        format!("encrypt 11 {start}+{block}{start} 0 {value}")
+    );
+    assert_eq!(back, format!("decrypt 11 {start}+{value} 0 {block}{start}"));
+    let (key, half) = value.split_at(32);
+    let length = format!("{:032x}", 24);
+    assert_eq!(second, format!("encrypt 11 {key}+{length}{half} 0 {hash}"));
+}
+
 /// Every operation has a line for each of its refusals but for a message
 /// that is too long, which a program without a heap cannot hold, and for a
 /// report with a wrong record, which no caller goes on with.
@@ -86,9 +120,13 @@ fn every_answer_has_a_line() {
             words[0] == operation && number == Some(refusal.to_string().as_str())
         })
     };
-    let answers: [(&str, &[u8]); 23] = [
-        ("permute", &[0, 1, 6]),
-        ("unpermute", &[0, 1, 6]),
+    let answers: [(&str, &[u8]); 27] = [
+        ("permute", &[0, 1, 17, 6]),
+        ("unpermute", &[0, 1, 17, 6]),
+        ("q", &[0]),
+        ("g", &[0]),
+        ("encrypt", &[0]),
+        ("decrypt", &[0]),
         ("round", &[0]),
         ("unround", &[0]),
         ("digest", &[0, 1, 5]),
@@ -101,11 +139,11 @@ fn every_answer_has_a_line() {
         ("read-end-state", &[0, 2, 3, 5]),
         ("segment", &[0, 9, 7, 10, 11]),
         ("list-digest", &[0, 1, 9, 10, 11, 5]),
-        ("recover", &[0, 1, 7, 6, 5, 8]),
+        ("recover", &[0, 1, 7, 17, 6, 5, 8]),
         ("digest-bits", &[0, 1, 15, 5]),
         ("end-state-bits", &[0, 1, 15, 5]),
         ("pieces-bits", &[0]),
-        ("recover-bits", &[0, 1, 15, 7, 6, 5, 8]),
+        ("recover-bits", &[0, 1, 15, 7, 17, 6, 5, 8]),
         ("update-bits", &[0, 2, 3, 15, 16, 4]),
         ("check-manifest", &[0, 12, 13, 14]),
         ("report", &[0, 12, 14]),
@@ -134,7 +172,7 @@ fn refused_calls_leave_their_bytes() {
             "update" | "update-bits" => assert_eq!(Some(output), input.split('+').next()),
             "start" => assert_eq!(
                 output,
-                format!("0:0:0:{}:{}", "00".repeat(36), "00".repeat(5))
+                format!("0:0:0:{}:{}", "00".repeat(36), "00".repeat(16))
             ),
             "segment" => assert_eq!(output, "-"),
             "report" => assert_eq!(output, "0:0:0:0:0:0"),

@@ -27,7 +27,7 @@ most memory that it had. Times are the processor's, with what the system does fo
 the program, and the best of N repetitions, 3 if not given. A repetition takes
 some seconds.";
 
-/// The variant that takes the least time for a byte.
+/// The sponge that takes the least time for a byte.
 const FAST: &Variant = &VARIANTS[4];
 
 /// Three axes that are listed, behind all others, and one that is not. The table

@@ -1,13 +1,13 @@
 //! Messages that end inside a byte. The bit number stands behind the bytes:
-//! b7/3 are three bits of one byte, in PHOTON 101 and in SPONGENT 111. Outputs
-//! hold bytes a0 before.
+//! b7/3 are three bits of one byte, in SPONGENT 111 and in the others 101.
+//! Outputs hold bytes a0 before.
 
 use std::fmt::Write;
 
 use super::lost::{self, LONG, MESSAGE};
 use super::running::{add_finish, add_read, add_start, add_update, near, word};
 use super::whole::add_whole;
-use super::{hexadecimal, image_hexadecimal, name, result_hexadecimal, size};
+use super::{hexadecimal, image_hexadecimal, name, result_hexadecimal, size, LESAMNTA_LW};
 use crate::recover::recover_bits;
 use crate::running::{start, write_front, Running};
 use crate::variants::{Variant, VARIANTS};
@@ -144,6 +144,9 @@ fn add_refused(lines: &mut String) {
     add_recover(lines, 1, MESSAGE, 3, 1, &image[..12], 2);
     add_recover(lines, 1, MESSAGE, 3, 1, &image, 2);
     add_recover(lines, 6, b"\x00", 3, 0, &lost::unreached(), 1);
+    let image = lost::end_of(LESAMNTA_LW, MESSAGE);
+    add_recover(lines, LESAMNTA_LW, MESSAGE, 3, 2, &image[..31], 15);
+    add_recover(lines, LESAMNTA_LW, MESSAGE, 3, 0, &image[..31], 15);
 }
 
 fn add_update_bits(lines: &mut String, running: Running, piece: &[u8], bits: u32) -> Running {

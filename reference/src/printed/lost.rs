@@ -1,9 +1,10 @@
-//! The lost block: the known value, a block of a message for each variant,
-//! and a call for each other way to be refused. Outputs hold bytes a0 before.
+//! The lost block: the known value, a block of a message for each variant, the
+//! places of Lesamnta-LW, and a call for each other way to be refused. Outputs
+//! hold bytes a0 before.
 
 use std::fmt::Write;
 
-use super::{hexadecimal, image_hexadecimal};
+use super::{hexadecimal, image_hexadecimal, LESAMNTA_LW};
 use crate::recover::recover;
 use crate::variants::VARIANTS;
 use crate::{end_state, permute};
@@ -11,7 +12,7 @@ use crate::{end_state, permute};
 pub const MESSAGE: &[u8] = b"Bar 7 hold.";
 
 /// An output that is long enough for any block.
-pub const LONG: usize = 6;
+pub const LONG: usize = 17;
 
 pub fn add(lines: &mut String) {
     let unreached = unreached();
@@ -27,6 +28,22 @@ pub fn add(lines: &mut String) {
     add_line(lines, 1, MESSAGE, 5, &image, LONG);
     add_line(lines, 1, MESSAGE, 1, &image[..12], LONG);
     add_line(lines, 0, MESSAGE, 1, &image, LONG);
+    add_last_place(lines);
+}
+
+/// Lesamnta-LW's block is looked for at the last place alone, which is 1 here.
+/// What is wrong first is told; no block leads to bytes a0.
+fn add_last_place(lines: &mut String) {
+    let image = end_of(LESAMNTA_LW, MESSAGE);
+    let mut add = |place, image: &[u8], bytes| {
+        add_line(lines, LESAMNTA_LW, MESSAGE, place, image, bytes);
+    };
+    add(2, &image[..31], LONG);
+    add(0, &image, LONG);
+    add(0, &image[..31], 15);
+    add(1, &image[..31], 15);
+    add(1, &image, 15);
+    add(1, &[0xa0; 32], LONG);
 }
 
 pub fn end_of(number: u32, message: &[u8]) -> Vec<u8> {

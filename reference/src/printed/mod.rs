@@ -2,6 +2,7 @@
 //! the form `OP VARIANT INPUT STATUS OUTPUT`.
 
 mod bits;
+mod cipher;
 mod lists;
 mod lost;
 mod permutations;
@@ -25,11 +26,18 @@ const PHOTON_MESSAGE: &[u8] = b"The PHOTON Lightweight Hash Functions Family";
 /// The message of the examples of Annex B.2.
 const SPONGENT_MESSAGE: &[u8] = b"Sponge + Present = Spongent";
 
+/// The message of the example of Annex B.3.
+const LESAMNTA_MESSAGE: &[u8] = b"abc";
+
+/// Lesamnta-LW.
+const LESAMNTA_LW: u32 = 11;
+
 /// Every line of the program `vectors`.
 pub fn vector_lines() -> String {
     let mut lines = String::new();
     permutations::add(&mut lines);
     rounds::add(&mut lines);
+    cipher::add(&mut lines);
     whole::add(&mut lines);
     running::add(&mut lines);
     lists::add(&mut lines);
@@ -66,6 +74,7 @@ fn annex_b_message(variant: &Variant) -> &'static [u8] {
     match variant.family {
         Family::Photon => PHOTON_MESSAGE,
         Family::Spongent => SPONGENT_MESSAGE,
+        Family::LesamntaLw => LESAMNTA_MESSAGE,
     }
 }
 

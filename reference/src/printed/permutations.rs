@@ -3,9 +3,9 @@
 
 use std::fmt::Write;
 
-use super::{image_hexadecimal, SPONGENT_MESSAGE};
+use super::{image_hexadecimal, LESAMNTA_LW, SPONGENT_MESSAGE};
 use crate::bits::{unpack, Order};
-use crate::variants::{Family, Variant, VARIANTS};
+use crate::variants::{sponges, Family, Variant};
 use crate::{image, permute, sponge, unpermute};
 
 /// A call that changes an image in place, with its name.
@@ -16,7 +16,7 @@ const UNPERMUTE: Operation = ("unpermute", unpermute);
 
 /// A line for each call of either permutation.
 pub fn add(lines: &mut String) {
-    for variant in &VARIANTS {
+    for variant in sponges() {
         let before = annex_b_image(variant);
         let after = add_line(lines, PERMUTE, variant.number, &before);
         add_line(lines, UNPERMUTE, variant.number, &after);
@@ -39,11 +39,18 @@ pub fn annex_b_image(variant: &Variant) -> Vec<u8> {
 }
 
 /// Variants and images that both permutations refuse: no variant, a byte too
-/// few, and a spare nibble that is not zero.
-fn refused_calls() -> [(u32, Vec<u8>); 3] {
+/// few, a spare nibble that is not zero, and no sponge, also with a byte too
+/// few.
+fn refused_calls() -> [(u32, Vec<u8>); 5] {
     let mut spare = vec![0xa0; 13];
     spare[12] = 0xa1;
-    [(0, vec![0xa0; 13]), (1, vec![0xa0; 12]), (1, spare)]
+    [
+        (0, vec![0xa0; 13]),
+        (1, vec![0xa0; 12]),
+        (1, spare),
+        (LESAMNTA_LW, vec![0xa0; 32]),
+        (LESAMNTA_LW, vec![0xa0; 31]),
+    ]
 }
 
 /// Makes the call on a copy of the image, adds its line, and gives the bytes

@@ -3,7 +3,7 @@
 
 use std::fmt::Write;
 
-use super::hexadecimal;
+use super::{hexadecimal, LESAMNTA_LW};
 use crate::digest;
 use crate::manifest::{check, report, Counts, RECORD_BYTES};
 
@@ -16,6 +16,8 @@ pub fn add(lines: &mut String) {
     for list in [&list, cut, &list[1..36]] {
         add_check(lines, list);
     }
+    // A digest of Lesamnta-LW leaves no byte behind it.
+    add_check(lines, &record(7, LESAMNTA_LW as u8));
     let row = row();
     let part = |from: usize, to: usize| &row[RECORD_BYTES * from..RECORD_BYTES * to];
     // Falling; an axis twice, and once more in a wrong record; a wrong record
@@ -47,7 +49,7 @@ pub fn add(lines: &mut String) {
 fn row() -> Vec<u8> {
     let [low, high] = [record(7, 1), record(258, 6)];
     let mut wrong = low.clone();
-    wrong[2] = 11;
+    wrong[2] = 12;
     [&low[..], &high, &low, &low, &wrong, &high, &low].concat()
 }
 

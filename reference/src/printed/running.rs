@@ -1,9 +1,10 @@
 //! The running hash, of PHOTON-100: the wrong stages, where a message becomes
-//! too long, and one that is not well formed.
+//! too long, and one that is not well formed; and of Lesamnta-LW, which holds
+//! the longest blocks.
 
 use std::fmt::Write;
 
-use super::{hexadecimal, name, result_hexadecimal};
+use super::{hexadecimal, name, result_hexadecimal, LESAMNTA_LW};
 use crate::running::{start, Running};
 use crate::BIT_LIMIT;
 
@@ -15,6 +16,7 @@ pub fn add(lines: &mut String) {
     add_finish(lines, none);
     add_read(lines, none, false, 36);
     add_read(lines, none, true, 36);
+    add_longest_blocks(lines);
 }
 
 /// A running hash in one word.
@@ -80,7 +82,7 @@ pub fn near() -> Running {
     let mut near = start(1).1;
     near.total = BIT_LIMIT as u32 - 8;
     near.state[..13].fill(0xa0);
-    near.held = [0xa5, 0xa0, 0, 0, 0];
+    near.held[..2].copy_from_slice(&[0xa5, 0xa0]);
     near
 }
 
@@ -94,4 +96,18 @@ fn add_limit(lines: &mut String) {
     for (image, bytes) in [(false, 10), (true, 13), (false, 9), (true, 12)] {
         add_read(lines, closed, image, bytes);
     }
+}
+
+/// Lesamnta-LW holds 15 bytes, then a block is full and a byte behind it, and
+/// two blocks close the message. After 16 bytes one closes it.
+fn add_longest_blocks(lines: &mut String) {
+    let message = b"Bar 14, 6.20 m, 0";
+    let begun = add_start(lines, LESAMNTA_LW);
+    let held = add_update(lines, begun, &message[..15]);
+    let open = add_update(lines, held, &message[15..]);
+    let closed = add_finish(lines, open);
+    add_read(lines, closed, false, 32);
+    add_read(lines, closed, true, 32);
+    let full = add_update(lines, held, &message[15..16]);
+    add_finish(lines, full);
 }

@@ -4,7 +4,7 @@
 
 use std::fmt::Write;
 
-use super::{annex_b_message, hexadecimal, name, result_hexadecimal, size};
+use super::{annex_b_message, hexadecimal, name, result_hexadecimal, size, LESAMNTA_LW};
 use crate::running::{start, write_front};
 use crate::variants::{Variant, VARIANTS};
 use crate::{digest, end_state};
@@ -18,6 +18,7 @@ pub fn add(lines: &mut String) {
         add_pieces(lines, variant, message);
     }
     add_whole(lines, false, 1, b"", 10);
+    add_whole(lines, false, LESAMNTA_LW, b"", 32);
     // Two bytes more, which stay; a byte too few; no variant.
     for (image, number, bytes) in [
         (false, 1, 12),
