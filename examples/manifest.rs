@@ -39,8 +39,8 @@ file cannot be read or written; 2, wrong arguments.
 const RECORD_BYTES: usize = 35;
 const MOST_RECORDS: usize = 512;
 
-/// The name and the digest bytes of variants 1 to 10.
-const VARIANTS: [(&str, usize); 10] = [
+/// The name and the digest bytes of variants 1 to 11.
+const VARIANTS: [(&str, usize); 11] = [
     ("photon-100", 10),
     ("photon-144", 16),
     ("photon-196", 20),
@@ -51,6 +51,7 @@ const VARIANTS: [(&str, usize); 10] = [
     ("spongent-176", 20),
     ("spongent-240", 28),
     ("spongent-272", 32),
+    ("lesamnta-lw", 32),
 ];
 
 /// The records of a text by axis, so that they come out rising, each with the

@@ -1,14 +1,15 @@
 /*
- * Wickslate: the ten PHOTON and SPONGENT hash functions of ISO/IEC 29192-5.
+ * Wickslate: the hash functions of ISO/IEC 29192-5: five of PHOTON, five of
+ * SPONGENT, and Lesamnta-LW with its block cipher.
  *
  * C99, C11 and C++. Link with libwickslate.a, which `rt staticlib wickslate`
  * writes to target/staticlib, for x86-64. The archive keeps nothing between
  * calls, uses no heap and needs only memcpy and memset from outside; calls on
  * different memory can run at the same time.
  *
- * THE ANSWER. Every function answers with WICKSLATE_DONE, which is 0, or with
- * one refusal: its number in the low byte and, for 10 and 11, the number of an
- * entry above it. WICKSLATE_NUMBER and WICKSLATE_ENTRY take an answer apart.
+ * THE ANSWER. Every function but the two of the block cipher, which are never
+ * refused, answers with WICKSLATE_DONE, which is 0, or with one refusal: its
+ * number in the low byte and, for 10 and 11, the number of an entry above it. WICKSLATE_NUMBER and WICKSLATE_ENTRY take an answer apart.
  * The refusals listed for a function are checked in the order of the list, and
  * the first that holds is the answer. A refused call leaves all lent bytes and
  * numbers, and every field of a lent running hash or cursor, as they were; it
@@ -17,12 +18,12 @@
  * BITS. A message is a string of up to 134,217,720 bits. The functions whose
  * names end in _bits take one that may end inside a byte: behind the bytes
  * comes a bit number, how many bits of the last byte count, 1 to 8. They
- * are its high bits for PHOTON and its low bits for SPONGENT, and the highest
- * of them comes first in the string. Its other bits change nothing, and the
+ * are its low bits for SPONGENT and its high bits for PHOTON and Lesamnta-LW,
+ * and the highest of them comes first in the string. Its other bits change nothing, and the
  * bytes before it count whole, each from its high bit on. So the eleven bits
  * 1011 0110 011 are lent as
- *     0xb6, 0x60 and the bit number 3 for PHOTON:   1011 0110  011. ....
- *     0xb6, 0x03 and the bit number 3 for SPONGENT: 1011 0110  .... .011
+ *     0xb6, 0x60 and the bit number 3 for the others: 1011 0110  011. ....
+ *     0xb6, 0x03 and the bit number 3 for SPONGENT:   1011 0110  .... .011
  * with 0 or 1 wherever a dot is. The padding's 1 is the next bit of the string.
  * To the functions without a bit number all bits count.
  *
@@ -71,6 +72,7 @@
 #define WICKSLATE_SPONGENT_176 8
 #define WICKSLATE_SPONGENT_240 9
 #define WICKSLATE_SPONGENT_272 10
+#define WICKSLATE_LESAMNTA_LW 11
 
 /* ---- Answers ----------------------------------------------------------- */
 
@@ -82,7 +84,7 @@
 #define WICKSLATE_ENTRY(answer) ((uint32_t)(answer) >> 8)
 
 #define WICKSLATE_DONE 0
-#define WICKSLATE_UNKNOWN_VARIANT 1  /* the variant is not 1 to 10 */
+#define WICKSLATE_UNKNOWN_VARIANT 1  /* the variant is not 1 to 11 */
 #define WICKSLATE_MALFORMED 2        /* the running hash is not well formed */
 #define WICKSLATE_WRONG_STAGE 3      /* it is closed, or for a read still open */
 #define WICKSLATE_TOO_LONG 4         /* more than 134,217,720 message bits */
@@ -98,6 +100,7 @@
 #define WICKSLATE_NOT_RISING 14      /* axis number not above the one before */
 #define WICKSLATE_BAD_BIT_NUMBER 15  /* not 1 to 8, or given with no bytes */
 #define WICKSLATE_INSIDE_BYTE 16     /* the last piece ended inside a byte */
+#define WICKSLATE_NOT_SPONGE 17      /* Lesamnta-LW, where only a sponge will do */
 
 /* ---- Sizes in bytes ---------------------------------------------------- */
 
@@ -112,6 +115,7 @@
 #define WICKSLATE_SPONGENT_176_DIGEST_BYTES 20
 #define WICKSLATE_SPONGENT_240_DIGEST_BYTES 28
 #define WICKSLATE_SPONGENT_272_DIGEST_BYTES 32
+#define WICKSLATE_LESAMNTA_LW_DIGEST_BYTES 32
 #define WICKSLATE_MOST_DIGEST_BYTES 32
 
 /*
@@ -128,6 +132,7 @@
 #define WICKSLATE_SPONGENT_176_IMAGE_BYTES 22
 #define WICKSLATE_SPONGENT_240_IMAGE_BYTES 30
 #define WICKSLATE_SPONGENT_272_IMAGE_BYTES 34
+#define WICKSLATE_LESAMNTA_LW_IMAGE_BYTES 32
 #define WICKSLATE_MOST_IMAGE_BYTES 36
 
 /*
@@ -145,7 +150,12 @@
 #define WICKSLATE_SPONGENT_176_BLOCK_BYTES 2
 #define WICKSLATE_SPONGENT_240_BLOCK_BYTES 2
 #define WICKSLATE_SPONGENT_272_BLOCK_BYTES 2
-#define WICKSLATE_MOST_BLOCK_BYTES 5
+#define WICKSLATE_LESAMNTA_LW_BLOCK_BYTES 16
+#define WICKSLATE_MOST_BLOCK_BYTES 16
+
+/* A key and a state of Lesamnta-LW's block cipher. */
+#define WICKSLATE_LESAMNTA_LW_KEY_BYTES 16
+#define WICKSLATE_LESAMNTA_LW_STATE_BYTES 32
 
 /*
  * The longest message, in bytes and in bits; the longest segment list, and the
@@ -168,27 +178,27 @@
 #define WICKSLATE_CLOSED 1
 
 /*
- * A message taken in pieces. Any 48 bytes may be lent as one: what is not
- * well formed is refused with 2. Well formed means: the variant is 1 to 10,
+ * A message taken in pieces. Any 60 bytes may be lent as one: what is not
+ * well formed is refused with 2. Well formed means: the variant is 1 to 11,
  * the stage open or closed, the total at most 134,217,720 bits, the state's
  * bits past the variant's state zero, the held bits past those of a
  * part-filled block zero, and none held when closed. A part-filled block has
  * the bits that the total leaves over whole blocks; they are held from the
- * high bit of the first byte on, in both families.
+ * high bit of the first byte on, in every family.
  *
  * It can be copied, stored and brought back; calls go on from what it holds.
- * One that was stored by a version whose total counted bytes cannot be told
- * apart, and would go on wrongly: finish or drop those first.
- * The byte behind the fields means nothing and is outside the proof. No call
- * looks at it; one that may write `h` may put anything there, even what lay on
- * the stack: send or store the fields, or clear that byte first.
+ * One that was stored by an earlier version has another size, 48 bytes, and
+ * its total may count bytes: finish or drop those first.
+ * The two bytes behind the fields mean nothing and are outside the proof. No
+ * call looks at them; one that may write `h` may put anything there, even what
+ * lay on the stack: send or store the fields, or clear those bytes first.
  */
 typedef struct wickslate_hasher {
     uint32_t total;    /* the message bits taken so far */
-    uint8_t variant;   /* 1 to 10 */
+    uint8_t variant;   /* 1 to 11 */
     uint8_t stage;     /* WICKSLATE_OPEN or WICKSLATE_CLOSED */
     uint8_t state[36]; /* the state's image, and zeros */
-    uint8_t held[5];   /* the bits that fill no block yet, and zeros */
+    uint8_t held[16];  /* the bits that fill no block yet, and zeros */
 } wickslate_hasher;
 
 #if defined(__cplusplus) && __cplusplus >= 201103L
@@ -199,7 +209,7 @@ typedef struct wickslate_hasher {
 #define WICKSLATE_ASSERT(name, condition) typedef char wickslate_assert_##name[(condition) ? 1 : -1]
 #endif
 
-WICKSLATE_ASSERT(size_of_hasher, sizeof(wickslate_hasher) == 48);
+WICKSLATE_ASSERT(size_of_hasher, sizeof(wickslate_hasher) == 60);
 WICKSLATE_ASSERT(offset_of_total, offsetof(wickslate_hasher, total) == 0);
 WICKSLATE_ASSERT(offset_of_variant, offsetof(wickslate_hasher, variant) == 4);
 WICKSLATE_ASSERT(offset_of_stage, offsetof(wickslate_hasher, stage) == 5);
@@ -225,8 +235,10 @@ WICKSLATE_ASSERT(offset_of_next, offsetof(wickslate_cursor, next) == 16);
 /* gcc and clang warn of an answer that is not looked at, and of a null. */
 #if defined(__GNUC__)
 #define WICKSLATE_CALL __attribute__((warn_unused_result, nonnull))
+#define WICKSLATE_CALL_VOID __attribute__((nonnull))
 #else
 #define WICKSLATE_CALL
+#define WICKSLATE_CALL_VOID
 #endif
 
 #ifdef __cplusplus
@@ -263,16 +275,16 @@ WICKSLATE_CALL uint32_t wickslate_start(wickslate_hasher *h, uint32_t variant);
 WICKSLATE_CALL uint32_t wickslate_update(wickslate_hasher *h, const uint8_t *piece, size_t piece_length);
 
 /*
- * Takes a piece of whose last byte only `bits` bits count, 1 to 8: the high
- * ones for PHOTON, the low ones for SPONGENT. With fewer than 8 it is the last
+ * Takes a piece of whose last byte only `bits` bits count, 1 to 8: the low
+ * ones for SPONGENT, the high ones for the others. With fewer than 8 it is the last
  * piece, and wickslate_finish comes next. With 8 all bits count, and a piece
  * that is not empty is taken as wickslate_update takes it.
  *
  * A trace of n bits, n not 0, has (n + 7) / 8 bytes, and (n - 1) % 8 + 1 bits
  * of the last one count. A trace of no bits has no last byte, and needs no
- * piece at all. A trace that is packed from the high bit on can be lent to
- * PHOTON as it is; for SPONGENT its last byte has to be shifted down by
- * 8 - bits first, as examples/bit_trace.c does.
+ * piece at all. A trace that is packed from the high bit on can be lent as it
+ * is; but for SPONGENT its last byte has to be shifted down by 8 - bits first,
+ * as examples/bit_trace.c does.
  *
  * Refusals: 2; 3 if closed; 15 if `bits` is not 1 to 8 or the piece is empty;
  *           16 if the total is no multiple of 8; 4 if the total would pass
@@ -288,8 +300,9 @@ WICKSLATE_CALL uint32_t wickslate_update_bits(wickslate_hasher *h, const uint8_t
                                               uint32_t bits);
 
 /*
- * Ends the message: pads it and takes its last block. `h` is closed then, and
- * its state is the end state.
+ * Ends the message: pads it and takes the blocks that the padding leaves, one,
+ * or in Lesamnta-LW one or two. `h` is closed then, and its state is the end
+ * state.
  *
  * Refusals: 2; 3 if closed already.
  * Writes:   `h`, if done.
@@ -303,7 +316,8 @@ WICKSLATE_CALL uint32_t wickslate_finish(wickslate_hasher *h);
 /*
  * Writes the image of a finished message's end state over the front of `out`.
  * It can be read any number of times. Two messages of equally many bits that
- * differ only within one block always have different end states.
+ * differ only within one block always have different end states, but for
+ * Lesamnta-LW, of which that is not promised.
  *
  * Refusals: 2; 3 if still open; 5.
  * Writes:   the variant's image bytes, if done. What lies behind them in
@@ -319,7 +333,8 @@ WICKSLATE_CALL uint32_t wickslate_end_state(const wickslate_hasher *h, uint8_t *
 /*
  * Writes the digest of a finished message over the front of `out`. It can be
  * read any number of times. A digest is squeezed out of the end state, and
- * different end states may have the same one.
+ * different end states may have the same one; that of Lesamnta-LW is its end
+ * state.
  *
  * Refusals: 2; 3 if still open; 5.
  * Writes:   the variant's digest bytes, if done. What lies behind them in
@@ -352,7 +367,7 @@ WICKSLATE_CALL uint32_t wickslate_whole(uint32_t variant, const uint8_t *message
 
 /*
  * wickslate_whole for a message of whose last byte only `bits` bits count, 1 to
- * 8: the high ones for PHOTON, the low ones for SPONGENT. With 8 all bits
+ * 8: the low ones for SPONGENT, the high ones for the others. With 8 all bits
  * count. A message of no bits has no last byte, and wickslate_whole takes it.
  *
  * Refusals: 1; 15 if `bits` is not 1 to 8 or the message is empty; 4; 5.
@@ -371,9 +386,9 @@ WICKSLATE_CALL uint32_t wickslate_whole_bits(uint32_t variant, const uint8_t *me
                                              uint32_t bits, uint32_t wanted, uint8_t *out, size_t out_length);
 
 /*
- * Runs the variant's permutation on an image.
+ * Runs the variant's permutation on an image. Lesamnta-LW has none.
  *
- * Refusals: 1; 6.
+ * Refusals: 1; 17 for Lesamnta-LW; 6.
  * Writes:   the whole of `image`, if done.
  * Stack:    2,240 bytes.
  *
@@ -387,7 +402,7 @@ WICKSLATE_CALL uint32_t wickslate_permute(uint32_t variant, uint8_t *image, size
  * Runs the inverse of the variant's permutation on an image: it takes back
  * wickslate_permute, and wickslate_permute takes it back.
  *
- * Refusals: 1; 6.
+ * Refusals: 1; 17 for Lesamnta-LW; 6.
  * Writes:   the whole of `image`, if done.
  * Stack:    2,432 bytes.
  *
@@ -398,14 +413,45 @@ WICKSLATE_CALL uint32_t wickslate_permute(uint32_t variant, uint8_t *image, size
 WICKSLATE_CALL uint32_t wickslate_unpermute(uint32_t variant, uint8_t *image, size_t image_length);
 
 /*
+ * The block cipher of Lesamnta-LW: enciphers `state` under `key`, 64 rounds.
+ * Every key and every state will do, so nothing is answered. It is a part of
+ * the hash function, offered as such; it is no way to keep data secret.
+ *
+ * Refusals: none.
+ * Writes:   the whole of `state`. `key` is only read.
+ * Stack:    4,608 bytes.
+ *
+ *     const uint8_t key[WICKSLATE_LESAMNTA_LW_KEY_BYTES] = {0};
+ *     uint8_t state[WICKSLATE_LESAMNTA_LW_STATE_BYTES] = {0};
+ *     wickslate_lesamnta_encrypt(key, state);
+ */
+WICKSLATE_CALL_VOID void wickslate_lesamnta_encrypt(const uint8_t key[16], uint8_t state[32]);
+
+/*
+ * Its inverse under the same key: it takes back wickslate_lesamnta_encrypt, and
+ * wickslate_lesamnta_encrypt takes it back.
+ *
+ * Refusals: none.
+ * Writes:   the whole of `state`. `key` is only read.
+ * Stack:    5,120 bytes.
+ *
+ *     const uint8_t key[WICKSLATE_LESAMNTA_LW_KEY_BYTES] = {0};
+ *     uint8_t state[WICKSLATE_LESAMNTA_LW_STATE_BYTES] = {0};
+ *     wickslate_lesamnta_decrypt(key, state);
+ */
+WICKSLATE_CALL_VOID void wickslate_lesamnta_decrypt(const uint8_t key[16], uint8_t state[32]);
+
+/*
  * The lost block: what stood at `place`, counted from 0, among the blocks of
  * the padded message, so that the message ended in the state of `image`. The
  * bytes that `message` has there are not looked at. L bytes make 8 L / r + 1
- * blocks, rounded down, for blocks of r bits. There is never more than one
- * such block.
+ * blocks, rounded down, for blocks of r bits; in Lesamnta-LW they make L / 16,
+ * rounded up, and one more, which has the length, and only that last one can
+ * be asked for. There is never more than one such block.
  *
- * Refusals: 1; 4; 7 if `place` is not below the number of blocks; 6; 5; 8 if
- *           no block leads to that state.
+ * Refusals: 1; 4; 7 if `place` is not below the number of blocks; 17 for
+ *           Lesamnta-LW if it is not the last; 6; 5; 8 if no block leads to
+ *           that state.
  * Writes:   the variant's block bytes over the front of `out`, if done. What
  *           lies behind them stays. `message` and `image` are only read.
  * Stack:    21,504 bytes.
@@ -422,15 +468,15 @@ WICKSLATE_CALL uint32_t wickslate_recover(uint32_t variant, const uint8_t *messa
 
 /*
  * wickslate_recover for a message of whose last byte only `bits` bits count, 1
- * to 8: the high ones for PHOTON, the low ones for SPONGENT. L bytes are then
- * B = 8 (L - 1) + `bits` bits, and make B / r + 1 blocks, rounded down, for
- * blocks of r bits. A block holds the bits of the string from its high bit on,
- * in both families: that at place 1 of 0xb6, 0x03 with the bit number 3, for
+ * to 8: the low ones for SPONGENT, the high ones for the others. L bytes are
+ * then B = 8 (L - 1) + `bits` bits, and make B / r + 1 blocks, rounded down,
+ * for blocks of r bits; in Lesamnta-LW B / 128, rounded up, and one more. A
+ * block holds the bits of the string from its high bit on, in every family: that at place 1 of 0xb6, 0x03 with the bit number 3, for
  * SPONGENT-88, is 0x70: 011, the padding's 1, and zeros.
  *
  * Refusals: 1; 15 if `bits` is not 1 to 8 or the message is empty; 4; 7 if
- *           `place` is not below the number of blocks; 6; 5; 8 if no block
- *           leads to that state.
+ *           `place` is not below the number of blocks; 17 for Lesamnta-LW if
+ *           it is not the last; 6; 5; 8 if no block leads to that state.
  * Writes:   the variant's block bytes over the front of `out`, if done. What
  *           lies behind them stays. `message` and `image` are only read.
  * Stack:    21,504 bytes.
@@ -536,7 +582,7 @@ WICKSLATE_CALL uint32_t wickslate_digest_list(uint32_t variant, const uint8_t *l
  * Tells whether a manifest is sound. The program `report` compares tables with
  * one that is.
  *
- * Refusals: 12; then record by record 13 if its variant is not 1 to 10 or a byte
+ * Refusals: 12; then record by record 13 if its variant is not 1 to 11 or a byte
  *           behind its digest is not zero, and 14 if its axis number is that of
  *           the record before it or a lower one.
  * Writes:   nothing.
@@ -552,5 +598,6 @@ WICKSLATE_CALL uint32_t wickslate_check_manifest(const uint8_t *list, size_t lis
 #endif
 
 #undef WICKSLATE_CALL
+#undef WICKSLATE_CALL_VOID
 
 #endif
