@@ -9,19 +9,20 @@
  *
  * THE ANSWER. Every function but the two of the block cipher, which are never
  * refused, answers with WICKSLATE_DONE, which is 0, or with one refusal: its
- * number in the low byte and, for 10 and 11, the number of an entry above it. WICKSLATE_NUMBER and WICKSLATE_ENTRY take an answer apart.
- * The refusals listed for a function are checked in the order of the list, and
- * the first that holds is the answer. A refused call leaves all lent bytes and
- * numbers, and every field of a lent running hash or cursor, as they were; it
- * may store the same values there again.
+ * number in the low byte and, for 10 and 11, the number of an entry above it.
+ * WICKSLATE_NUMBER and WICKSLATE_ENTRY take an answer apart. The refusals
+ * listed for a function are checked in the order of the list, and the first
+ * that holds is the answer. A refused call leaves all lent bytes and numbers,
+ * and every field of a lent running hash or cursor, as they were; it may store
+ * the same values there again.
  *
  * BITS. A message is a string of up to 134,217,720 bits. The functions whose
  * names end in _bits take one that may end inside a byte: behind the bytes
- * comes a bit number, how many bits of the last byte count, 1 to 8. They
- * are its low bits for SPONGENT and its high bits for PHOTON and Lesamnta-LW,
- * and the highest of them comes first in the string. Its other bits change nothing, and the
- * bytes before it count whole, each from its high bit on. So the eleven bits
- * 1011 0110 011 are lent as
+ * comes a bit number, how many bits of the last byte count, 1 to 8. They are
+ * its low bits for SPONGENT and its high bits for PHOTON and Lesamnta-LW, and
+ * the highest of them comes first in the string. Its other bits change nothing,
+ * and the bytes before it count whole, each from its high bit on. So the eleven
+ * bits 1011 0110 011 are lent as
  *     0xb6, 0x60 and the bit number 3 for the others: 1011 0110  011. ....
  *     0xb6, 0x03 and the bit number 3 for SPONGENT:   1011 0110  .... .011
  * with 0 or 1 wherever a dot is. The padding's 1 is the next bit of the string.
@@ -100,7 +101,7 @@
 #define WICKSLATE_NOT_RISING 14      /* axis number not above the one before */
 #define WICKSLATE_BAD_BIT_NUMBER 15  /* not 1 to 8, or given with no bytes */
 #define WICKSLATE_INSIDE_BYTE 16     /* the last piece ended inside a byte */
-#define WICKSLATE_NOT_SPONGE 17      /* Lesamnta-LW, where only a sponge will do */
+#define WICKSLATE_NOT_SPONGE 17      /* Lesamnta-LW where a sponge is needed */
 
 /* ---- Sizes in bytes ---------------------------------------------------- */
 
@@ -276,9 +277,9 @@ WICKSLATE_CALL uint32_t wickslate_update(wickslate_hasher *h, const uint8_t *pie
 
 /*
  * Takes a piece of whose last byte only `bits` bits count, 1 to 8: the low
- * ones for SPONGENT, the high ones for the others. With fewer than 8 it is the last
- * piece, and wickslate_finish comes next. With 8 all bits count, and a piece
- * that is not empty is taken as wickslate_update takes it.
+ * ones for SPONGENT, the high ones for the others. With fewer than 8 it is the
+ * last piece, and wickslate_finish comes next. With 8 all bits count, and a
+ * piece that is not empty is taken as wickslate_update takes it.
  *
  * A trace of n bits, n not 0, has (n + 7) / 8 bytes, and (n - 1) % 8 + 1 bits
  * of the last one count. A trace of no bits has no last byte, and needs no
@@ -471,8 +472,9 @@ WICKSLATE_CALL uint32_t wickslate_recover(uint32_t variant, const uint8_t *messa
  * to 8: the low ones for SPONGENT, the high ones for the others. L bytes are
  * then B = 8 (L - 1) + `bits` bits, and make B / r + 1 blocks, rounded down,
  * for blocks of r bits; in Lesamnta-LW B / 128, rounded up, and one more. A
- * block holds the bits of the string from its high bit on, in every family: that at place 1 of 0xb6, 0x03 with the bit number 3, for
- * SPONGENT-88, is 0x70: 011, the padding's 1, and zeros.
+ * block holds the bits of the string from its high bit on, in every family:
+ * that at place 1 of 0xb6, 0x03 with the bit number 3, for SPONGENT-88, is
+ * 0x70: 011, the padding's 1, and zeros.
  *
  * Refusals: 1; 15 if `bits` is not 1 to 8 or the message is empty; 4; 7 if
  *           `place` is not below the number of blocks; 17 for Lesamnta-LW if
