@@ -53,10 +53,7 @@ pub fn is_known(v: u32) -> bool
 pub fn is_sponge(v: u8) -> bool
     ensures { λ r. ⌜ r ≡ isSponge (variant v) ⌝ }
 {
-    if v == 11 {
-        return false;
-    }
-    true
+    v != 11
 }
 
 fn sizes_of(v: u8) -> Sizes
