@@ -6,7 +6,7 @@ use std::time::Duration;
 
 use wickslate_conformance::rows::{machine, print_head, print_row};
 use wickslate_conformance::speed::{best, hash, message, of_pieces, of_whole, Effort, Speed};
-use wickslate_reference::{Variant, VARIANTS};
+use wickslate_reference::{Family, Variant, VARIANTS};
 
 const USAGE: &str = "\
 usage: bench [--markdown] [--variants N,N..] [--bytes N,N..] [--pieces] [--repetitions N]
@@ -148,7 +148,11 @@ fn print_growth(wish: &Wish) {
 }
 
 fn name(variant: &Variant) -> String {
-    format!("{} {}", variant.number, variant.name.to_uppercase())
+    let name = match variant.family {
+        Family::LesamntaLw => "Lesamnta-LW".to_string(),
+        Family::Photon | Family::Spongent => variant.name.to_uppercase(),
+    };
+    format!("{} {name}", variant.number)
 }
 
 fn size(bytes: usize) -> String {
