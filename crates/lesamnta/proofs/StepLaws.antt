@@ -18,23 +18,22 @@ use Rattle.lesamnta.proofs.WordLaws.{two-words}
 
 -- the halves of a state in words
 module _ (w : List ℕ) where
-  first-half : take 128 (stateOf w) ≡ bitsOf high-first 64 (getD w 0 0) ++ bitsOf high-first 64 (getD w 1 0)
-  unfolding stateOf bitsOfWords flatMap
-  first-half =
-      let A : List Bool = bitsOf high-first 64 (getD w 0 0) in
-      let C : List Bool = bitsOf high-first 64 (getD w 1 0) in
-      let rest : List Bool = bitsOf high-first 64 (getD w 2 0) ++ (bitsOf high-first 64 (getD w 3 0) ++ []) in
-      ap (take 128) (sym (append-assoc A C rest))
-      ∙ take-at (A ++ C) rest 128 (length-append A C ∙ omega (arith, length-bitsOf high-first 64 (getD w 0 0), length-bitsOf high-first 64 (getD w 1 0)))
+  word : ℕ → List Bool
+  word i = bitsOf high-first 64 (getD w i 0)
 
-  second-half : drop 128 (stateOf w) ≡ bitsOf high-first 64 (getD w 2 0) ++ (bitsOf high-first 64 (getD w 3 0) ++ [])
-  unfolding stateOf bitsOfWords flatMap
-  second-half =
-      let A : List Bool = bitsOf high-first 64 (getD w 0 0) in
-      let C : List Bool = bitsOf high-first 64 (getD w 1 0) in
-      let rest : List Bool = bitsOf high-first 64 (getD w 2 0) ++ (bitsOf high-first 64 (getD w 3 0) ++ []) in
-      ap (drop 128) (sym (append-assoc A C rest))
-      ∙ drop-at (A ++ C) rest 128 (length-append A C ∙ omega (arith, length-bitsOf high-first 64 (getD w 0 0), length-bitsOf high-first 64 (getD w 1 0)))
+  halved : stateOf w ≡ (word 0 ++ word 1) ++ (word 2 ++ (word 3 ++ []))
+  unfolding stateOf bitsOfWords flatMap word
+  halved = sym (append-assoc (word 0) (word 1) (word 2 ++ (word 3 ++ [])))
+
+  half-size : length (word 0 ++ word 1) ≡ 128
+  unfolding word
+  half-size = length-append (word 0) (word 1) ∙ omega (arith, length-bitsOf high-first 64 (getD w 0 0), length-bitsOf high-first 64 (getD w 1 0))
+
+  first-half : take 128 (stateOf w) ≡ word 0 ++ word 1
+  first-half = ap (take 128) halved ∙ take-at (word 0 ++ word 1) (word 2 ++ (word 3 ++ [])) 128 half-size
+
+  second-half : drop 128 (stateOf w) ≡ word 2 ++ (word 3 ++ [])
+  second-half = ap (drop 128) halved ∙ drop-at (word 0 ++ word 1) (word 2 ++ (word 3 ++ [])) 128 half-size
 
 -- the block from a place on: two words
 module _ (bits : List Bool) (at a b : ℕ) (room : 8 * at + 128 ≤ length bits)
@@ -55,7 +54,7 @@ module _ (bits : List Bool) (at a b : ℕ) (room : 8 * at + 128 ≤ length bits)
   -- what is enciphered in a step, in words
   pub step-words : (w : List ℕ) → ((i : ℕ) → getD w i 0 < 2 ^ 64)
       → a ∷ b ∷ getD w 2 0 ∷ getD w 3 0 ∷ [] ≡ fourWords 64 (take 128 (drop (8 * at) bits) ++ drop 128 (stateOf w))
-  unfolding bitsOfWords flatMap
+  unfolding bitsOfWords flatMap word
   step-words w small =
       let x : List ℕ = a ∷ b ∷ getD w 2 0 ∷ getD w 3 0 ∷ [] in
       let four : Four 64 x =
@@ -70,7 +69,7 @@ module _ (bits : List Bool) (at a b : ℕ) (room : 8 * at + 128 ≤ length bits)
       → key ≡ fourWords 32 (bitsOf high-first 64 (getD w 0 0) ++ bitsOf high-first 64 (getD w 1 0))
       → r ≡ rounds mixing forward (roundKeys cipherConstants key) (a ∷ b ∷ getD w 2 0 ∷ getD w 3 0 ∷ [])
       → bitsOfWords 64 r ≡ lesamntaStep (stateOf w) (take 128 (drop (8 * at) bits))
-  unfolding lesamntaStep cipher
+  unfolding lesamntaStep cipher word
   stepped-is w key r small ek er =
       ap (bitsOfWords 64)
       (er

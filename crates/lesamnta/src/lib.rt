@@ -5,7 +5,7 @@ ghost use Prim.Native.Nat.{_+_, _*_, _/_, _^_, _≤_, _<_};
 ghost use lib.ListN.{length, take, drop, replicate};
 ghost use Rattle.standard.specs.Bits.{high-first, bitsOf, valueOf, bitsIn, pack};
 ghost use Rattle.standard.specs.Rounds.{forward, backward, rounds};
-ghost use Rattle.standard.specs.Lesamnta.{bytesOf, wordOf, fourWords, bitsOfWords, wordQ, bytesR, wordG, mixing, roundKeys, cipherConstants, cipher, lesamntaStep};
+ghost use Rattle.standard.specs.Lesamnta.{bytesOf, wordOf, fourWords, bitsOfWords, wordQ, bytesR, wordG, mixing, scheduled, roundKeys, cipherConstants, cipher, lesamntaStep};
 ghost use Rattle.lesamnta.specs.LookUps.{BoxTable, ConstantTable, LookUps};
 ghost use Rattle.lesamnta.specs.Words.{stateOf, ciphered};
 
@@ -88,36 +88,55 @@ pub fn word_g(y: u64, key: u64, table: &[u64]) -> u64
     joined(word_q((y >> 32) ^ key, table), word_q(y, table))
 }
 
+// ---- a round
+
+// A round of the cipher with its round key.
+fn mixed(x: [u64; 4], key: u64, table: &[u64]) -> [u64; 4]
+    requires { ⌜ (length (now table) ≡ 320) × LookUps 64 (now table) ⌝ }
+    ensures { λ r. ⌜ r ≡ mixing forward x key ⌝ }
+{
+    [x[3] ^ word_g(x[2], key, table), x[0], x[1], x[2]]
+}
+
+// That round taken back.
+fn unmixed(x: [u64; 4], key: u64, table: &[u64]) -> [u64; 4]
+    requires { ⌜ (length (now table) ≡ 320) × LookUps 64 (now table) ⌝ }
+    ensures { λ r. ⌜ r ≡ mixing backward x key ⌝ }
+{
+    [x[1], x[2], x[3], x[0] ^ word_g(x[3], key, table)]
+}
+
+// The key state after a round with its constant.
+fn scheduled(key: [u64; 4], constant: u64, table: &[u64]) -> [u64; 4]
+    requires { ⌜ (length (now table) ≡ 320) × LookUps 64 (now table) ⌝ }
+    ensures { λ r. ⌜ r ≡ scheduled key constant ⌝ }
+{
+    [
+        key[3] ^ word_q(constant ^ key[2], table),
+        key[0],
+        key[1],
+        key[2],
+    ]
+}
+
 // ---- the rounds
 
-// All rounds forward, each with its round key as the schedule comes to it.
-fn mixed(x: [u64; 4], key: [u64; 4], table: &[u64]) -> [u64; 4]
+// All rounds, each with its round key as the schedule comes to it.
+fn enciphered(x: [u64; 4], key: [u64; 4], table: &[u64]) -> [u64; 4]
     requires { ⌜ (length (now table) ≡ 320) × LookUps 64 (now table) ⌝ }
     ensures { λ r. ⌜ r ≡ rounds mixing forward (roundKeys cipherConstants key) x ⌝ }
 {
-    let mut x0 = x[0];
-    let mut x1 = x[1];
-    let mut x2 = x[2];
-    let mut x3 = x[3];
-    let mut k0 = key[0];
-    let mut k1 = key[1];
-    let mut k2 = key[2];
-    let mut k3 = key[3];
+    let mut words = x;
+    let mut schedule = key;
     let mut r: usize = 0;
     while r < 64 {
-        let x4 = x3 ^ word_g(x2, k0, table);
-        let k4 = k3 ^ word_q(table[256 + r] ^ k2, table);
-        x3 = x2;
-        x2 = x1;
-        x1 = x0;
-        x0 = x4;
-        k3 = k2;
-        k2 = k1;
-        k1 = k0;
-        k0 = k4;
+        let next_words = mixed(words, schedule[0], table);
+        let next_schedule = scheduled(schedule, table[256 + r], table);
+        words = next_words;
+        schedule = next_schedule;
         r += 1;
     }
-    [x0, x1, x2, x3]
+    words
 }
 
 // The round keys, which the inverse needs from the last on.
@@ -126,42 +145,30 @@ fn round_keys(key: [u64; 4], table: &[u64]) -> [u64; 64]
     ensures { λ r. ⌜ r ≡ roundKeys cipherConstants key ⌝ }
 {
     let mut out = [0u64; 64];
-    let mut k0 = key[0];
-    let mut k1 = key[1];
-    let mut k2 = key[2];
-    let mut k3 = key[3];
+    let mut schedule = key;
     let mut r: usize = 0;
     while r < 64 {
-        out[r] = k0;
-        let k4 = k3 ^ word_q(table[256 + r] ^ k2, table);
-        k3 = k2;
-        k2 = k1;
-        k1 = k0;
-        k0 = k4;
+        out[r] = schedule[0];
+        let next_schedule = scheduled(schedule, table[256 + r], table);
+        schedule = next_schedule;
         r += 1;
     }
     out
 }
 
 // All rounds taken back, the last first.
-fn unmixed(x: [u64; 4], keys: [u64; 64], table: &[u64]) -> [u64; 4]
+fn deciphered(x: [u64; 4], keys: [u64; 64], table: &[u64]) -> [u64; 4]
     requires { ⌜ (length (now table) ≡ 320) × LookUps 64 (now table) ⌝ }
     ensures { λ r. ⌜ r ≡ rounds mixing backward keys x ⌝ }
 {
-    let mut x0 = x[0];
-    let mut x1 = x[1];
-    let mut x2 = x[2];
-    let mut x3 = x[3];
+    let mut words = x;
     let mut i: usize = 0;
     while i < 64 {
-        let before = x0 ^ word_g(x3, keys[63 - i], table);
-        x0 = x1;
-        x1 = x2;
-        x2 = x3;
-        x3 = before;
+        let before = unmixed(words, keys[63 - i], table);
+        words = before;
         i += 1;
     }
-    [x0, x1, x2, x3]
+    words
 }
 
 // ---- words and bytes
@@ -251,7 +258,7 @@ pub fn stepped(w: [u64; 8], bytes: &[u8], at: usize, table: &[u64]) -> [u64; 8]
     ensures { λ r. ⌜ stateOf r ≡ lesamntaStep (stateOf w) (take 128 (drop (8 * at) (bitsIn high-first (now (bytes .entry))))) ⌝ }
 {
     let key = halves(w[0], w[1]);
-    let x = mixed(
+    let x = enciphered(
         [word_at(bytes, at), word_at(bytes, at + 8), w[2], w[3]],
         key,
         table,
@@ -275,7 +282,7 @@ pub fn encrypt(key: [u8; 16], state: [u8; 32]) -> [u8; 32]
 {
     let mut table = [0u64; TABLE_WORDS];
     fill_table(&mut table);
-    let x = mixed(state_words(&state), key_words(&key), &table);
+    let x = enciphered(state_words(&state), key_words(&key), &table);
     let mut out = [0u8; 32];
     put_state(&mut out, x);
     out
@@ -289,7 +296,7 @@ pub fn decrypt_front(key: &[u8], state: &[u8]) -> [u8; 32]
     let mut table = [0u64; TABLE_WORDS];
     fill_table(&mut table);
     let keys = round_keys(key_words(key), &table);
-    let x = unmixed(state_words(state), keys, &table);
+    let x = deciphered(state_words(state), keys, &table);
     let mut out = [0u8; 32];
     put_state(&mut out, x);
     out

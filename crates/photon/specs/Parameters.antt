@@ -6,11 +6,14 @@ use Rattle.standard.specs.Photon.{PhotonParameters}
 use Rattle.standard.specs.Sponge.{Family, photon, spongent, lesamnta}
 use Rattle.standard.specs.Variants.{variant}
 
+abbrev noParameters : PhotonParameters
+noParameters = record { d = 0; s = 0; poly = 0; box = []; unbox = []; ic = []; z = []; unz = [] }
+
 -- the parameters of a family that is PHOTON; none of the others
 abbrev pub parametersIn : Family → PhotonParameters
 parametersIn (photon p) = p
-parametersIn (spongent p) = record { d = 0; s = 0; poly = 0; box = []; unbox = []; ic = []; z = []; unz = [] }
-parametersIn lesamnta = record { d = 0; s = 0; poly = 0; box = []; unbox = []; ic = []; z = []; unz = [] }
+parametersIn (spongent p) = noParameters
+parametersIn lesamnta = noParameters
 
 -- the parameters of the variant v, 1 to 5
 unfoldable pub photonOf : ℕ → PhotonParameters

@@ -105,7 +105,7 @@ fn outcome_boxes(
     requires { ⌜ (p ≤ 2 * length (now held)) × (count ≤ 2 ^ 32) ⌝ }
     ensures { λ r. ⌜ r ≡ packedState (variant 11) (run (variant 11) (stateIn (variant 11) s) (firstBlocks (variant 11 .r) count (heldThen (now (held .entry)) p (now (piece .entry) ++ last ∷ [])))) ⌝ }
 {
-    let mut table = [0u64; 320];
+    let mut table = [0u64; lesamnta::TABLE_WORDS];
     lesamnta::fill_table(&mut table);
     let mut w = words::words_of(11, s);
     blocks::run_words(11, &mut w, held, p, piece, last, count, &table);

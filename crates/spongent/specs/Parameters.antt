@@ -8,11 +8,14 @@ use Rattle.standard.specs.Spongent.{SpongentParameters}
 use Rattle.standard.specs.Sponge.{Family, photon, spongent, lesamnta}
 use Rattle.standard.specs.Variants.{variant}
 
+abbrev noParameters : SpongentParameters
+noParameters = record { t = 0; R = 0; width = 0; first = 0; taps = [] }
+
 -- the parameters of a family that is SPONGENT; none of the others
 abbrev pub parametersIn : Family → SpongentParameters
 parametersIn (spongent p) = p
-parametersIn (photon p) = record { t = 0; R = 0; width = 0; first = 0; taps = [] }
-parametersIn lesamnta = record { t = 0; R = 0; width = 0; first = 0; taps = [] }
+parametersIn (photon p) = noParameters
+parametersIn lesamnta = noParameters
 
 -- the parameters of the variant v, 6 to 10
 unfoldable pub spongentOf : ℕ → SpongentParameters

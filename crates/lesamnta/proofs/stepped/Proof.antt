@@ -11,7 +11,7 @@ use Rattle.standard.specs.Lesamnta.{bitsOfWords}
 use Rattle.standard.proofs.BitLaws.{length-bitsIn}
 use Rattle.arrays.proofs.Elements.{numbers-lt}
 use Rattle.lesamnta.specs.Words.{stateOf}
-use Rattle.lesamnta.proofs.RoundLaws.{four}
+use Rattle.lesamnta.proofs.WordLaws.{four}
 use Rattle.lesamnta.proofs.StepLaws.{stepped-is}
 use Rattle.lesamnta.proofs.stepped.Statement.{statement}
 use Rattle.lesamnta.proofs.stepped.Tie as tie
@@ -21,9 +21,9 @@ unfolding stateOf
 returns c =
     let s = c .before .before .before .before .before .before in
     let bytes : List ℕ = s .args .bytes .now in
-    ap (bitsOfWords 64) (four (c .mixed .result) (omega arith))
+    ap (bitsOfWords 64) (four (c .enciphered .result) (omega arith))
     ∙ stepped-is (bitsIn high-first bytes) (s .args .at) _ _ (omega (arith, length-bitsIn high-first bytes, s .pre .0)) (c .before .before .word-at .ensures) (c .before .word-at2 .ensures)
-    (s .args .t1) _ (c .mixed .result) (numbers-lt w64 8 (s .args .t1) _ (s .good .0)) (c .before .before .before .halves .ensures) (c .mixed .ensures)
+    (s .args .t1) _ (c .enciphered .result) (numbers-lt w64 8 (s .args .t1) _ (s .good .0)) (c .before .before .before .halves .ensures) (c .enciphered .ensures)
 
 pub stepped-spec : {M : Type 1} → statement M
 stepped-spec = tie.close (tie.spec (λ c. search needs) (λ c. search needs) (λ c κs. search needs) (λ c κs. search needs) (λ c. search needs) (λ c κs. search needs) (λ c. search needs) (λ c. search needs) (λ c κs. search needs) (λ c. search needs) (λ c. search needs) (λ c. search needs) (λ c. search needs) returns)

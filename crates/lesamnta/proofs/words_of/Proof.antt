@@ -9,8 +9,7 @@ use Rattle.standard.specs.Bits.{high-first, bitsIn}
 use Rattle.standard.specs.Lesamnta.{bitsOfWords}
 use Rattle.standard.proofs.BitLaws.{length-bitsIn}
 use Rattle.lesamnta.specs.Words.{stateOf}
-use Rattle.lesamnta.proofs.WordLaws.{state-read}
-use Rattle.lesamnta.proofs.RoundLaws.{four}
+use Rattle.lesamnta.proofs.WordLaws.{four, state-read}
 use Rattle.lesamnta.proofs.words_of.Statement.{statement}
 use Rattle.lesamnta.proofs.words_of.Tie as tie
 
