@@ -25,9 +25,10 @@ const EFFORT: Effort = Effort {
 /// with its counters stepped, of 6.1 to 8.7. With the inlining held back they
 /// were 2.8 to 3.6 (PHOTON-288 did not need it) and 1.4 to 1.7, and by plain
 /// steps 1.4 to 2.4 and 1.3 to 2.0. The limits lie between, a factor of two or
-/// more below the first. Lesamnta-LW has ratios of 12 to 13 on an Intel Xeon;
-/// what it has without the inlining was not measured. A Rust version that is
-/// made faster asks for others.
+/// more below the first. Lesamnta-LW has ratios of 12 to 13 on an Intel Xeon
+/// and of 9.1 to 9.6 on an AMD EPYC, and a limit of about half the last; what it
+/// has without the inlining was not measured. A Rust version that is made faster
+/// asks for others.
 fn limit(variant: &Variant) -> (usize, f64) {
     match variant.family {
         Family::Photon => (4 << 10, 7.0),

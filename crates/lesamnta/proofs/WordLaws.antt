@@ -175,15 +175,6 @@ packed-words x =
 
 -- ---- four words
 
--- four words of an array
-pub four : (x : List ℕ) → length x ≡ 4 → getD x 0 0 ∷ getD x 1 0 ∷ getD x 2 0 ∷ getD x 3 0 ∷ [] ≡ x
-four [] e = absurd (omega arith)
-four (a ∷ []) e = absurd (omega arith)
-four (a ∷ b ∷ []) e = absurd (omega arith)
-four (a ∷ b ∷ c ∷ []) e = absurd (omega arith)
-four (a ∷ b ∷ c ∷ d ∷ []) e = refl
-four (a ∷ b ∷ c ∷ d ∷ f ∷ x) e = absurd (omega arith)
-
 -- two words in halves
 pub halves-are : (a b : ℕ) → a < 2 ^ 64 → b < 2 ^ 64 → a / 2 ^ 32 ∷ a % 2 ^ 32 ∷ b / 2 ^ 32 ∷ b % 2 ^ 32 ∷ [] ≡ fourWords 32 (bitsOf high-first 64 a ++ bitsOf high-first 64 b)
 unfolding bitsOfWords flatMap

@@ -1,6 +1,6 @@
 -- Lesamnta-LW: a Feistel-like round is undone whatever its inner function, and so the cipher by its inverse under every key; one step tells blocks apart; its padding, and how many blocks it makes.
 -- Assumes nothing.
-use mathlib.Core.Path.{_≡_, refl, sym, ap, ap₂, _∙_}
+use mathlib.Core.Path.{_≡_, refl, sym, subst, ap, ap₂, _∙_}
 use mathlib.Core.Bool.{Bool, true, false}
 use mathlib.Core.List.{List, [], _∷_, _++_, map}
 use Prim.Native.Nat.{ℕ, zero, suc, _+_, _-_, _*_, _/_, _%_, _^_, _<_}
@@ -18,6 +18,7 @@ use Rattle.standard.proofs.Undo.{All, all-at, all-of, getD-map, rounds-
 use Rattle.standard.proofs.BitLaws.{length-bitsOf, valueOf-bitsOf, bitsOf-valueOf, valueOf-lt, false-xor, xorInto-twice, xorInto-zeros, xorInto-nil, xorInto-append}
 use Rattle.standard.proofs.TakenBack.{difference-of}
 use Rattle.standard.proofs.HighBits.{value-mod}
+use Rattle.standard.proofs.Tab.{tab-self}
 use Rattle.standard.proofs.CutLaws.{length-cut, cut-at, length-flatMap, map-cut, flatMap-map, flatMap-cut}
 
 -- ---- a Feistel-like round
@@ -29,12 +30,7 @@ pub record Four (w : ℕ) (x : List ℕ) : Type 0 where
 
 -- what holds of every list of four holds where the length is 4
 of-four : (P : List ℕ → Type 0) → ((a b c d : ℕ) → P (a ∷ b ∷ c ∷ d ∷ [])) → (x : List ℕ) → length x ≡ 4 → P x
-of-four P p [] e = absurd (omega arith)
-of-four P p (a ∷ []) e = absurd (omega arith)
-of-four P p (a ∷ b ∷ []) e = absurd (omega arith)
-of-four P p (a ∷ b ∷ c ∷ []) e = absurd (omega arith)
-of-four P p (a ∷ b ∷ c ∷ d ∷ []) e = p a b c d
-of-four P p (a ∷ b ∷ c ∷ d ∷ f ∷ x) e = absurd (omega arith)
+of-four P p x e = subst P (tab-self 4 x 0 e) (p (getD x 0 0) (getD x 1 0) (getD x 2 0) (getD x 3 0))
 
 -- any round is undone by that round taken back, and the other way round, whatever its inner function
 pub feistel-undo : (f : ℕ → ℕ) (w : Direction) (x : List ℕ) → length x ≡ 4 → feistel f (opposite w) (feistel f w x) ≡ x

@@ -9,9 +9,9 @@ use borrow.Author.Needs.{needs}
 use Rattle.standard.specs.Bits.{high-first, bitsIn}
 use Rattle.standard.specs.Lesamnta.{bitsOfWords}
 use Rattle.standard.proofs.BitLaws.{length-bitsIn}
+use Rattle.standard.proofs.Tab.{tab-self}
 use Rattle.arrays.proofs.Elements.{numbers-lt}
 use Rattle.lesamnta.specs.Words.{stateOf}
-use Rattle.lesamnta.proofs.WordLaws.{four}
 use Rattle.lesamnta.proofs.StepLaws.{stepped-is}
 use Rattle.lesamnta.proofs.stepped.Statement.{statement}
 use Rattle.lesamnta.proofs.stepped.Tie as tie
@@ -21,7 +21,7 @@ unfolding stateOf
 returns c =
     let s = c .before .before .before .before .before .before in
     let bytes : List ℕ = s .args .bytes .now in
-    ap (bitsOfWords 64) (four (c .enciphered .result) (omega arith))
+    ap (bitsOfWords 64) (tab-self 4 (c .enciphered .result) 0 (omega arith))
     ∙ stepped-is (bitsIn high-first bytes) (s .args .at) _ _ (omega (arith, length-bitsIn high-first bytes, s .pre .0)) (c .before .before .word-at .ensures) (c .before .word-at2 .ensures)
     (s .args .t1) _ (c .enciphered .result) (numbers-lt w64 8 (s .args .t1) _ (s .good .0)) (c .before .before .before .halves .ensures) (c .enciphered .ensures)
 

@@ -8,8 +8,9 @@ use borrow.Author.Needs.{needs}
 use Rattle.standard.specs.Bits.{high-first, bitsIn}
 use Rattle.standard.specs.Lesamnta.{bitsOfWords}
 use Rattle.standard.proofs.BitLaws.{length-bitsIn}
+use Rattle.standard.proofs.Tab.{tab-self}
 use Rattle.lesamnta.specs.Words.{stateOf}
-use Rattle.lesamnta.proofs.WordLaws.{four, state-read}
+use Rattle.lesamnta.proofs.WordLaws.{state-read}
 use Rattle.lesamnta.proofs.words_of.Statement.{statement}
 use Rattle.lesamnta.proofs.words_of.Tie as tie
 
@@ -18,7 +19,7 @@ unfolding stateOf
 returns c =
     let s = c .before .before in
     let bytes : List ℕ = s .args .bytes .now in
-    ap (bitsOfWords 64) (four (c .state-words .result) (omega arith))
+    ap (bitsOfWords 64) (tab-self 4 (c .state-words .result) 0 (omega arith))
     ∙ state-read (bitsIn high-first bytes) (c .state-words .result) (omega (arith, length-bitsIn high-first bytes, s .pre)) (c .state-words .ensures)
 
 pub words-of-spec : {M : Type 1} → statement M
