@@ -1,37 +1,36 @@
 -- What a caller reads of an end state tells states apart; so two messages that differ, and only within one block, are told apart by their end states.
 -- Assumes nothing.
-use mathlib.Core.Path.{_≡_, sym, ap, _∙_}
+use mathlib.Core.Path.{_≡_, refl, sym, ap, _∙_}
 use mathlib.Core.Bool.{Bool, true}
 use mathlib.Core.List.{List, _++_}
-use Prim.Native.Nat.{ℕ, _*_, _/_, _≤_, _<_}
+use Prim.Native.Nat.{ℕ, _*_, _/_, _≤_}
 use native.Mathlib.Omega.{arith}
-use lib.ListN.{length, take, drop, getD}
+use lib.ListN.{length, take, drop}
 use lib.Seq.{take-at}
-use Rattle.standard.specs.Bits.{high-first}
-use Rattle.standard.specs.Sponge.{Variant, isSponge, imageSize, imageOf}
-use Rattle.standard.specs.Chain.{byteBits, messageBits, blocksOf, DifferAt, endState}
+use Rattle.standard.specs.Sponge.{Variant, imageSize, imageOf}
+use Rattle.standard.specs.Chain.{endState}
+use Rattle.standard.specs.Messages.{Given, bytes, givenBits}
 use Rattle.standard.specs.Variants.{variant, known}
-use Rattle.standard.specs.Values.{DifferWithin, inOneBlock}
-use Rattle.standard.proofs.BitLaws.{length-bitsIn}
 use Rattle.standard.proofs.Streaming.{end-length}
 use Rattle.standard.proofs.Variants.{streams}
 use Rattle.standard.proofs.OneValue.{value-block, one-changed-row, one-changed-part}
 use Rattle.standard.proofs.ImageStates.{imageOf-length, imageOf-injective}
 use Rattle.answers.specs.declared.Status.{Status}
 use Rattle.answers.specs.declared.Status.the-variants.{Done}
-use Rattle.answers.specs.Outputs.{written, most, mostBits}
-use Rattle.sponge.specs.Parts.{isBitNumber}
+use Rattle.answers.specs.Outputs.{written, mostBits}
+use Rattle.sponge.specs.Messages.{Fits}
 use Rattle.hasher.specs.declared.Hasher.{Hasher}
 use Rattle.hasher.specs.declared.Wanted.the-variants.{EndState}
 use Rattle.hasher.specs.Running.{variantOf, stateOf}
-use Rattle.hasher.specs.Reading.{readStatus, readInto, wholeInto, wholeBitsInto}
-use Rattle.hasher.specs.Pieces.{joined, hashedInto, hashedBitsInto}
+use Rattle.hasher.specs.Reading.{readStatus, readInto, wholeInto}
+use Rattle.hasher.specs.Pieces.{joinedBits, Cut, hashedInto}
 use Rattle.hasher.specs.Sized.{Sized}
-use Rattle.hasher.specs.Apart.{Differ, ImagesDiffer, ToldApart, ToldApartBits}
+use Rattle.hasher.specs.Apart.{Differ, ImagesDiffer, ToldApart}
+use Rattle.hasher.specs.Promises.{RowTold, BlockTold, ValueTold}
 use Rattle.hasher.proofs.WellFormed.{facts, state-long}
-use Rattle.hasher.proofs.Calls.{read-says, numbered-too}
-use Rattle.hasher.proofs.Message.{whole-done, whole-bits-done}
-use Rattle.hasher.proofs.Demand2.{whole-is-pieces, whole-bits-is-pieces}
+use Rattle.hasher.proofs.Calls.{read-says}
+use Rattle.hasher.proofs.Message.{few-bits, whole-done}
+use Rattle.hasher.proofs.Demand2.{whole-is-pieces}
 
 -- ---- images at the front of two outputs
 
@@ -79,67 +78,37 @@ read-tells h g zh zg same n out out′ dh dg =
 
 -- ---- two messages
 
-module _ (v : ℕ) (k : known v ≡ true) (x y : List ℕ) where
+module _ (v : ℕ) (k : known v ≡ true) (x y : Given) (fits : Fits x) (fits′ : Fits y) where
+  abbrev X : List Bool
+  X = givenBits (variant v) x
+
+  abbrev Y : List Bool
+  Y = givenBits (variant v) y
+
   -- different end states are told apart
-  pub ends-tell : length x ≤ most → length y ≤ most → (endState (variant v) (byteBits x) ≡ endState (variant v) (byteBits y) → ⊥) → ToldApart v x y
-  ends-tell fx fy n = record { whole = whole; pieces = λ xs ys ex ey. as-others (variant v) _ _ _ _ (cut xs x ex) (cut ys y ey) whole }
+  pub ends-tell : length (givenBits (variant v) x) ≤ mostBits → length (givenBits (variant v) y) ≤ mostBits
+      → (endState (variant v) (givenBits (variant v) x) ≡ endState (variant v) (givenBits (variant v) y) → ⊥) → ToldApart v x y
+  ends-tell few few′ n =
+      record { whole = whole; pieces = λ xs ys cx cy ex ey. as-others (variant v) _ _ _ _ (cut xs x fits cx ex) (cut ys y fits′ cy ey) whole }
     where
       whole : ImagesDiffer (variant v) (wholeInto v x EndState) (wholeInto v y EndState)
       whole =
-          ends-differ v k (byteBits x) (byteBits y) n _ _
-          (λ out l. whole-done v k x fx EndState out l .1) (λ out l. whole-done v k y fy EndState out l .1)
+          ends-differ v k X Y n _ _
+          (λ out l. whole-done v k x fits few EndState out l .1) (λ out l. whole-done v k y fits′ few′ EndState out l .1)
 
       -- the pieces of a message
-      cut : (ps : List (List ℕ)) (m : List ℕ) → joined ps ≡ m → (out : List ℕ) → wholeInto v m EndState out ≡ hashedInto v ps EndState out
-      cut ps m e out = ap (λ (l : List ℕ). wholeInto v l EndState out) (sym e) ∙ whole-is-pieces v ps EndState out .1
+      cut : (ps : List Given) (m : Given) → Fits m → Cut (variant v) ps → joinedBits (variant v) ps ≡ givenBits (variant v) m → (out : List ℕ)
+          → wholeInto v m EndState out ≡ hashedInto v ps EndState out
+      cut ps m f c e out = whole-is-pieces v ps m c f e EndState out .1
 
-  -- Of a sponge: two messages of bytes within the limit, of one length or not, whose padded rows have equal count and differ at exactly one block, are told apart.
-  pub row-told : isSponge (variant v) ≡ true → length x ≤ most → length y ≤ most → (i : ℕ) → DifferAt i (blocksOf (variant v) (byteBits x)) (blocksOf (variant v) (byteBits y)) → ToldApart v x y
-  row-told q fx fy i d = ends-tell fx fy (one-changed-row v k q i (byteBits x) (byteBits y) d)
+pub row-told : RowTold
+row-told v k q x y fits fits′ few few′ i d =
+    ends-tell v k x y fits fits′ few few′ (one-changed-row v k q i (givenBits (variant v) x) (givenBits (variant v) y) d)
 
-  module _ (q : isSponge (variant v) ≡ true) (few : length x ≤ most) where
-    -- Of a sponge: two messages of bytes of equal length within the limit whose bits differ, and only within the block j, are told apart.
-    pub block-told : (j : ℕ) → DifferWithin (j * variant v .r) (variant v .r) (byteBits x) (byteBits y) → ToldApart v x y
-    block-told j d =
-        ends-tell few (omega (arith, d .size, length-bitsIn high-first x, length-bitsIn high-first y))
-        (one-changed-part v k q j (byteBits x) (byteBits y) d)
+pub block-told : BlockTold
+block-told v k q x y fits fits′ few j d =
+    ends-tell v k x y fits fits′ few (omega (arith, d .size)) (one-changed-part v k q j (givenBits (variant v) x) (givenBits (variant v) y) d)
 
-    -- Of a sponge: two messages of bytes within the limit that differ only in the n bytes from p on, which lie in one block, are told apart.
-    pub value-told : ((i : ℕ) → getD x i 0 < 256) → ((i : ℕ) → getD y i 0 < 256) → (p n : ℕ) → DifferWithin p n x y → inOneBlock (variant v) p n ≡ true
-        → ToldApart v x y
-    value-told hx hy p n d o = block-told (8 * p / variant v .r) (value-block x y hx hy (variant v) p n d o)
-
--- ---- two messages of whose last bytes k and l bits count
-
-module _ (v : ℕ) (named : known v ≡ true) (x y : List ℕ) (k l : ℕ) (nx : isBitNumber k (length x) ≡ true) (ny : isBitNumber l (length y) ≡ true) where
-  abbrev X : List Bool
-  X = messageBits (variant v) x k
-
-  abbrev Y : List Bool
-  Y = messageBits (variant v) y l
-
-  module _ (fx : length (messageBits (variant v) x k) ≤ mostBits) (fy : length (messageBits (variant v) y l) ≤ mostBits) where
-    -- different end states are told apart
-    pub bits-ends-tell : (endState (variant v) (messageBits (variant v) x k) ≡ endState (variant v) (messageBits (variant v) y l) → ⊥) → ToldApartBits v x k y l
-    bits-ends-tell n =
-        record { whole = whole; pieces = λ xs ys x-last y-last ex ey sx sy. as-others (variant v) _ _ _ _ (cut xs x-last x k nx ex sx) (cut ys y-last y l ny ey sy) whole }
-      where
-        whole : ImagesDiffer (variant v) (wholeBitsInto v x k EndState) (wholeBitsInto v y l EndState)
-        whole =
-            ends-differ v named X Y n _ _
-            (λ out o. whole-bits-done v named x k nx fx EndState out o .1) (λ out o. whole-bits-done v named y l ny fy EndState out o .1)
-
-        -- the pieces of a message, the last of which has a byte
-        cut : (ps : List (List ℕ)) (last m : List ℕ) (j : ℕ) → isBitNumber j (length m) ≡ true → joined ps ++ last ≡ m → 0 < length last → (out : List ℕ)
-            → wholeBitsInto v m j EndState out ≡ hashedBitsInto v ps last j EndState out
-        cut ps last m j nm e some out =
-            ap (λ (z : List ℕ). wholeBitsInto v z j EndState out) (sym e) ∙ whole-bits-is-pieces v ps EndState out last j (numbered-too m last j nm some) .1
-
-    -- Of a sponge: two messages that may end inside a byte, whose padded rows have equal count and differ at exactly one block, are told apart.
-    pub bits-row-told : isSponge (variant v) ≡ true → (i : ℕ) → DifferAt i (blocksOf (variant v) (messageBits (variant v) x k)) (blocksOf (variant v) (messageBits (variant v) y l)) → ToldApartBits v x k y l
-    bits-row-told q i d = bits-ends-tell (one-changed-row v named q i X Y d)
-
-  -- Of a sponge: two of one bit length within the limit whose bits differ, and only within the block j, are told apart.
-  pub bits-block-told : isSponge (variant v) ≡ true → length (messageBits (variant v) x k) ≤ mostBits → (j : ℕ)
-      → DifferWithin (j * variant v .r) (variant v .r) (messageBits (variant v) x k) (messageBits (variant v) y l) → ToldApartBits v x k y l
-  bits-block-told q fx j d = bits-ends-tell fx (omega (arith, d .size)) (one-changed-part v named q j X Y d)
+pub value-told : ValueTold
+value-told v k q x y few hx hy p n d o =
+    block-told v k q (bytes x) (bytes y) refl refl (few-bits x few) (8 * p / variant v .r) (value-block x y hx hy (variant v) p n d o)

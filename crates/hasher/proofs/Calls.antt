@@ -9,34 +9,36 @@ use lib.Dec.{ltb}
 use lib.ListN.{length, take, drop}
 use borrow.Author.Tests.{ltb-false, not-true, lt-ltb, le-ltb, eqb-true}
 use native.Mathlib.Omega.{arith}
-use Rattle.standard.specs.Chain.{byteBits, messageBits, run, endState}
+use Rattle.standard.specs.Chain.{run, endState}
+use Rattle.standard.specs.Messages.{Given, givenBits}
 use Rattle.standard.specs.Variants.{known, variant}
 use Rattle.answers.specs.declared.Refusal.{Refusal}
-use Rattle.answers.specs.declared.Refusal.the-variants.{UnknownVariant, TooLong, BadBitNumber, InsideByte}
+use Rattle.answers.specs.declared.Refusal.the-variants.{UnknownVariant, TooLong, InsideByte}
 use Rattle.answers.specs.declared.Status.{Status}
 use Rattle.answers.specs.declared.Status.the-variants.{Done, Refused}
-use Rattle.answers.specs.Checks.{firstRefusal, Pass}
-use Rattle.answers.specs.Outputs.{most, mostBits, whenDone, written}
+use Rattle.answers.specs.Checks.{firstRefusal}
+use Rattle.answers.specs.Outputs.{mostBits, whenDone, written}
 use Rattle.answers.proofs.Rows.{passing-says, row-second, row-both}
 use Rattle.standard.specs.Bits.{high-first, pack}
 use Rattle.standard.specs.Sponge.{Variant, isSponge, order, givenOut, imageSize, imageOf}
 use Rattle.standard.proofs.BitLaws.{length-pack, take-pack}
-use Rattle.standard.proofs.PartBytes.{bits-length}
 use Rattle.standard.proofs.Tests.{lt-or-le, either}
 use Rattle.standard.proofs.Variants.{Bounds, bounds, not-sponge}
 use Rattle.sponge.proofs.Outcomes.{either-way}
 use Rattle.sponge.specs.Layout.{stateRoom, packedState}
 use Rattle.sponge.specs.Words.{outcome}
 use Rattle.sponge.specs.Blocks.{firstBlocks}
-use Rattle.sponge.specs.Parts.{isBitNumber, messageChecks, messageBitsChecks}
+use Rattle.sponge.specs.declared.parts.Ending.{Ending}
+use Rattle.sponge.specs.Messages.{numberChecks, Fits, messageChecks}
+use Rattle.sponge.specs.Parts.{given}
 use Rattle.sponge.proofs.BlockRuns.{run-start}
-use Rattle.sponge.proofs.PartBytes.{BitNumber, bit-number, number-fits, BitsAsked, message-passed, bits-passed}
+use Rattle.sponge.proofs.PartBytes.{given-most, given-least, Asked, message-passed}
 use Rattle.hasher.specs.declared.Hasher.{Hasher}
 use Rattle.hasher.specs.declared.Advanced.{Advanced}
-use Rattle.hasher.specs.Running.{closed, Open, blank, fresh, grown, ended, wholeSoFar, finishChecks, followChecks, updateChecks, updateBitsChecks, startedOver, started, updated, updatedBits, finished, variantOf, wellFormed}
+use Rattle.hasher.specs.Running.{closed, Open, blank, fresh, grown, ended, wholeSoFar, openChecks, followChecks, updateChecks, startedOver, started, updated, finished, variantOf, wellFormed}
 use Rattle.hasher.specs.declared.Wanted.{Wanted}
 use Rattle.hasher.specs.declared.Wanted.the-variants.{Digest, EndState}
-use Rattle.hasher.specs.Reading.{resultOf, resultSize, isDigest, roomChecks, readChecks, readStatus, wholeChecks, wholeBitsChecks}
+use Rattle.hasher.specs.Reading.{resultOf, resultSize, isDigest, roomChecks, readChecks, readStatus, wholeStatus}
 
 abbrev pub done : Hasher → Advanced
 done h = record { status = Done; hasher = h }
@@ -57,30 +59,26 @@ start-done v e = rw e
 -- ---- finish and update
 
 module _ (h : Hasher) where
-  pub open-says : firstRefusal (finishChecks h) ≡ Done → Open h
+  pub open-says : firstRefusal (openChecks h) ≡ Done → Open h
   open-says e =
-      let p = passing-says (finishChecks h) e in
+      let p = passing-says (openChecks h) e in
       (p .0, not-true (closed h) (p .1 .0))
 
   pub finish-done : Open h → finished h ≡ done (ended h)
   unfolding finished
   finish-done o = rw (o .0, o .1)
 
-  -- a piece of n bits may come
+  -- n bits may follow
   pub record Followed (n : ℕ) : Type 0 where
     pub opened : Open h
     pub whole : wholeSoFar h ≡ true
     pub few : h .total + n ≤ mostBits
 
-  follow-says : (n : ℕ) → Open h → Pass (followChecks h n) → Followed n
-  follow-says n o p =
-      record { opened = o; whole = p .0; few = ltb-false mostBits (h .total + n) (not-true (ltb mostBits (h .total + n)) (p .1 .0)) }
-
   module _ (n : ℕ) where
-    pub update-says : firstRefusal (updateChecks h n) ≡ Done → Followed n
-    update-says e =
-        let p = passing-says (updateChecks h n) e in
-        follow-says n (p .0, not-true (closed h) (p .1 .0)) (p .1 .1)
+    pub follow-says : Open h → firstRefusal (followChecks h n) ≡ Done → Followed n
+    follow-says o e =
+        let p = passing-says (followChecks h n) e in
+        record { opened = o; whole = p .0; few = ltb-false mostBits (h .total + n) (not-true (ltb mostBits (h .total + n)) (p .1 .0)) }
 
     pub follows : wholeSoFar h ≡ true → h .total + n ≤ mostBits → firstRefusal (followChecks h n) ≡ Done
     follows w l = rw (w, le-ltb mostBits (h .total + n) l)
@@ -91,74 +89,57 @@ module _ (h : Hasher) where
     pub too-long : wholeSoFar h ≡ true → mostBits < h .total + n → firstRefusal (followChecks h n) ≡ Refused TooLong
     too-long w l = rw (w, lt-ltb mostBits (h .total + n) l)
 
-  module _ (o : Open h) where
-    open-passes : firstRefusal (finishChecks h) ≡ Done
-    open-passes = rw (o .0, o .1)
+  open-passes : Open h → firstRefusal (openChecks h) ≡ Done
+  open-passes o = rw (o .0, o .1)
 
-    -- what follows decides
-    pub update-answer : (n : ℕ) → firstRefusal (updateChecks h n) ≡ firstRefusal (followChecks h n)
-    update-answer n = row-second (finishChecks h) (followChecks h n) open-passes
+  -- ---- a piece
 
-    module _ (piece : List ℕ) where
-      update-status : {s : Status} → firstRefusal (followChecks h (8 * length piece)) ≡ s
-          → updated h piece ≡ record { status = s; hasher = whenDone s (grown h (byteBits piece)) h }
+  module _ (g : Given) where
+    abbrev added : List Bool
+    added = givenBits (variantOf h) g
+
+    -- what passing the checks says
+    pub record Takes : Type 0 where
+      pub fits : Fits g
+      pub follow : Followed (length (givenBits (variantOf h) g))
+
+    pub update-says : firstRefusal (updateChecks h g) ≡ Done → Takes
+    update-says e =
+        let p = row-both (openChecks h) (numberChecks g ++ followChecks h (length added)) e in
+        let q = row-both (numberChecks g) (followChecks h (length added)) (p .1) in
+        record { fits = q .0; follow = follow-says (length added) (open-says (p .0)) (q .1) }
+
+    module _ (o : Open h) (f : Fits g) where
+      -- what follows decides
+      pub update-answer : firstRefusal (updateChecks h g) ≡ firstRefusal (followChecks h (length (givenBits (variantOf h) g)))
+      update-answer =
+          row-second (openChecks h) (numberChecks g ++ followChecks h (length added)) (open-passes o)
+          ∙ row-second (numberChecks g) (followChecks h (length added)) f
+
+      update-status : {s : Status} → firstRefusal (followChecks h (length added)) ≡ s → updated h g ≡ record { status = s; hasher = whenDone s (grown h added) h }
       unfolding updated
-      update-status e = ap (λ (s : Status). record { status = s; hasher = whenDone s (grown h (byteBits piece)) h }) (update-answer (8 * length piece) ∙ e)
+      update-status e = ap (λ (s : Status). record { status = s; hasher = whenDone s (grown h added) h }) (update-answer ∙ e)
 
-      pub update-long : wholeSoFar h ≡ true → mostBits < h .total + 8 * length piece → updated h piece ≡ refused TooLong h
-      update-long w l = update-status (too-long (8 * length piece) w l)
+      pub update-long : wholeSoFar h ≡ true → mostBits < h .total + length (givenBits (variantOf h) g) → updated h g ≡ refused TooLong h
+      update-long w l = update-status (too-long (length added) w l)
 
-      pub update-done : wholeSoFar h ≡ true → h .total + 8 * length piece ≤ mostBits → updated h piece ≡ done (grown h (byteBits piece))
-      update-done w l = update-status (follows (8 * length piece) w l)
+      pub update-done : wholeSoFar h ≡ true → h .total + length (givenBits (variantOf h) g) ≤ mostBits → updated h g ≡ done (grown h (givenBits (variantOf h) g))
+      update-done w l = update-status (follows (length added) w l)
 
-  -- ---- a piece with a bit number
-
-  module _ (piece : List ℕ) (k : ℕ) where
-    abbrev bits : ℕ
-    bits = length (messageBits (variantOf h) piece k)
-
-    -- it may come
-    pub record BitsFollowed : Type 0 where
-      pub numbered : isBitNumber k (length piece) ≡ true
-      pub follow : Followed bits
-
-    pub bits-say : firstRefusal (updateBitsChecks h piece k) ≡ Done → BitsFollowed
-    bits-say e =
-        let p = passing-says (updateBitsChecks h piece k) e in
-        record { numbered = p .1 .1 .0; follow = follow-says bits (p .0, not-true (closed h) (p .1 .0)) (p .1 .1 .1) }
-
-    -- a byte of which some bits count takes as much of what is left as a whole one
-    pub same-room : isBitNumber k (length piece) ≡ true → h .total ≤ mostBits
-        → firstRefusal (followChecks h (8 * length piece)) ≡ firstRefusal (followChecks h (length (messageBits (variantOf h) piece k)))
-    same-room e few =
-        let b : BitNumber k (length piece) = bit-number k (length piece) e in
-        let size : bits ≡ 8 * (length piece - 1) + k = bits-length piece (b .some) (variantOf h) k in
-        ⊎-elim
-        (λ w. ⊎-elim
-        (λ l. too-long (8 * length piece) w l ∙ sym (too-long bits w (omega (arith, size, b .least, b .some, eqb-true (h .total % 8) 0 w))))
-        (λ l. follows (8 * length piece) w l ∙ sym (follows bits w (omega (arith, size, b .most, b .some))))
-        (lt-or-le mostBits (h .total + 8 * length piece)))
-        (λ w. inside (8 * length piece) w ∙ sym (inside bits w))
-        (either (wholeSoFar h))
-
-    module _ (o : Open h) where
-      pub bad-number : isBitNumber k (length piece) ≡ false → firstRefusal (updateBitsChecks h piece k) ≡ Refused BadBitNumber
-      bad-number e = rw (o .0, o .1, e)
-
-      pub bits-answer : isBitNumber k (length piece) ≡ true → firstRefusal (updateBitsChecks h piece k) ≡ firstRefusal (followChecks h (length (messageBits (variantOf h) piece k)))
-      bits-answer e = rw (o .0, o .1, e)
-
-      pub bits-done : isBitNumber k (length piece) ≡ true → wholeSoFar h ≡ true → h .total + length (messageBits (variantOf h) piece k) ≤ mostBits
-          → updatedBits h piece k ≡ done (grown h (messageBits (variantOf h) piece k))
-      unfolding updatedBits
-      bits-done e w l =
-          ap (λ (s : Status). record { status = s; hasher = whenDone s (grown h (messageBits (variantOf h) piece k)) h }) (bits-answer e ∙ follows bits w l)
-
-      pub bits-long : isBitNumber k (length piece) ≡ true → wholeSoFar h ≡ true → mostBits < h .total + length (messageBits (variantOf h) piece k)
-          → updatedBits h piece k ≡ refused TooLong h
-      unfolding updatedBits
-      bits-long e w l =
-          ap (λ (s : Status). record { status = s; hasher = whenDone s (grown h (messageBits (variantOf h) piece k)) h }) (bits-answer e ∙ too-long bits w l)
+  -- a byte of which some bits count takes as much of what is left as a whole one
+  pub same-room : (piece : List ℕ) (e : Ending) → Fits (given piece e)
+      → firstRefusal (followChecks h (8 * length piece)) ≡ firstRefusal (followChecks h (length (givenBits (variantOf h) (given piece e))))
+  same-room piece e f =
+      let bits : ℕ = length (givenBits (variantOf h) (given piece e)) in
+      let least = given-least (variantOf h) piece e f in
+      let most = given-most (variantOf h) piece e f in
+      ⊎-elim
+      (λ w. ⊎-elim
+      (λ l. too-long (8 * length piece) w l ∙ sym (too-long bits w (omega (arith, least, eqb-true (h .total % 8) 0 w))))
+      (λ l. follows (8 * length piece) w l ∙ sym (follows bits w (omega (arith, most))))
+      (lt-or-le mostBits (h .total + 8 * length piece)))
+      (λ w. inside (8 * length piece) w ∙ sym (inside bits w))
+      (either (wholeSoFar h))
 
 pub result-length : (H : Variant) (wanted : Wanted) (s : List Bool) → length (resultOf H wanted s) ≡ resultSize H wanted
 unfolding imageOf
@@ -251,32 +232,14 @@ module _ (h : Hasher) (wanted : Wanted) (n : ℕ) where
 room-says : (H : Variant) (wanted : Wanted) (size : ℕ) → firstRefusal (roomChecks H wanted size) ≡ Done → resultSize H wanted ≤ size
 room-says H wanted size e = ltb-false size _ (not-true _ (passing-says (roomChecks H wanted size) e .0))
 
-module _ (v n : ℕ) (wanted : Wanted) (size : ℕ) where
-  -- a message of n bytes may be hashed into so many bytes
+module _ (v : ℕ) (g : Given) (wanted : Wanted) (size : ℕ) where
+  -- a message may be hashed into so many bytes
   pub record Hashable : Type 0 where
-    pub named : known v ≡ true
-    pub few : n ≤ most
+    pub asked : Asked v g
     pub room : resultSize (variant v) wanted ≤ size
 
-  pub whole-says : firstRefusal (wholeChecks v n wanted size) ≡ Done → Hashable
+  pub whole-says : wholeStatus v g wanted size ≡ Done → Hashable
+  unfolding wholeStatus
   whole-says e =
-      let p = row-both (messageChecks v n) (roomChecks (variant v) wanted size) e in
-      let m = message-passed v n (p .0) in
-      record { named = m .0; few = m .1; room = room-says (variant v) wanted size (p .1) }
-
--- a bit number that fits some bytes fits any that are not none
-pub numbered-too : (m last : List ℕ) (k : ℕ) → isBitNumber k (length m) ≡ true → 0 < length last → isBitNumber k (length last) ≡ true
-numbered-too m last k e some =
-    let b : BitNumber k (length m) = bit-number k (length m) e in
-    number-fits k (length last) (b .least) (b .most) some
-
-module _ (v : ℕ) (m : List ℕ) (k : ℕ) (wanted : Wanted) (size : ℕ) where
-  -- one with a bit number may be
-  pub record HashableBits : Type 0 where
-    pub asked : BitsAsked v m k
-    pub room : resultSize (variant v) wanted ≤ size
-
-  pub whole-bits-say : firstRefusal (wholeBitsChecks v m k wanted size) ≡ Done → HashableBits
-  whole-bits-say e =
-      let p = row-both (messageBitsChecks v m k) (roomChecks (variant v) wanted size) e in
-      record { asked = bits-passed v m k (p .0); room = room-says (variant v) wanted size (p .1) }
+      let p = row-both (messageChecks v g) (roomChecks (variant v) wanted size) e in
+      record { asked = message-passed v g (p .0); room = room-says (variant v) wanted size (p .1) }

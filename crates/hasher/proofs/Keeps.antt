@@ -1,26 +1,25 @@
 -- Every operation gives a well-formed running hash where it was given one, refused or not, and a refusal gives back the one that it was given.
 -- Assumes nothing.
-use mathlib.Core.Path.{_≡_, ap, _∙_}
+use mathlib.Core.Path.{_≡_, sym, ap, _∙_, subst}
 use mathlib.Core.Bool.{Bool, true, false}
 use mathlib.Core.List.{List}
-use Prim.Native.Nat.{ℕ, _+_, _*_, _≤_}
-use native.Mathlib.Omega.{arith}
+use mathlib.Core.Logic.{⊎-elim}
+use Prim.Native.Nat.{ℕ, _+_, _≤_}
 use lib.ListN.{length}
-use borrow.Author.Tests.{not-true, ltb-false}
-use Rattle.standard.specs.Bits.{high-first}
-use Rattle.standard.specs.Chain.{byteBits, messageBits}
-use Rattle.standard.proofs.BitLaws.{length-bitsIn}
+use Rattle.standard.specs.Messages.{Given, givenBits}
+use Rattle.standard.specs.Variants.{known}
 use Rattle.answers.specs.declared.Status.{Status}
 use Rattle.answers.specs.declared.Status.the-variants.{Done}
 use Rattle.answers.specs.Checks.{firstRefusal}
 use Rattle.answers.specs.Outputs.{whenDone, mostBits}
-use Rattle.answers.proofs.Statuses.{kept}
+use Rattle.answers.proofs.Statuses.{done-or, kept}
 use Rattle.answers.proofs.Rows.{passing-says, by-ways}
 use Rattle.hasher.specs.declared.Hasher.{Hasher}
-use Rattle.hasher.specs.Running.{variantOf, closed, wellFormed, blank, fresh, grown, ended, startChecks, updateChecks, updateBitsChecks, finishChecks, startedOver, started, updated, updatedBits, finished}
+use Rattle.hasher.specs.Running.{variantOf, closed, wellFormed, blank, fresh, grown, ended, startChecks, updateChecks, openChecks, startedOver, started, updated, finished}
 use Rattle.hasher.specs.Sized.{Sized}
 use Rattle.hasher.proofs.WellFormed.{facts, well-formed}
 use Rattle.hasher.proofs.Next.{ended-sized, ended-facts, grown-open, grown-sized}
+use Rattle.hasher.proofs.Calls.{update-says}
 use Rattle.hasher.proofs.Message.{fresh-facts}
 
 -- a running hash that is well formed and of the code's sizes
@@ -33,6 +32,11 @@ unfolding started startedOver
 start-well-formed v e =
     let k = passing-says (startChecks v) e .0 in
     ap (λ (s : Status). wellFormed (whenDone s (fresh v) (blank 0))) e ∙ well-formed (fresh v) (fresh-facts v k)
+
+-- a start over a running hash that is there is a start, of a variant that is known
+pub over-started : (h : Hasher) (v : ℕ) → known v ≡ true → startedOver h v ≡ started v
+unfolding started startedOver
+over-started h v k = rw k
 
 -- a start over a well-formed running hash leaves one, and a refused one leaves it as it was
 pub over-well-formed : (h : Hasher) → wellFormed h ≡ true → (v : ℕ) → wellFormed (startedOver h v .hasher) ≡ true
@@ -49,61 +53,27 @@ module _ (h : Hasher) (z : Sized h) (w : wellFormed h ≡ true) where
   goes-on : (m : List Bool) → closed h ≡ false → h .total + length m ≤ mostBits → Good (grown h m)
   goes-on m c few = (grown-open h z (w, c) m few .0, grown-sized h z (w, c) m)
 
-  update-good : (piece : List ℕ) → Good (updated h piece .hasher)
+  update-good : (g : Given) → Good (updated h g .hasher)
   unfolding updated
-  update-good piece =
-      by-ways (λ s. Good (whenDone s (grown h (byteBits piece)) h)) (updateChecks h (8 * length piece)) (
-        (λ e. (w, z)),
-        λ e. (
-          (λ c. (w, z)),
-          λ c. (
-            (λ t. (w, z)),
-            λ t. (
-              (λ l. (w, z)),
-              λ l.
-                  goes-on (byteBits piece) (not-true (closed h) c)
-                  (omega (arith, length-bitsIn high-first piece, ltb-false mostBits (h .total + 8 * length piece) (not-true _ l))),
-            ),
-          ),
-        ),
-      )
+  update-good g =
+      ⊎-elim
+      (λ e.
+      let t = update-says h g e in
+      subst (λ (s : Status). Good (whenDone s (grown h (givenBits (variantOf h) g)) h)) (sym e) (goes-on (givenBits (variantOf h) g) (t .follow .opened .1) (t .follow .few)))
+      (λ n. subst Good (sym (kept (firstRefusal (updateChecks h g)) (grown h (givenBits (variantOf h) g)) h n)) (w, z))
+      (done-or (firstRefusal (updateChecks h g)))
 
   -- an update keeps a well-formed running hash well formed
-  pub update-well-formed : (piece : List ℕ) → wellFormed (updated h piece .hasher) ≡ true
-  update-well-formed piece = update-good piece .0
+  pub update-well-formed : (g : Given) → wellFormed (updated h g .hasher) ≡ true
+  update-well-formed g = update-good g .0
 
-  pub update-sized : (piece : List ℕ) → Sized (updated h piece .hasher)
-  update-sized piece = update-good piece .1
-
-  update-bits-good : (piece : List ℕ) (k : ℕ) → Good (updatedBits h piece k .hasher)
-  unfolding updatedBits
-  update-bits-good piece k =
-      let bits : List Bool = messageBits (variantOf h) piece k in
-      by-ways (λ s. Good (whenDone s (grown h bits) h)) (updateBitsChecks h piece k) (
-        (λ e. (w, z)),
-        λ e. (
-          (λ c. (w, z)),
-          λ c. (
-            (λ n. (w, z)),
-            λ n. (
-              (λ t. (w, z)),
-              λ t. ((λ l. (w, z)), λ l. goes-on bits (not-true (closed h) c) (ltb-false mostBits (h .total + length bits) (not-true _ l))),
-            ),
-          ),
-        ),
-      )
-
-  -- so does one with a bit number
-  pub update-bits-well-formed : (piece : List ℕ) (k : ℕ) → wellFormed (updatedBits h piece k .hasher) ≡ true
-  update-bits-well-formed piece k = update-bits-good piece k .0
-
-  pub update-bits-sized : (piece : List ℕ) (k : ℕ) → Sized (updatedBits h piece k .hasher)
-  update-bits-sized piece k = update-bits-good piece k .1
+  pub update-sized : (g : Given) → Sized (updated h g .hasher)
+  update-sized g = update-good g .1
 
   finish-good : Good (finished h .hasher)
   unfolding finished
   finish-good =
-      by-ways (λ s. Good (whenDone s (ended h) h)) (finishChecks h)
+      by-ways (λ s. Good (whenDone s (ended h) h)) (openChecks h)
       ((λ e. (w, z)), λ e. ((λ c. (w, z)), λ c. (well-formed (ended h) (ended-facts h (facts h w) z), ended-sized h)))
 
   -- and so does finishing
@@ -114,15 +84,11 @@ module _ (h : Hasher) (z : Sized h) (w : wellFormed h ≡ true) where
   finish-sized = finish-good .1
 
 -- a refused update gives back the running hash that it was given, well formed or not
-pub update-unchanged : (h : Hasher) (piece : List ℕ) → (updated h piece .status ≡ Done → ⊥) → updated h piece .hasher ≡ h
+pub update-unchanged : (h : Hasher) (g : Given) → (updated h g .status ≡ Done → ⊥) → updated h g .hasher ≡ h
 unfolding updated
-update-unchanged h piece n = kept (firstRefusal (updateChecks h (8 * length piece))) _ h n
-
-pub update-bits-unchanged : (h : Hasher) (piece : List ℕ) (k : ℕ) → (updatedBits h piece k .status ≡ Done → ⊥) → updatedBits h piece k .hasher ≡ h
-unfolding updatedBits
-update-bits-unchanged h piece k n = kept (firstRefusal (updateBitsChecks h piece k)) _ h n
+update-unchanged h g n = kept (firstRefusal (updateChecks h g)) _ h n
 
 -- and so does a refused finish
 pub finish-unchanged : (h : Hasher) → (finished h .status ≡ Done → ⊥) → finished h .hasher ≡ h
 unfolding finished
-finish-unchanged h n = kept (firstRefusal (finishChecks h)) (ended h) h n
+finish-unchanged h n = kept (firstRefusal (openChecks h)) (ended h) h n

@@ -10,7 +10,8 @@ use lib.ListN.{length, drop}
 use borrow.Author.Tests.{le-ltb}
 use Rattle.standard.specs.Bits.{high-first}
 use Rattle.standard.specs.Sponge.{Variant, startState}
-use Rattle.standard.specs.Chain.{byteBits, messageBits, padding, wholeBlocks, restOf, run, endState}
+use Rattle.standard.specs.Chain.{byteBits, padding, wholeBlocks, restOf, run, endState}
+use Rattle.standard.specs.Messages.{Given, bytes, givenBits}
 use Rattle.standard.specs.Variants.{variant, known}
 use Rattle.standard.proofs.BitLaws.{length-bitsIn}
 use Rattle.standard.proofs.Streaming.{Streams, end-parts}
@@ -19,17 +20,19 @@ use Rattle.answers.specs.declared.Status.{Status}
 use Rattle.answers.specs.declared.Status.the-variants.{Done}
 use Rattle.answers.specs.Checks.{firstRefusal}
 use Rattle.answers.specs.Outputs.{written, most, mostBits}
+use Rattle.answers.proofs.Rows.{row-second}
 use Rattle.sponge.specs.Layout.{packedState, packedBlock}
-use Rattle.sponge.specs.Parts.{isBitNumber}
+use Rattle.sponge.specs.Messages.{Fits, messageChecks}
+use Rattle.sponge.proofs.PartBytes.{message-passes}
 use Rattle.hasher.specs.declared.Hasher.{Hasher}
 use Rattle.hasher.specs.declared.Advanced.{Advanced}
 use Rattle.hasher.specs.Running.{heldCount, wholeSoFar, heldIn, stateOf, Open, blank, fresh, grown, ended, started, updated, finished}
 use Rattle.hasher.specs.declared.Wanted.{Wanted}
-use Rattle.hasher.specs.Reading.{resultOf, resultSize, roomChecks, readStatus, readInto, wholeStatus, wholeInto, wholeBitsStatus, wholeBitsInto}
+use Rattle.hasher.specs.Reading.{resultOf, resultSize, roomChecks, readStatus, readInto, wholeStatus, wholeInto}
 use Rattle.hasher.specs.Pieces.{Reads}
 use Rattle.hasher.specs.Sized.{Sized}
 use Rattle.hasher.proofs.WellFormed.{Facts, facts, well-formed, open-count}
-use Rattle.hasher.proofs.Next.{going-sized, state-going, held-going, going-facts, ended-facts, ended-state, grown-open, grown-sized, grown-state, grown-held, onward-whole}
+use Rattle.hasher.proofs.Next.{going-sized, state-going, held-going, going-facts, ended-facts, ended-state, grown-open, grown-sized, grown-state, grown-held}
 use Rattle.hasher.proofs.Calls.{start-done, update-done, finish-done, result-length}
 
 -- the running hash of a message so far, of bits and of whole bytes
@@ -130,67 +133,44 @@ module _ (v : ℕ) (k : known v ≡ true) where
             end-output wanted out Done e ∙ ap (λ (n : ℕ). resultOf H wanted (endState H m) ++ drop n out) (result-length H wanted (endState H m)),
           )
 
+  -- ---- a whole message as a caller gives it
+
+  module _ (g : Given) (f : Fits g) (few : length (givenBits (variant v) g) ≤ mostBits) where
+    abbrev m : List Bool
+    m = givenBits (variant v) g
+
+    whole-answer : (wanted : Wanted) (n : ℕ) → firstRefusal (roomChecks H wanted n) ≡ wholeStatus v g wanted n
+    unfolding wholeStatus
+    whole-answer wanted n = sym (row-second (messageChecks v g) (roomChecks H wanted n) (message-passes v g k f few))
+
+    pub end-status : (wanted : Wanted) (n : ℕ) → readStatus (ended (reached v (givenBits (variant v) g))) wanted n ≡ wholeStatus v g wanted n
+    end-status wanted n = end-answer m few wanted n ∙ whole-answer wanted n
+
+    pub end-into : (wanted : Wanted) (out : List ℕ) → readInto (ended (reached v (givenBits (variant v) g))) wanted out ≡ wholeInto v g wanted out
+    unfolding wholeInto
+    end-into wanted out = end-output m few wanted out (wholeStatus v g wanted (length out)) (whole-answer wanted (length out))
+
+    -- into an output that is long enough
+    pub whole-done : (wanted : Wanted) (out : List ℕ) → resultSize (variant v) wanted ≤ length out
+        → (wholeStatus v g wanted (length out) ≡ Done)
+        × (wholeInto v g wanted out ≡ resultOf (variant v) wanted (endState (variant v) (givenBits (variant v) g)) ++ drop (resultSize (variant v) wanted) out)
+    whole-done wanted out l =
+        let r = end-reads m few wanted out l in
+        (sym (end-status wanted (length out)) ∙ r .0, sym (end-into wanted out) ∙ r .1)
+
   -- ---- whole bytes
 
   module _ (m : List ℕ) (few : length m ≤ most) where
-    pub taken-open : Open (taken v m)
-    taken-open = reached-open (byteBits m) (few-bits m few)
-
-    pub taken-whole : wholeSoFar (taken v m) ≡ true
-    taken-whole = onward-whole (fresh v) fresh-whole m
-
-    whole-answer : (wanted : Wanted) (n : ℕ) → firstRefusal (roomChecks H wanted n) ≡ wholeStatus v m wanted n
-    unfolding wholeStatus
-    whole-answer wanted n = rw (k, le-ltb most (length m) few)
-
-    pub end-status : (wanted : Wanted) (n : ℕ) → readStatus (ended (taken v m)) wanted n ≡ wholeStatus v m wanted n
-    end-status wanted n = end-answer (byteBits m) (few-bits m few) wanted n ∙ whole-answer wanted n
-
-    pub end-into : (wanted : Wanted) (out : List ℕ) → readInto (ended (taken v m)) wanted out ≡ wholeInto v m wanted out
-    unfolding wholeInto
-    end-into wanted out = end-output (byteBits m) (few-bits m few) wanted out (wholeStatus v m wanted (length out)) (whole-answer wanted (length out))
-
-    -- a whole message into an output that is long enough
-    pub whole-done : (wanted : Wanted) (out : List ℕ) → resultSize (variant v) wanted ≤ length out
-        → (wholeStatus v m wanted (length out) ≡ Done)
-        × (wholeInto v m wanted out ≡ resultOf (variant v) wanted (endState (variant v) (byteBits m)) ++ drop (resultSize (variant v) wanted) out)
-    whole-done wanted out l =
-        let r = end-reads (byteBits m) (few-bits m few) wanted out l in
-        (sym (end-status wanted (length out)) ∙ r .0, sym (end-into wanted out) ∙ r .1)
-
     -- the calls one after another
     pub calls-read : (wanted : Wanted) (out : List ℕ) (s u f : Advanced) (r : Status) (after : List ℕ)
-        → s ≡ started v → u ≡ updated (s .hasher) m → f ≡ finished (u .hasher)
+        → s ≡ started v → u ≡ updated (s .hasher) (bytes m) → f ≡ finished (u .hasher)
         → (r ≡ readStatus (f .hasher) wanted (length out)) × (after ≡ readInto (f .hasher) wanted out)
-        → (r ≡ wholeStatus v m wanted (length out)) × (after ≡ wholeInto v m wanted out)
+        → (r ≡ wholeStatus v (bytes m) wanted (length out)) × (after ≡ wholeInto v (bytes m) wanted out)
     calls-read wanted out s u f r after es eu ef er =
         let is : s .hasher ≡ fresh v = ap (λ (a : Advanced). a .hasher) (es ∙ start-done v k) in
         let iu : u .hasher ≡ taken v m =
-        ap (λ (a : Advanced). a .hasher) (eu ∙ ap (λ (g : Hasher). updated g m) is ∙ update-done (fresh v) fresh-open m fresh-whole (omega arith)) in
-        let end : f .hasher ≡ ended (taken v m) = ap (λ (a : Advanced). a .hasher) (ef ∙ ap finished iu ∙ finish-done (taken v m) taken-open) in (
-          er .0 ∙ ap (λ (g : Hasher). readStatus g wanted (length out)) end ∙ end-status wanted (length out),
-          er .1 ∙ ap (λ (g : Hasher). readInto g wanted out) end ∙ end-into wanted out,
+        ap (λ (a : Advanced). a .hasher) (eu ∙ ap (λ (g : Hasher). updated g (bytes m)) is ∙ update-done (fresh v) (bytes m) fresh-open refl fresh-whole (omega (arith, few-bits m few))) in
+        let end : f .hasher ≡ ended (taken v m) = ap (λ (a : Advanced). a .hasher) (ef ∙ ap finished iu ∙ finish-done (taken v m) (reached-open (byteBits m) (few-bits m few))) in (
+          er .0 ∙ ap (λ (g : Hasher). readStatus g wanted (length out)) end ∙ end-status (bytes m) refl (few-bits m few) wanted (length out),
+          er .1 ∙ ap (λ (g : Hasher). readInto g wanted out) end ∙ end-into (bytes m) refl (few-bits m few) wanted out,
         )
-
-  -- ---- bytes of whose last one j bits count
-
-  module _ (m : List ℕ) (j : ℕ) (numbered : isBitNumber j (length m) ≡ true) (few : length (messageBits (variant v) m j) ≤ mostBits) where
-    bits-answer : (wanted : Wanted) (n : ℕ) → firstRefusal (roomChecks H wanted n) ≡ wholeBitsStatus v m j wanted n
-    unfolding wholeBitsStatus
-    bits-answer wanted n = rw (k, numbered, le-ltb mostBits (length (messageBits H m j)) few)
-
-    pub bits-status : (wanted : Wanted) (n : ℕ) → readStatus (ended (reached v (messageBits (variant v) m j))) wanted n ≡ wholeBitsStatus v m j wanted n
-    bits-status wanted n = end-answer (messageBits H m j) few wanted n ∙ bits-answer wanted n
-
-    pub bits-into : (wanted : Wanted) (out : List ℕ) → readInto (ended (reached v (messageBits (variant v) m j))) wanted out ≡ wholeBitsInto v m j wanted out
-    unfolding wholeBitsInto
-    bits-into wanted out = end-output (messageBits H m j) few wanted out (wholeBitsStatus v m j wanted (length out)) (bits-answer wanted (length out))
-
-    -- a whole message into an output that is long enough
-    pub whole-bits-done : (wanted : Wanted) (out : List ℕ) → resultSize (variant v) wanted ≤ length out
-        → (wholeBitsStatus v m j wanted (length out) ≡ Done)
-        × (wholeBitsInto v m j wanted out
-        ≡ resultOf (variant v) wanted (endState (variant v) (messageBits (variant v) m j)) ++ drop (resultSize (variant v) wanted) out)
-    whole-bits-done wanted out l =
-        let r = end-reads (messageBits H m j) few wanted out l in
-        (sym (bits-status wanted (length out)) ∙ r .0, sym (bits-into wanted out) ∙ r .1)

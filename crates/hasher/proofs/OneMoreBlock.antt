@@ -13,12 +13,14 @@ use Rattle.answers.specs.Outputs.{whenDone}
 use Rattle.standard.specs.Bits.{high-first, pack}
 use Rattle.standard.specs.Sponge.{Variant}
 use Rattle.standard.specs.Chain.{byteBits, step, run}
+use Rattle.standard.specs.Messages.{bytes}
 use Rattle.standard.proofs.BitLaws.{length-bitsIn, pack-bitsIn}
 use Rattle.standard.proofs.Streaming.{whole-one, run-one, run-none}
 use Rattle.standard.proofs.Variants.{streams, blocks-tell}
 use Rattle.hasher.specs.declared.Hasher.{Hasher}
 use Rattle.hasher.specs.Running.{variantOf, heldCount, heldIn, stateOf, Open, grown, updated}
 use Rattle.hasher.specs.Sized.{Sized}
+use Rattle.hasher.specs.Promises.{OneMoreBlock}
 use Rattle.hasher.proofs.WellFormed.{Facts, facts, state-long, held-long}
 use Rattle.hasher.proofs.Next.{grown-state}
 use Rattle.hasher.proofs.Calls.{update-says}
@@ -56,13 +58,11 @@ module _ (h : Hasher) (z : Sized h) (o : Open h) where
       sym (pack-bitsIn high-first x hx) ∙ ap₂ (pack high-first) sizes bits ∙ pack-bitsIn high-first y hy
 
 -- a piece that is taken is what the running hash goes on with
-taken : (h : Hasher) (x : List ℕ) → updated h x .status ≡ Done → updated h x .hasher ≡ grown h (byteBits x)
+taken : (h : Hasher) (x : List ℕ) → updated h (bytes x) .status ≡ Done → updated h (bytes x) .hasher ≡ grown h (byteBits x)
 unfolding updated
 taken h x e = ap (λ (s : Status). whenDone s (grown h (byteBits x)) h) e
 
-pub one-more-block : (h : Hasher) → Sized h → (x y : List ℕ) → ((i : ℕ) → getD x i 0 < 256) → ((i : ℕ) → getD y i 0 < 256)
-    → heldCount h + 8 * length x ≡ variantOf h .r → heldCount h + 8 * length y ≡ variantOf h .r
-    → updated h x .status ≡ Done → updated h y .status ≡ Done → stateOf (updated h x .hasher) ≡ stateOf (updated h y .hasher) → x ≡ y
+pub one-more-block : OneMoreBlock
 unfolding updated
 one-more-block h z x y hx hy fx fy dx dy e =
-    grown-tells h z (update-says h (8 * length x) dx .opened) x y hx hy fx fy (sym (ap stateOf (taken h x dx)) ∙ e ∙ ap stateOf (taken h y dy))
+    grown-tells h z (update-says h (bytes x) dx .follow .opened) x y hx hy fx fy (sym (ap stateOf (taken h x dx)) ∙ e ∙ ap stateOf (taken h y dy))

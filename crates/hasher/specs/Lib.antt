@@ -4,3 +4,4 @@ pub mod Reading
 pub mod Sized
 pub mod Pieces
 pub mod Apart
+pub mod Promises

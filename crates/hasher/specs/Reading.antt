@@ -6,13 +6,14 @@ use Prim.Native.Nat.{ℕ, _/_}
 use lib.Dec.{ltb}
 use lib.ListN.{length}
 use Rattle.standard.specs.Sponge.{Variant, digestFrom, imageSize, imageOf}
-use Rattle.standard.specs.Chain.{byteBits, messageBits, endState}
+use Rattle.standard.specs.Chain.{endState}
+use Rattle.standard.specs.Messages.{Given, givenBits}
 use Rattle.standard.specs.Variants.{variant}
 use Rattle.answers.specs.declared.Refusal.the-variants.{Malformed, WrongStage, OutputTooShort}
 use Rattle.answers.specs.declared.Status.{Status}
 use Rattle.answers.specs.Checks.{Check, unless, when, firstRefusal}
 use Rattle.answers.specs.Outputs.{written}
-use Rattle.sponge.specs.Parts.{messageChecks, messageBitsChecks}
+use Rattle.sponge.specs.Messages.{messageChecks}
 use Rattle.hasher.specs.declared.Hasher.{Hasher}
 use Rattle.hasher.specs.declared.Wanted.{Wanted}
 use Rattle.hasher.specs.declared.Wanted.the-variants.{Digest, EndState}
@@ -52,26 +53,14 @@ readStatus h wanted n = firstRefusal (readChecks h wanted n)
 unfoldable pub readInto : Hasher → Wanted → List ℕ → List ℕ
 readInto h wanted out = written (readStatus h wanted (length out)) (resultOf (variantOf h) wanted (stateOf h)) out
 
--- Whole message of n bytes, into so many bytes: 1, 4, 5
-abbrev pub wholeChecks : ℕ → ℕ → Wanted → ℕ → List Check
-wholeChecks v n wanted room = messageChecks v n ++ roomChecks (variant v) wanted room
+-- Whole message, into so many bytes: 1, 15, 4, 5
+abbrev pub wholeChecks : ℕ → Given → Wanted → ℕ → List Check
+wholeChecks v g wanted room = messageChecks v g ++ roomChecks (variant v) wanted room
 
 -- the answer for a whole message, and the caller's output after it
-unfoldable pub wholeStatus : ℕ → List ℕ → Wanted → ℕ → Status
-wholeStatus v m wanted room = firstRefusal (wholeChecks v (length m) wanted room)
+unfoldable pub wholeStatus : ℕ → Given → Wanted → ℕ → Status
+wholeStatus v g wanted room = firstRefusal (wholeChecks v g wanted room)
 
-unfoldable pub wholeInto : ℕ → List ℕ → Wanted → List ℕ → List ℕ
-wholeInto v m wanted out =
-    written (wholeStatus v m wanted (length out)) (resultOf (variant v) wanted (endState (variant v) (byteBits m))) out
-
--- Whole message of whose last byte k bits count, into so many bytes: 1, 15, 4, 5
-abbrev pub wholeBitsChecks : ℕ → List ℕ → ℕ → Wanted → ℕ → List Check
-wholeBitsChecks v m k wanted room = messageBitsChecks v m k ++ roomChecks (variant v) wanted room
-
--- the answer for it, and the caller's output after it
-unfoldable pub wholeBitsStatus : ℕ → List ℕ → ℕ → Wanted → ℕ → Status
-wholeBitsStatus v m k wanted room = firstRefusal (wholeBitsChecks v m k wanted room)
-
-unfoldable pub wholeBitsInto : ℕ → List ℕ → ℕ → Wanted → List ℕ → List ℕ
-wholeBitsInto v m k wanted out =
-    written (wholeBitsStatus v m k wanted (length out)) (resultOf (variant v) wanted (endState (variant v) (messageBits (variant v) m k))) out
+unfoldable pub wholeInto : ℕ → Given → Wanted → List ℕ → List ℕ
+wholeInto v g wanted out =
+    written (wholeStatus v g wanted (length out)) (resultOf (variant v) wanted (endState (variant v) (givenBits (variant v) g))) out

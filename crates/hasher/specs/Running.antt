@@ -3,18 +3,19 @@
 use mathlib.Core.Path.{_≡_}
 use mathlib.Core.Bool.{Bool, true, false, cond, _&&_}
 use mathlib.Core.List.{List, [], _∷_, _++_}
-use Prim.Native.Nat.{ℕ, _+_, _*_, _%_}
+use Prim.Native.Nat.{ℕ, _+_, _%_}
 use lib.Dec.{eqb, ltb, leb}
 use lib.ListN.{length, drop, replicate}
 use Rattle.standard.specs.Bits.{high-first, bitsIn, unpack}
 use Rattle.standard.specs.Sponge.{Variant, order, startState, stateIn}
-use Rattle.standard.specs.Chain.{byteBits, messageBits, padding, wholeBlocks, restOf, run}
+use Rattle.standard.specs.Chain.{padding, wholeBlocks, restOf, run}
+use Rattle.standard.specs.Messages.{Given, givenBits}
 use Rattle.standard.specs.Variants.{variant, known}
-use Rattle.answers.specs.declared.Refusal.the-variants.{UnknownVariant, Malformed, WrongStage, TooLong, BadBitNumber, InsideByte}
+use Rattle.answers.specs.declared.Refusal.the-variants.{UnknownVariant, Malformed, WrongStage, TooLong, InsideByte}
 use Rattle.answers.specs.Checks.{Check, unless, when, firstRefusal}
 use Rattle.answers.specs.Outputs.{whenDone, mostBits}
 use Rattle.sponge.specs.Layout.{stateRoom, blockRoom, packedState, packedBlock, clear}
-use Rattle.sponge.specs.Parts.{isBitNumber}
+use Rattle.sponge.specs.Messages.{numberChecks}
 use Rattle.hasher.specs.declared.Hasher.{Hasher}
 use Rattle.hasher.specs.declared.Advanced.{Advanced}
 
@@ -92,9 +93,9 @@ advanced row next old = record { status = firstRefusal row; hasher = whenDone (f
 abbrev pub startChecks : ℕ → List Check
 startChecks v = unless (known v) UnknownVariant ∷ []
 
--- Close: 2, 3
-abbrev pub finishChecks : Hasher → List Check
-finishChecks h =
+-- what every call on an open running hash asks, and Close asks alone: 2, 3
+abbrev pub openChecks : Hasher → List Check
+openChecks h =
     unless (wellFormed h) Malformed
     ∷ when (closed h) WrongStage
     ∷ []
@@ -103,14 +104,9 @@ finishChecks h =
 abbrev pub followChecks : Hasher → ℕ → List Check
 followChecks h n = unless (wholeSoFar h) InsideByte ∷ when (ltb mostBits (h .total + n)) TooLong ∷ []
 
--- Take a piece of n bits: 2, 3, 16, 4
-abbrev pub updateChecks : Hasher → ℕ → List Check
-updateChecks h n = finishChecks h ++ followChecks h n
-
--- Take a piece of whose last byte k bits count: 2, 3, 15, 16, 4
-abbrev pub updateBitsChecks : Hasher → List ℕ → ℕ → List Check
-updateBitsChecks h piece k =
-    finishChecks h ++ unless (isBitNumber k (length piece)) BadBitNumber ∷ followChecks h (length (messageBits (variantOf h) piece k))
+-- Take a piece: 2, 3, 15, 16, 4
+abbrev pub updateChecks : Hasher → Given → List Check
+updateChecks h g = openChecks h ++ (numberChecks g ++ followChecks h (length (givenBits (variantOf h) g)))
 
 -- a start over a running hash that is there
 unfoldable pub startedOver : Hasher → ℕ → Advanced
@@ -120,14 +116,10 @@ startedOver h v = advanced (startChecks v) (fresh v) h
 unfoldable pub started : ℕ → Advanced
 started v = startedOver (blank 0) v
 
--- a piece taken, all of whose bits count
-unfoldable pub updated : Hasher → List ℕ → Advanced
-updated h piece = advanced (updateChecks h (8 * length piece)) (grown h (byteBits piece)) h
-
--- a piece taken of whose last byte k bits count
-unfoldable pub updatedBits : Hasher → List ℕ → ℕ → Advanced
-updatedBits h piece k = advanced (updateBitsChecks h piece k) (grown h (messageBits (variantOf h) piece k)) h
+-- a piece taken
+unfoldable pub updated : Hasher → Given → Advanced
+updated h g = advanced (updateChecks h g) (grown h (givenBits (variantOf h) g)) h
 
 -- the running hash closed
 unfoldable pub finished : Hasher → Advanced
-finished h = advanced (finishChecks h) (ended h) h
+finished h = advanced (openChecks h) (ended h) h

@@ -7,14 +7,17 @@ ghost use lib.ListN.{length, take, drop, getD, replicate};
 ghost use Rattle.standard.specs.Bits.{high-first, bitsOf, bitsIn};
 ghost use Rattle.standard.specs.Sponge.{stateIn};
 ghost use Rattle.standard.specs.Chain.{messageBits, endState};
+ghost use Rattle.standard.specs.Messages.{bytes, givenBits};
+ghost use Rattle.standard.specs.Messages as given-as;
 ghost use Rattle.standard.specs.Variants.{variant, known};
 ghost use Rattle.answers.specs.declared.Status.the-variants.{Done};
 ghost use Rattle.answers.specs.Checks.{firstRefusal};
 ghost use Rattle.answers.specs.Outputs.{written, most, mostBits};
 ghost use Rattle.sponge.specs.Layout.{blockRoom, Holds, clear};
-ghost use Rattle.sponge.specs.Parts.{isBitNumber, messageIn, HoldsMessage};
-ghost use Rattle.hasher.specs.Running.{variantOf, heldCount, wholeSoFar, wellFormed, Open, fresh, grown, ended, finishChecks, followChecks, updateChecks, updateBitsChecks, startedOver, started, updated, updatedBits, finished};
-ghost use Rattle.hasher.specs.Reading.{resultOf, resultSize, isDigest, roomChecks, readStatus, readInto, wholeChecks, wholeStatus, wholeInto, wholeBitsChecks, wholeBitsStatus, wholeBitsInto};
+ghost use Rattle.sponge.specs.Messages.{isBitNumber, numberChecks};
+ghost use Rattle.sponge.specs.Parts.{given, messageIn, HoldsMessage};
+ghost use Rattle.hasher.specs.Running.{variantOf, heldCount, wholeSoFar, wellFormed, Open, fresh, grown, ended, openChecks, followChecks, updateChecks, startedOver, started, updated, finished};
+ghost use Rattle.hasher.specs.Reading.{resultOf, resultSize, isDigest, roomChecks, readStatus, readInto, wholeStatus, wholeInto};
 ghost use Rattle.hasher.specs.declared.Wanted.the-variants.{Digest, EndState};
 use answers::MOST;
 use answers::MOST_BITS;
@@ -22,7 +25,7 @@ use answers::Refusal;
 use answers::Status;
 use sponge::BLOCK_BYTES;
 use sponge::STATE_BYTES;
-use sponge::parts::ONE_ALONE;
+use sponge::parts::Ending;
 
 // Any bytes are one. Stage 0 is open, 1 is closed. The total counts bits. The state is an image at the front of its bytes; the held
 // bits are those of the message so far that fill no block.
@@ -83,7 +86,7 @@ pub fn is_well_formed(h: Hasher) -> bool
 
 // Whether a running hash is open: refusals 2, 3.
 pub fn check_open(h: Hasher) -> Status
-    ensures { λ r. ⌜ r ≡ firstRefusal (finishChecks h) ⌝ }
+    ensures { λ r. ⌜ r ≡ firstRefusal (openChecks h) ⌝ }
 {
     if !is_well_formed(h) {
         return Status::Refused(Refusal::Malformed);
@@ -113,30 +116,20 @@ fn check_follow(h: Hasher, bytes: usize) -> Status
     Status::Done
 }
 
-// Whether a piece of n bytes may come: refusals 2, 3, 16, 4.
-pub fn check_update(h: Hasher, n: usize) -> Status
-    ensures { λ r. ⌜ r ≡ firstRefusal (updateChecks h (8 * n)) ⌝ }
+// Whether a piece may come: refusals 2, 3, 15, 16, 4.
+pub fn check_update(h: Hasher, piece: &[u8], ending: Ending) -> Status
+    ensures { λ r. ⌜ r ≡ firstRefusal (updateChecks h (given (now (piece .entry)) ending)) ⌝ }
 {
-    let status = check_open(h);
-    if let Status::Done = status {
-        return check_follow(h, n);
-    }
-    status
-}
-
-// Whether a piece may come of whose last byte so many bits count: refusals 2, 3, 15, 16, 4.
-pub fn check_update_bits(h: Hasher, piece: &[u8], bits: u32) -> Status
-    ensures { λ r. ⌜ r ≡ firstRefusal (updateBitsChecks h (now (piece .entry)) bits) ⌝ }
-{
-    let status = check_open(h);
-    if let Status::Done = status {
-        if !sponge::parts::is_bit_number(bits, piece.len()) {
-            return Status::Refused(Refusal::BadBitNumber);
-        }
-        // A byte of which some bits count takes as much of what is left as a whole one, since what is left is whole bytes.
-        return check_follow(h, piece.len());
-    }
-    status
+    let s = check_open(h);
+    let Status::Done = s else {
+        return s;
+    };
+    let t = sponge::parts::check_number(piece, ending);
+    let Status::Done = t else {
+        return t;
+    };
+    // The room left is a multiple of 8, so a partial byte fits exactly when a whole one does.
+    check_follow(h, piece.len())
 }
 
 // Whether a result has room in so many bytes: refusal 5.
@@ -235,24 +228,7 @@ fn grown(h: Hasher, piece: &[u8], last: u8, k: usize) -> Hasher
     }
 }
 
-// Refusals 2, 3, 16, 4.
-pub fn update(h: Hasher, piece: &[u8]) -> Advanced
-    ensures { λ r. ⌜ r ≡ updated h (now (piece .entry)) ⌝ }
-{
-    let status = check_update(h, piece.len());
-    if let Status::Done = status {
-        return Advanced {
-            status: Status::Done,
-            hasher: grown(h, piece, 0, 0),
-        };
-    }
-    Advanced {
-        status: status,
-        hasher: h,
-    }
-}
-
-// The message goes on with a piece of whose last byte k bits count.
+// The message goes on with a piece whose last byte contributes k bits.
 fn grown_bits(h: Hasher, piece: &[u8], k: usize) -> Hasher
     requires { ⌜ Open h ⌝ }
     requires { ⌜ (wholeSoFar h ≡ true) × (isBitNumber k (length (now piece)) ≡ true) ⌝ }
@@ -265,21 +241,46 @@ fn grown_bits(h: Hasher, piece: &[u8], k: usize) -> Hasher
     grown(h, &piece[..n], last, k)
 }
 
-// A piece of whose last byte so many bits count: refusals 2, 3, 15, 16, 4.
-pub fn update_bits(h: Hasher, piece: &[u8], bits: u32) -> Advanced
-    ensures { λ r. ⌜ r ≡ updatedBits h (now (piece .entry)) bits ⌝ }
+// The message goes on with a piece.
+fn grown_by(h: Hasher, piece: &[u8], ending: Ending) -> Hasher
+    requires { ⌜ firstRefusal (updateChecks h (given (now piece) ending)) ≡ Done ⌝ }
+    ensures { λ r. ⌜ r ≡ grown h (givenBits (variantOf h) (given (now (piece .entry)) ending)) ⌝ }
 {
-    let status = check_update_bits(h, piece, bits);
-    if let Status::Done = status {
+    match ending {
+        Ending::Whole => grown(h, piece, 0, 0),
+        Ending::Bits(k) => grown_bits(h, piece, k as usize),
+    }
+}
+
+// A piece, all bits of whose last byte count or so many: refusals 2, 3, 15, 16, 4.
+pub fn update_with(h: Hasher, piece: &[u8], ending: Ending) -> Advanced
+    ensures { λ r. ⌜ r ≡ updated h (given (now (piece .entry)) ending) ⌝ }
+{
+    let s = check_update(h, piece, ending);
+    let Status::Done = s else {
         return Advanced {
-            status: Status::Done,
-            hasher: grown_bits(h, piece, bits as usize),
+            status: s,
+            hasher: h,
         };
-    }
+    };
     Advanced {
-        status: status,
-        hasher: h,
+        status: Status::Done,
+        hasher: grown_by(h, piece, ending),
     }
+}
+
+// A piece all of whose bits count: refusals 2, 3, 16, 4.
+pub fn update(h: Hasher, piece: &[u8]) -> Advanced
+    ensures { λ r. ⌜ r ≡ updated h (bytes (now (piece .entry))) ⌝ }
+{
+    update_with(h, piece, Ending::Whole)
+}
+
+// A piece whose last byte contributes `bits` bits: refusals 2, 3, 15, 16, 4.
+pub fn update_bits(h: Hasher, piece: &[u8], bits: u32) -> Advanced
+    ensures { λ r. ⌜ r ≡ updated h (given-as.bits (now (piece .entry)) bits) ⌝ }
+{
+    update_with(h, piece, Ending::Bits(bits))
 }
 
 // ---- finish
@@ -320,16 +321,16 @@ fn ended(h: Hasher) -> Hasher
 pub fn finish(h: Hasher) -> Advanced
     ensures { λ r. ⌜ r ≡ finished h ⌝ }
 {
-    let status = check_open(h);
-    if let Status::Done = status {
+    let s = check_open(h);
+    let Status::Done = s else {
         return Advanced {
-            status: Status::Done,
-            hasher: ended(h),
+            status: s,
+            hasher: h,
         };
-    }
+    };
     Advanced {
-        status: status,
-        hasher: h,
+        status: Status::Done,
+        hasher: ended(h),
     }
 }
 
@@ -367,13 +368,13 @@ fn write_result(v: u8, wanted: Wanted, state: [u8; STATE_BYTES], out: &mut [u8])
 pub fn read(h: Hasher, wanted: Wanted, out: &mut [u8]) -> Status
     ensures { λ r. ⌜ (r ≡ readStatus h wanted (length (now (out .entry)))) × (now (out .exit) ≡ readInto h wanted (now (out .entry))) ⌝ }
 {
-    let status = check_read(h, wanted, out.len());
-    if let Status::Done = status {
-        let state = h.state;
-        write_result(h.variant, wanted, state, out);
-        return Status::Done;
-    }
-    status
+    let s = check_read(h, wanted, out.len());
+    let Status::Done = s else {
+        return s;
+    };
+    let state = h.state;
+    write_result(h.variant, wanted, state, out);
+    Status::Done
 }
 
 pub fn digest(h: Hasher, out: &mut [u8]) -> Status
@@ -390,32 +391,21 @@ pub fn end_state(h: Hasher, out: &mut [u8]) -> Status
 
 // ---- the whole message in one call
 
-// Whether a message of n bytes may be hashed into `room` bytes: refusals 1, 4, 5.
-pub fn check_whole(variant: u32, n: usize, wanted: Wanted, room: usize) -> Status
-    ensures { λ r. ⌜ r ≡ firstRefusal (wholeChecks variant n wanted room) ⌝ }
-{
-    let status = sponge::parts::check_message(variant, n);
-    if let Status::Done = status {
-        return check_room(variant as u8, wanted, room);
-    }
-    status
-}
-
-// Whether a message of whose last byte so many bits count may be hashed into `room` bytes: refusals 1, 15, 4, 5.
-pub fn check_whole_bits(
+// Whether a message may be hashed into `room` bytes: refusals 1, 15, 4, 5.
+pub fn check_whole(
     variant: u32,
     message: &[u8],
-    bits: u32,
+    ending: Ending,
     wanted: Wanted,
     room: usize,
 ) -> Status
-    ensures { λ r. ⌜ r ≡ firstRefusal (wholeBitsChecks variant (now (message .entry)) bits wanted room) ⌝ }
+    ensures { λ r. ⌜ r ≡ wholeStatus variant (given (now (message .entry)) ending) wanted room ⌝ }
 {
-    let status = sponge::parts::check_message_bits(variant, message, bits);
-    if let Status::Done = status {
-        return check_room(variant as u8, wanted, room);
-    }
-    status
+    let s = sponge::parts::check_message(variant, message, ending);
+    let Status::Done = s else {
+        return s;
+    };
+    check_room(variant as u8, wanted, room)
 }
 
 // Whether the digest is wanted.
@@ -447,41 +437,48 @@ fn end_of(v: u8, front: &[u8], last: u8, bits: usize, wanted: Wanted) -> [u8; ST
     sponge::endings::ended(v, marked, bits as u32)
 }
 
-// A whole message: what is wanted of its end state. Refusals 1, 4, 5.
+// The same of a message as a caller gives it.
+fn end_of_given(v: u8, message: &[u8], ending: Ending, wanted: Wanted) -> [u8; STATE_BYTES]
+    requires { ⌜ (known v ≡ true) × (firstRefusal (numberChecks (given (now message) ending)) ≡ Done) × (length (now message) ≤ most) ⌝ }
+    ensures { λ r. ⌜ take (resultSize (variant v) wanted) r ≡ resultOf (variant v) wanted (endState (variant v) (givenBits (variant v) (given (now (message .entry)) ending))) ⌝ }
+{
+    let m = sponge::parts::split_of(v, message, ending);
+    end_of(v, &message[..m.front], m.last, m.bits, wanted)
+}
+
+// What is wanted of a whole message's end state: refusals 1, 15, 4, 5.
+pub fn whole_with(
+    variant: u32,
+    message: &[u8],
+    ending: Ending,
+    wanted: Wanted,
+    out: &mut [u8],
+) -> Status
+    ensures { λ r. ⌜ (r ≡ wholeStatus variant (given (now (message .entry)) ending) wanted (length (now (out .entry))))
+        × (now (out .exit) ≡ wholeInto variant (given (now (message .entry)) ending) wanted (now (out .entry))) ⌝ }
+{
+    let s = check_whole(variant, message, ending, wanted, out.len());
+    let Status::Done = s else {
+        return s;
+    };
+    let v = variant as u8;
+    let result = end_of_given(v, message, ending, wanted);
+    sponge::images::copy_front(&result, result_size(v, wanted), out);
+    Status::Done
+}
+
+// A whole message all of whose bits count: refusals 1, 4, 5.
 pub fn whole(variant: u32, message: &[u8], wanted: Wanted, out: &mut [u8]) -> Status
-    ensures { λ r. ⌜ (r ≡ wholeStatus variant (now (message .entry)) wanted (length (now (out .entry))))
-        × (now (out .exit) ≡ wholeInto variant (now (message .entry)) wanted (now (out .entry))) ⌝ }
+    ensures { λ r. ⌜ (r ≡ wholeStatus variant (bytes (now (message .entry))) wanted (length (now (out .entry))))
+        × (now (out .exit) ≡ wholeInto variant (bytes (now (message .entry))) wanted (now (out .entry))) ⌝ }
 {
-    let status = check_whole(variant, message.len(), wanted, out.len());
-    if let Status::Done = status {
-        let v = variant as u8;
-        let result = end_of(v, message, ONE_ALONE, 8 * message.len(), wanted);
-        sponge::images::copy_front(&result, result_size(v, wanted), out);
-        return Status::Done;
-    }
-    status
+    whole_with(variant, message, Ending::Whole, wanted, out)
 }
 
-// The same of a message of whose last byte k bits count.
-fn end_of_bits(v: u8, message: &[u8], k: usize, wanted: Wanted) -> [u8; STATE_BYTES]
-    requires { ⌜ (known v ≡ true) × (isBitNumber k (length (now message)) ≡ true) × (length (now message) ≤ most) ⌝ }
-    ensures { λ r. ⌜ take (resultSize (variant v) wanted) r ≡ resultOf (variant v) wanted (endState (variant v) (messageBits (variant v) (now (message .entry)) k)) ⌝ }
-{
-    let e = sponge::parts::ending_of(v, message, k);
-    end_of(v, &message[..e.front], e.last, e.bits, wanted)
-}
-
-// A whole message of whose last byte so many bits count. Refusals 1, 15, 4, 5.
+// A whole message whose last byte contributes `bits` bits: refusals 1, 15, 4, 5.
 pub fn whole_bits(variant: u32, message: &[u8], bits: u32, wanted: Wanted, out: &mut [u8]) -> Status
-    ensures { λ r. ⌜ (r ≡ wholeBitsStatus variant (now (message .entry)) bits wanted (length (now (out .entry))))
-        × (now (out .exit) ≡ wholeBitsInto variant (now (message .entry)) bits wanted (now (out .entry))) ⌝ }
+    ensures { λ r. ⌜ (r ≡ wholeStatus variant (given-as.bits (now (message .entry)) bits) wanted (length (now (out .entry))))
+        × (now (out .exit) ≡ wholeInto variant (given-as.bits (now (message .entry)) bits) wanted (now (out .entry))) ⌝ }
 {
-    let status = check_whole_bits(variant, message, bits, wanted, out.len());
-    if let Status::Done = status {
-        let v = variant as u8;
-        let result = end_of_bits(v, message, bits as usize, wanted);
-        sponge::images::copy_front(&result, result_size(v, wanted), out);
-        return Status::Done;
-    }
-    status
+    whole_with(variant, message, Ending::Bits(bits), wanted, out)
 }

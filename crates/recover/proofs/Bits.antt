@@ -1,36 +1,44 @@
--- The operation on a message with a bit number: where all bits of the last byte count it is the one on whole bytes, and bits that do not count change nothing.
--- Assumes nothing.
-use mathlib.Core.Path.{_≡_}
-use mathlib.Core.Bool.{true}
-use mathlib.Core.List.{List, [], _∷_, _++_}
-use Prim.Native.Nat.{ℕ, _<_}
+-- Two ways to give the same bits are one to the operation. Assumes nothing.
+use mathlib.Core.Path.{_≡_, sym, ap, ap₂, _∙_}
+use mathlib.Core.Bool.{Bool}
+use mathlib.Core.List.{List, _++_}
+use Prim.Native.Nat.{ℕ}
 use lib.ListN.{length}
-use Rattle.standard.specs.Chain.{countedOf}
+use Rattle.answers.specs.declared.Status.{Status}
+use Rattle.answers.specs.Checks.{Check, firstRefusal}
+use Rattle.answers.specs.Outputs.{whenDone, written}
+use Rattle.answers.proofs.Rows.{row-append}
+use Rattle.standard.specs.Chain.{blockCount}
+use Rattle.standard.specs.Messages.{Given, givenBits}
 use Rattle.standard.specs.Variants.{variant}
-use Rattle.standard.proofs.PartBytes.{bits-eight, uncounted, same-bytes}
-use Rattle.sponge.specs.Parts.{isBitNumber}
-use Rattle.recover.specs.Recovering.{recoverStatus, recoverInto, recoverBitsStatus, recoverBitsInto}
-use Rattle.sponge.proofs.PartBytes.{eight-fits, limit-same}
+use Rattle.sponge.specs.Messages.{messageChecks, Alike}
+use Rattle.sponge.proofs.PartBytes.{alike-asked}
+use Rattle.recover.specs.Recovering.{placedChecks, foundChecks, recoveredBlock, recoverStatus, recoverInto}
+use Rattle.recover.specs.Promises.{RecoverAlike}
 
--- All eight bits of the last byte count: the message is its whole bytes.
-module _ (v : ℕ) (m : List ℕ) (some : 0 < length m) (place : ℕ) (image : List ℕ) where
-  number : isBitNumber 8 (length m) ≡ true
-  number = eight-fits (length m) some
+pub recover-alike : RecoverAlike
+unfolding recoverStatus recoverInto
+recover-alike v g g′ a place image out =
+    (answers, ap₂ (λ (s : Status) (m : List Bool). written s (recoveredBlock v m place image) out) answers (a .same))
+  where
+    -- the checks of the place and of the search, of a bit string
+    placed : List Bool → List Check
+    placed m = placedChecks (variant v) (blockCount (variant v) (length m)) place image (length out)
 
-  pub recover-eight : (n : ℕ) → recoverBitsStatus v m 8 place image n ≡ recoverStatus v m place image n
-  unfolding recoverBitsStatus recoverStatus
-  recover-eight n = rw (number, limit-same (variant v) m 8 number, bits-eight (variant v) m)
+    rows : (h : Given) → Status
+    rows h = firstRefusal ((messageChecks v h ++ placed (givenBits (variant v) h)) ++ foundChecks v (givenBits (variant v) h) place image)
 
-  pub recover-eight-into : (out : List ℕ) → recoverBitsInto v m 8 place image out ≡ recoverInto v m place image out
-  unfolding recoverBitsInto recoverInto
-  recover-eight-into out = rw (recover-eight, bits-eight (variant v) m)
+    -- from the answer of the first checks and the bits
+    whole : Status → List Bool → Status
+    whole s m =
+        let t : Status = whenDone s (firstRefusal (placed m)) s in
+        whenDone t (firstRefusal (foundChecks v m place image)) t
 
--- Bits of the last byte that do not count change nothing, whatever else is given.
-module _ (v : ℕ) (front : List ℕ) (b c k : ℕ) (same : countedOf (variant v .family) k b ≡ countedOf (variant v .family) k c) (place : ℕ) (image : List ℕ) where
-  pub recover-uncounted : (n : ℕ) → recoverBitsStatus v (front ++ b ∷ []) k place image n ≡ recoverBitsStatus v (front ++ c ∷ []) k place image n
-  unfolding recoverBitsStatus
-  recover-uncounted n = rw (same-bytes front b c, uncounted (variant v) front b c k same)
+    whole-is : (h : Given) → rows h ≡ whole (firstRefusal (messageChecks v h)) (givenBits (variant v) h)
+    whole-is h =
+        let m : List Bool = givenBits (variant v) h in
+        row-append (messageChecks v h ++ placed m) (foundChecks v m place image)
+        ∙ ap (λ (t : Status). whenDone t (firstRefusal (foundChecks v m place image)) t) (row-append (messageChecks v h) (placed m))
 
-  pub recover-uncounted-into : (out : List ℕ) → recoverBitsInto v (front ++ b ∷ []) k place image out ≡ recoverBitsInto v (front ++ c ∷ []) k place image out
-  unfolding recoverBitsInto
-  recover-uncounted-into out = rw (recover-uncounted, uncounted (variant v) front b c k same)
+    answers : rows g ≡ rows g′
+    answers = whole-is g ∙ ap₂ whole (alike-asked v g g′ a) (a .same) ∙ sym (whole-is g′)

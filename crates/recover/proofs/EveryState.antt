@@ -1,154 +1,129 @@
--- Demand 3, the lost block, said of states and of the bytes that the caller finds: for each known variant number, every message within the limit, every place below its
--- block count that may be searched (of a sponge all, and of Lesamnta-LW the last), every state of t bits, given by its image, and every output with room for a block. Assumes nothing.
-use mathlib.Core.Path.{_≡_, refl, ap}
+-- Demand 3, the lost block, said of states and of the bytes that the caller finds. Assumes nothing.
+use mathlib.Core.Path.{_≡_, refl, sym, ap, _∙_, subst}
 use mathlib.Core.Bool.{Bool, true, false, cond}
-use mathlib.Core.List.{List, []}
-use mathlib.Core.Logic.{_↔_, _⊎_}
-use Prim.Native.Nat.{ℕ, suc, _≤_, _<_}
+use mathlib.Core.List.{List, [], _++_}
+use mathlib.Core.Logic.{_↔_, ⊎-elim}
+use Prim.Native.Nat.{ℕ, suc, _<_}
 use lib.Dec.{eqb}
-use lib.ListN.{length, getD}
+use lib.ListN.{length, drop, getD}
+use lib.Seq.{set-getD}
+use borrow.Author.Tests.{lt-ltb, le-ltb, eq-eqb}
 use Rattle.answers.specs.declared.Refusal.the-variants.{NoBlock}
 use Rattle.answers.specs.declared.Status.{Status}
 use Rattle.answers.specs.declared.Status.the-variants.{Done, Refused}
 use Rattle.answers.specs.Checks.{firstRefusal}
-use Rattle.answers.specs.Outputs.{most, mostBits}
-use borrow.Author.Tests.{le-ltb, eq-eqb}
-use Rattle.standard.specs.Sponge.{Variant, isSponge, imageOf}
-use Rattle.standard.specs.Chain.{byteBits, messageBits, blocksOf, endState}
-use Rattle.standard.specs.Variants.{variant, known}
-use Rattle.sponge.specs.Parts.{isBitNumber, messageChecks, messageBitsChecks}
+use Rattle.answers.specs.Outputs.{written}
+use Rattle.answers.proofs.Rows.{row-second}
+use Rattle.standard.specs.Bits.{high-first, pack}
+use Rattle.standard.specs.Sponge.{Variant, isSponge, startState, imageOf}
+use Rattle.standard.specs.Chain.{blocksOf, blockCount, run, endState}
+use Rattle.standard.specs.Messages.{Given, givenBits}
+use Rattle.standard.specs.Variants.{variant}
+use Rattle.standard.proofs.BitLaws.{length-pack}
+use Rattle.standard.proofs.Streaming.{block-count, run-length, blocks-sized}
+use Rattle.standard.proofs.OneBlock.{block-length}
+use Rattle.standard.proofs.ImageStates.{state-image}
+use Rattle.standard.proofs.Variants.{streams}
+use Rattle.sponge.specs.Messages.{messageChecks}
+use Rattle.sponge.proofs.PartBytes.{message-passes}
+use Rattle.sponge.proofs.ImageOfState.{image-is-image}
 use Rattle.recover.specs.Leading.{endStateWith, NoneLeads, OnlyLeads}
-use Rattle.recover.specs.Recovering.{blockSize, searchable, askedChecks, recoverStatus, recoverInto, askedBitsChecks, recoverBitsStatus, recoverBitsInto}
-use Rattle.recover.proofs.LostBlock.{Found, Ready, any-asked, any-or-done, any-eight, any-kept, any-given, any-found, any-own}
+use Rattle.recover.specs.Difference.{difference}
+use Rattle.recover.specs.Recovering.{blockSize, searchable, placedChecks, recoveredBlock, askedChecks, recoverStatus, recoverInto}
+use Rattle.recover.specs.Promises.{Searched, Gives, StateEight, StateKept, StateGiven, BlockFound, OwnBlock, SpongeWay, LastWay}
+use Rattle.recover.proofs.LeadingLaws.{blockFrom, leads-same}
+use Rattle.recover.proofs.Searching.{searches}
+use Rattle.recover.proofs.LostBlock.{eight-or-done, eight-exactly, block-given}
 
--- ---- a message all of whose bits count
-
-module _ (v : ℕ) (k : known v ≡ true) (m : List ℕ) (few : length m ≤ most) (place : ℕ) (within : place < length (blocksOf (variant v) (byteBits m)))
-    (way : searchable (variant v) (length (blocksOf (variant v) (byteBits m))) place ≡ true) (out : List ℕ) (room : blockSize (variant v) ≤ length out) where
+module _ {v : ℕ} {g : Given} {place : ℕ} {out : List ℕ} (w : Searched v g place out) where
   abbrev H : Variant
   H = variant v
 
-  abbrev M : List Bool
-  M = byteBits m
-
-  -- every check but those of the image passes
-  ready : Ready (messageChecks v (length m)) v (byteBits m) place out
-  ready = record { passed = simp (k, le-ltb _ _ few); number = k; within = within; way = way; room = room }
+  abbrev m : List Bool
+  m = givenBits (variant v) g
 
   module _ (s : List Bool) (ls : length s ≡ variant v .t) where
     abbrev image : List ℕ
     image = imageOf (variant v) s
 
     abbrev status : Status
-    status = recoverStatus v m place image (length out)
+    status = recoverStatus v g place image (length out)
 
     -- no earlier check refuses
-    pub state-asked : firstRefusal (askedChecks v m place image (length out)) ≡ Done
-    state-asked = any-asked ready s ls
+    asked : firstRefusal (askedChecks v g place image (length out)) ≡ Done
+    asked =
+        let below : place < blockCount H (length m) = rw (block-count H m) at (w .within) in
+        let way : searchable H (blockCount H (length m)) place ≡ true = rw (block-count H m) at (w .way) in
+        row-second (messageChecks v g) (placedChecks H (blockCount H (length m)) place image (length out)) (message-passes v g (w .named) (w .fits) (w .few))
+        ∙ simp (lt-ltb _ _ below, way, image-is-image H s ls, le-ltb _ _ (w .room))
 
-    pub state-or-done : (status ≡ Refused NoBlock) ⊎ (status ≡ Done)
-    unfolding recoverStatus
-    state-or-done = any-or-done ready s ls
+    eight : (status ≡ Refused NoBlock) ↔ NoneLeads H m place s
+    eight =
+        subst (λ (x : List Bool). (status ≡ Refused NoBlock) ↔ NoneLeads H m place x) (state-image H s ls)
+        (eight-exactly v g place image (length out) asked)
 
-    -- 8 exactly when no block leads to the state
-    pub state-eight : (status ≡ Refused NoBlock) ↔ NoneLeads H M place s
-    unfolding recoverStatus
-    state-eight = any-eight ready s ls
+    kept : status ≡ Refused NoBlock → recoverInto v g place image out ≡ out
+    unfolding recoverInto
+    kept e = ap (λ (t : Status). written t (recoveredBlock v m place image) out) e
 
-    -- the output is then as it was
-    pub state-kept : status ≡ Refused NoBlock → recoverInto v m place image out ≡ out
-    unfolding recoverStatus recoverInto
-    state-kept = any-kept ready s ls
+    given : (status ≡ Refused NoBlock → ⊥) → (b : List Bool) × Gives v g place out s b
+    unfolding recoverInto
+    given n =
+        let e : status ≡ Done = ⊎-elim (λ x. absurd (n x)) (λ x. x) (eight-or-done v g place image (length out) asked) in
+        let found = block-given v g place image (length out) asked e in
+        let b : List Bool = found .0 in (
+          b,
+          (
+            e,
+            subst (λ (x : List Bool). OnlyLeads H m place x b) (state-image H s ls) (found .1),
+            ap (λ (t : Status). written t (recoveredBlock v m place image) out) e
+                ∙ ap (λ (x : List ℕ). x ++ drop (length x) out) (found .2)
+                ∙ ap (λ (n : ℕ). pack high-first (blockSize H) b ++ drop n out) (length-pack high-first (blockSize H) b),
+          ),
+        )
 
-    -- otherwise the caller finds the only block that does
-    pub state-given : status ≡ Done → (b : List Bool) × OnlyLeads H M place s b × Found v out b (recoverInto v m place image out)
-    unfolding recoverStatus recoverInto
-    state-given = any-given ready s ls
+  end-size : (b : List Bool) → length (endStateWith H m place b) ≡ H .t
+  unfolding endStateWith
+  end-size b = run-length H (streams v (w .named)) _ (startState H) (streams v (w .named) .start-length)
 
-  -- the call is done, and the caller finds the block b, the only one that leads to the state s
-  abbrev pub Gives : List Bool → List Bool → Type 0
-  Gives s b =
-      (recoverStatus v m place (imageOf (variant v) s) (length out) ≡ Done)
-      × OnlyLeads (variant v) (byteBits m) place s b
-      × Found v out b (recoverInto v m place (imageOf (variant v) s) out)
+  found-again : (b : List Bool) → length b ≡ H .r → Gives v g place out (endStateWith H m place b) b
+  found-again b l =
+      let s : List Bool = endStateWith H m place b in
+      let ls : length s ≡ H .t = end-size b in
+      let same : (c : List Bool) → length c ≡ H .r → endStateWith H m place c ≡ s → c ≡ blockFrom H (difference H m place s) =
+      leads-same (searches v (w .named) m place (w .within) (w .way) s ls) in
+      let found = given s ls (λ e. eight s ls .0 e b l refl) in
+      let own : found .0 ≡ b = same (found .0) (found .1 .1 .size) (found .1 .1 .leads) ∙ sym (same b l refl) in
+      subst (λ (c : List Bool). Gives v g place out s c) own (found .1)
 
-  -- every block is found again from the end state that it leads to
-  pub block-found : (b : List Bool) → length b ≡ H .r → Gives (endStateWith H M place b) b
-  unfolding recoverStatus recoverInto
-  block-found = any-found ready
+  own : Gives v g place out (endState H m) (getD (blocksOf H m) place [])
+  unfolding endState endStateWith
+  own =
+      let b : List Bool = getD (blocksOf H m) place [] in
+      subst (λ (s : List Bool). Gives v g place out s b) (ap (run H (startState H)) (set-getD (blocksOf H m) place []))
+      (found-again b (block-length (H .r) (blocksOf H m) place (blocks-sized H m) (w .within)))
 
-  -- so is the message's own block from its own end state
-  pub own-block : Gives (endState H M) (getD (blocksOf H M) place [])
-  unfolding recoverStatus recoverInto
-  own-block = any-own ready
+pub state-eight : StateEight
+state-eight v g place out w = eight w
 
--- ---- a message of whose last byte k bits count
+pub state-kept : StateKept
+state-kept v g place out w = kept w
 
-module _ (v : ℕ) (named : known v ≡ true) (m : List ℕ) (k : ℕ) (number : isBitNumber k (length m) ≡ true) (few : length (messageBits (variant v) m k) ≤ mostBits) (place : ℕ)
-    (within : place < length (blocksOf (variant v) (messageBits (variant v) m k)))
-    (way : searchable (variant v) (length (blocksOf (variant v) (messageBits (variant v) m k))) place ≡ true) (out : List ℕ) (room : blockSize (variant v) ≤ length out) where
-  abbrev K : Variant
-  K = variant v
+pub state-given : StateGiven
+state-given v g place out w = given w
 
-  abbrev B : List Bool
-  B = messageBits (variant v) m k
+pub block-found : BlockFound
+block-found v g place out w = found-again w
 
-  -- every check but those of the image passes
-  bits-ready : Ready (messageBitsChecks v m k) v (messageBits (variant v) m k) place out
-  bits-ready = record { passed = simp (named, number, le-ltb _ _ few); number = named; within = within; way = way; room = room }
-
-  module _ (s : List Bool) (ls : length s ≡ variant v .t) where
-    abbrev answer : Status
-    answer = recoverBitsStatus v m k place (imageOf (variant v) s) (length out)
-
-    -- no earlier check refuses
-    pub bits-state-asked : firstRefusal (askedBitsChecks v m k place (imageOf K s) (length out)) ≡ Done
-    bits-state-asked = any-asked bits-ready s ls
-
-    pub bits-state-or-done : (answer ≡ Refused NoBlock) ⊎ (answer ≡ Done)
-    unfolding recoverBitsStatus
-    bits-state-or-done = any-or-done bits-ready s ls
-
-    -- 8 exactly when no block leads to the state
-    pub bits-state-eight : (answer ≡ Refused NoBlock) ↔ NoneLeads K B place s
-    unfolding recoverBitsStatus
-    bits-state-eight = any-eight bits-ready s ls
-
-    -- the output is then as it was
-    pub bits-state-kept : answer ≡ Refused NoBlock → recoverBitsInto v m k place (imageOf K s) out ≡ out
-    unfolding recoverBitsStatus recoverBitsInto
-    bits-state-kept = any-kept bits-ready s ls
-
-    -- otherwise the caller finds the only block that does
-    pub bits-state-given : answer ≡ Done → (b : List Bool) × OnlyLeads K B place s b × Found v out b (recoverBitsInto v m k place (imageOf K s) out)
-    unfolding recoverBitsStatus recoverBitsInto
-    bits-state-given = any-given bits-ready s ls
-
-  -- the call is done, and the caller finds the block b, the only one that leads to the state s
-  abbrev pub BitsGives : List Bool → List Bool → Type 0
-  BitsGives s b =
-      (recoverBitsStatus v m k place (imageOf (variant v) s) (length out) ≡ Done)
-      × OnlyLeads (variant v) (messageBits (variant v) m k) place s b
-      × Found v out b (recoverBitsInto v m k place (imageOf (variant v) s) out)
-
-  -- every block is found again from the end state that it leads to
-  pub bits-block-found : (b : List Bool) → length b ≡ K .r → BitsGives (endStateWith K B place b) b
-  unfolding recoverBitsStatus recoverBitsInto
-  bits-block-found = any-found bits-ready
-
-  -- so is the message's own block from its own end state
-  pub bits-own-block : BitsGives (endState K B) (getD (blocksOf K B) place [])
-  unfolding recoverBitsStatus recoverBitsInto
-  bits-own-block = any-own bits-ready
+pub own-block : OwnBlock
+own-block v g place out w = own w
 
 -- ---- which places may be searched
 
--- of a sponge all
-pub sponge-way : (v : ℕ) → isSponge (variant v) ≡ true → (count place : ℕ) → searchable (variant v) count place ≡ true
+pub sponge-way : SpongeWay
 sponge-way v q count place = ap (λ (b : Bool). cond b true (eqb (suc place) count)) q
 
--- the last of any variant
-pub last-way : (v count place : ℕ) → suc place ≡ count → searchable (variant v) count place ≡ true
+pub last-way : LastWay
 last-way v count place e = go (isSponge (variant v))
   where
     go : (b : Bool) → cond b true (eqb (suc place) count) ≡ true

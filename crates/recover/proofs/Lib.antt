@@ -4,7 +4,6 @@ pub mod LeadingLaws
 pub mod Runs
 pub mod RecoverLaws
 pub mod LostBlock
-pub mod Demand3
 pub mod EveryState
 pub mod Bits
 pub mod OtherPlaces

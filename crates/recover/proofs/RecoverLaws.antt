@@ -2,7 +2,7 @@
 -- Assumes nothing.
 use mathlib.Core.Path.{_≡_, refl, sym, ap, ap₂, _∙_, subst}
 use mathlib.Core.Bool.{Bool, true, false, cond, not, _&&_}
-use mathlib.Core.List.{List, [], _∷_, _++_, headD}
+use mathlib.Core.List.{List, [], _∷_, _++_, headD, append-assoc}
 use mathlib.Core.Logic.{_⊎_, inl, inr, ⊎-elim}
 use Prim.Native.Nat.{ℕ, zero, suc, _+_, _-_, _*_, _%_, _≤_, _<_}
 use native.Mathlib.Nat.{not-suc-le-zero, le-of-suc-le-suc}
@@ -21,6 +21,8 @@ use Rattle.answers.proofs.ByteLaws.{take-bytes}
 use Rattle.standard.specs.Bits.{high-first, bitsIn, pack, unpack}
 use Rattle.standard.specs.Sponge.{Variant, order, stateIn}
 use Rattle.standard.specs.Chain.{blocksOf, blockCount}
+use Rattle.standard.specs.Messages.{Given, givenBits}
+use Rattle.sponge.specs.Messages.{messageChecks}
 use Rattle.standard.specs.Variants.{variant, known}
 use Rattle.standard.proofs.BitLaws.{length-bitsIn, length-pack, bitsIn-take, image-eq, pack-bytes}
 use Rattle.standard.proofs.Streaming.{block-count}
@@ -33,7 +35,7 @@ use Rattle.sponge.proofs.Clear.{clear-append, clear-zeros, zeros-clear, clear-o
 use Rattle.sponge.proofs.LayoutLaws.{packed-bits}
 use Rattle.sponge.proofs.SqueezeLaws.{output-bits}
 use Rattle.recover.specs.Difference.{difference}
-use Rattle.recover.specs.Recovering.{isEmpty, blockSize, searchable, placedChecks, leadingTo, foundChecks, recoveredBlock}
+use Rattle.recover.specs.Recovering.{isEmpty, blockSize, searchable, placedChecks, leadingTo, foundChecks, recoveredBlock, recoverStatus, recoverInto}
 use Rattle.recover.proofs.LeadingLaws.{InBlock, blockFrom, leading-none, leading-one}
 use Rattle.recover.proofs.Searching.{Searches, searches}
 
@@ -202,26 +204,33 @@ abbrev pub AnsweredAt : ℕ → List Bool → ℕ → List ℕ → List ℕ → 
 AnsweredAt v m place image out s out′ =
     Answered (placedChecks (variant v) (blockCount (variant v) (length m)) place image (length out) ++ foundChecks v m place image) (recoveredBlock v m place image) out s out′
 
--- all of it, behind a row of checks of the variant and the message
-module _ (row : List Check) (v : ℕ) (m : List Bool) (place : ℕ) (image out : List ℕ) where
-  abbrev rest : List Check
-  rest = placedChecks (variant v) (blockCount (variant v) (length m)) place image (length out) ++ foundChecks v m place image
+-- all of it, after the checks of the variant and the message
+module _ (v : ℕ) (g : Given) (place : ℕ) (image out : List ℕ) where
+  abbrev whole : List Bool
+  whole = givenBits (variant v) g
 
-  abbrev block : List ℕ
-  block = recoveredBlock v m place image
+  abbrev asked : List Check
+  asked = placedChecks (variant v) (blockCount (variant v) (length whole)) place image (length out)
+
+  abbrev rest : List Check
+  rest = asked ++ foundChecks v whole place image
 
   -- as the operation's definitions say it
   abbrev Left : Status → List ℕ → Type 0
-  Left s out′ = (s ≡ firstRefusal (row ++ rest)) × (out′ ≡ written (firstRefusal (row ++ rest)) block out)
+  Left s out′ = (s ≡ recoverStatus v g place image (length out)) × (out′ ≡ recoverInto v g place image out)
 
-  settled : (s : Status) (out′ : List ℕ) → Answered (row ++ rest) block out s out′ → Left s out′
-  settled s out′ a = (a .0, a .1 ∙ ap (λ (t : Status). written t block out) (a .0))
+  settled : (s : Status) (out′ : List ℕ) → Answered (messageChecks v g ++ rest) (recoveredBlock v whole place image) out s out′ → Left s out′
+  unfolding recoverStatus recoverInto
+  settled s out′ a =
+      let e : s ≡ firstRefusal ((messageChecks v g ++ asked) ++ foundChecks v whole place image) =
+      a .0 ∙ ap firstRefusal (sym (append-assoc (messageChecks v g) asked (foundChecks v whole place image))) in
+      (e, a .1 ∙ ap (λ (t : Status). written t (recoveredBlock v whole place image) out) e)
 
-  -- the row refuses
-  pub left-refused : (s : Status) → s ≡ firstRefusal row → (s ≡ Done → ⊥) → Left s out
-  left-refused s e r = settled s out (row-refuses row rest block out s e r)
+  -- the first checks refuse
+  pub left-refused : (s : Status) → s ≡ firstRefusal (messageChecks v g) → (s ≡ Done → ⊥) → Left s out
+  left-refused s e r = settled s out (row-refuses (messageChecks v g) rest (recoveredBlock v whole place image) out s e r)
 
-  -- the row passes, and the bits that the code is given are the message's
-  pub left-behind : firstRefusal row ≡ Done → (given : List Bool) → given ≡ m → (s : Status) (out′ : List ℕ) → AnsweredAt v given place image out s out′ → Left s out′
-  left-behind d given e s out′ a =
-      settled s out′ (row-passes row rest block out d s out′ (subst (λ (x : List Bool). AnsweredAt v x place image out s out′) e a))
+  -- they pass, and the bits that the code is given are the message's
+  pub left-behind : firstRefusal (messageChecks v g) ≡ Done → (held : List Bool) → held ≡ givenBits (variant v) g → (s : Status) (out′ : List ℕ) → AnsweredAt v held place image out s out′ → Left s out′
+  left-behind d held e s out′ a =
+      settled s out′ (row-passes (messageChecks v g) rest (recoveredBlock v whole place image) out d s out′ (subst (λ (x : List Bool). AnsweredAt v x place image out s out′) e a))

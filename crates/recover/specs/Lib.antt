@@ -2,3 +2,4 @@
 pub mod Leading
 pub mod Difference
 pub mod Recovering
+pub mod Promises

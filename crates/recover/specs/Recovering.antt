@@ -1,4 +1,4 @@
--- The operation that finds the block: its refusals in order, and the caller's output, for a message of whole bytes and for one that may end inside a byte.
+-- The operation that finds the block: its refusals in order, and the caller's output.
 -- Assumes nothing.
 use mathlib.Core.Bool.{Bool, true, false, cond}
 use mathlib.Core.List.{List, [], _∷_, _++_, headD}
@@ -7,14 +7,15 @@ use lib.Dec.{ltb, eqb}
 use lib.ListN.{length}
 use Rattle.standard.specs.Bits.{high-first, pack, bytesFor}
 use Rattle.standard.specs.Sponge.{Variant, isSponge, stateIn}
-use Rattle.standard.specs.Chain.{byteBits, messageBits, blockCount}
+use Rattle.standard.specs.Chain.{blockCount}
+use Rattle.standard.specs.Messages.{Given, givenBits}
 use Rattle.standard.specs.Variants.{variant}
 use Rattle.answers.specs.declared.Refusal.the-variants.{OutputTooShort, BadImage, OutOfRange, NoBlock, NotSponge}
 use Rattle.answers.specs.declared.Status.{Status}
 use Rattle.answers.specs.Checks.{Check, unless, when, firstRefusal}
 use Rattle.answers.specs.Outputs.{written}
 use Rattle.sponge.specs.Images.{isImage}
-use Rattle.sponge.specs.Parts.{messageChecks, messageBitsChecks}
+use Rattle.sponge.specs.Messages.{messageChecks}
 use Rattle.recover.specs.Leading.{leading}
 
 -- whether a row has no block
@@ -25,8 +26,6 @@ isEmpty (b ∷ bs) = false
 -- the bytes of a block
 abbrev pub blockSize : Variant → ℕ
 blockSize H = bytesFor (H .r)
-
--- ---- of any bit string
 
 -- document 02, Q-7: what is no sponge is searched at the last of so many blocks alone
 abbrev pub searchable : Variant → ℕ → ℕ → Bool
@@ -53,39 +52,20 @@ foundChecks v m place image = when (isEmpty (leadingTo v m place image)) NoBlock
 unfoldable pub recoveredBlock : ℕ → List Bool → ℕ → List ℕ → List ℕ
 recoveredBlock v m place image = pack high-first (blockSize (variant v)) (headD (leadingTo v m place image) [])
 
--- ---- of a message all of whose bits count
-
--- Lost block, before the search: 1; 4; 7; 17; 6; 5
-abbrev pub askedChecks : ℕ → List ℕ → ℕ → List ℕ → ℕ → List Check
-askedChecks v m place image n = messageChecks v (length m) ++ placedChecks (variant v) (blockCount (variant v) (length (byteBits m))) place image n
-
--- Lost block: 1; 4; 7; 17; 6; 5; 8
-abbrev pub recoverChecks : ℕ → List ℕ → ℕ → List ℕ → ℕ → List Check
-recoverChecks v m place image n = askedChecks v m place image n ++ foundChecks v (byteBits m) place image
-
--- the answer
-unfoldable pub recoverStatus : ℕ → List ℕ → ℕ → List ℕ → ℕ → Status
-recoverStatus v m place image n = firstRefusal (recoverChecks v m place image n)
-
--- the caller's output after it
-unfoldable pub recoverInto : ℕ → List ℕ → ℕ → List ℕ → List ℕ → List ℕ
-recoverInto v m place image out = written (recoverStatus v m place image (length out)) (recoveredBlock v (byteBits m) place image) out
-
--- ---- of a message of whose last byte k bits count (document 02, Q-6)
-
 -- Lost block, before the search: 1; 15; 4; 7; 17; 6; 5
-abbrev pub askedBitsChecks : ℕ → List ℕ → ℕ → ℕ → List ℕ → ℕ → List Check
-askedBitsChecks v m k place image n = messageBitsChecks v m k ++ placedChecks (variant v) (blockCount (variant v) (length (messageBits (variant v) m k))) place image n
+abbrev pub askedChecks : ℕ → Given → ℕ → List ℕ → ℕ → List Check
+askedChecks v g place image n =
+    messageChecks v g ++ placedChecks (variant v) (blockCount (variant v) (length (givenBits (variant v) g))) place image n
 
 -- Lost block: 1; 15; 4; 7; 17; 6; 5; 8
-abbrev pub recoverBitsChecks : ℕ → List ℕ → ℕ → ℕ → List ℕ → ℕ → List Check
-recoverBitsChecks v m k place image n = askedBitsChecks v m k place image n ++ foundChecks v (messageBits (variant v) m k) place image
+abbrev pub recoverChecks : ℕ → Given → ℕ → List ℕ → ℕ → List Check
+recoverChecks v g place image n = askedChecks v g place image n ++ foundChecks v (givenBits (variant v) g) place image
 
 -- the answer
-unfoldable pub recoverBitsStatus : ℕ → List ℕ → ℕ → ℕ → List ℕ → ℕ → Status
-recoverBitsStatus v m k place image n = firstRefusal (recoverBitsChecks v m k place image n)
+unfoldable pub recoverStatus : ℕ → Given → ℕ → List ℕ → ℕ → Status
+recoverStatus v g place image n = firstRefusal (recoverChecks v g place image n)
 
 -- the caller's output after it
-unfoldable pub recoverBitsInto : ℕ → List ℕ → ℕ → ℕ → List ℕ → List ℕ → List ℕ
-recoverBitsInto v m k place image out =
-    written (recoverBitsStatus v m k place image (length out)) (recoveredBlock v (messageBits (variant v) m k) place image) out
+unfoldable pub recoverInto : ℕ → Given → ℕ → List ℕ → List ℕ → List ℕ
+recoverInto v g place image out =
+    written (recoverStatus v g place image (length out)) (recoveredBlock v (givenBits (variant v) g) place image) out

@@ -7,14 +7,16 @@ ghost use Prim.Native.Nat.{_<_};
 ghost use lib.ListN.{length, drop, replicate};
 ghost use Rattle.standard.specs.Sponge.{isSponge, stateIn};
 ghost use Rattle.standard.specs.Chain.{blocksOf, blockCount};
+ghost use Rattle.standard.specs.Messages.{bytes};
+ghost use Rattle.standard.specs.Messages as given-as;
 ghost use Rattle.standard.specs.Variants.{variant, known};
 ghost use Rattle.answers.specs.declared.Status.the-variants.{Done};
 ghost use Rattle.answers.specs.Checks.{firstRefusal};
 ghost use Rattle.answers.specs.Outputs.{written};
 ghost use Rattle.sponge.specs.Layout.{packedState, Holds};
-ghost use Rattle.sponge.specs.Parts.{messageIn, HoldsMessage};
+ghost use Rattle.sponge.specs.Parts.{given, messageIn, HoldsMessage};
 ghost use Rattle.recover.specs.Difference.{stateBehind, between, difference};
-ghost use Rattle.recover.specs.Recovering.{blockSize, searchable, placedChecks, foundChecks, recoveredBlock, recoverStatus, recoverInto, recoverBitsStatus, recoverBitsInto};
+ghost use Rattle.recover.specs.Recovering.{blockSize, searchable, placedChecks, foundChecks, recoveredBlock, recoverStatus, recoverInto};
 use answers::Refusal;
 use answers::Status;
 use sponge::Direction;
@@ -22,6 +24,7 @@ use sponge::STATE_BYTES;
 use sponge::blocks;
 use sponge::images;
 use sponge::parts;
+use sponge::parts::Ending;
 use sponge::sizes;
 use sponge::step;
 
@@ -190,28 +193,36 @@ fn recover_at(
     put_block(v, front, last, bits, place, image, out)
 }
 
-// Refusals 1, 4, 7, 17, 6, 5, 8. The message's own block at the place is ignored.
-pub fn recover(variant: u32, message: &[u8], place: usize, image: &[u8], out: &mut [u8]) -> Status
-    ensures { λ r. ⌜ (r ≡ recoverStatus variant (now (message .entry)) place (now (image .entry)) (length (now (out .entry))))
-        × (now (out .exit) ≡ recoverInto variant (now (message .entry)) place (now (image .entry)) (now (out .entry))) ⌝ }
+// Refusals 1, 15, 4, 7, 17, 6, 5, 8. The message's own block at the place is ignored.
+pub fn recover_with(
+    variant: u32,
+    message: &[u8],
+    ending: Ending,
+    place: usize,
+    image: &[u8],
+    out: &mut [u8],
+) -> Status
+    ensures { λ r. ⌜ (r ≡ recoverStatus variant (given (now (message .entry)) ending) place (now (image .entry)) (length (now (out .entry))))
+        × (now (out .exit) ≡ recoverInto variant (given (now (message .entry)) ending) place (now (image .entry)) (now (out .entry))) ⌝ }
 {
-    let s = parts::check_message(variant, message.len());
+    let s = parts::check_message(variant, message, ending);
     let Status::Done = s else {
         return s;
     };
     let v = variant as u8;
-    recover_at(
-        v,
-        message,
-        parts::ONE_ALONE,
-        8 * message.len(),
-        place,
-        image,
-        out,
-    )
+    let m = parts::split_of(v, message, ending);
+    recover_at(v, &message[..m.front], m.last, m.bits, place, image, out)
 }
 
-// The same with a message of whose last byte so many bits count: refusals 1, 15, 4, 7, 17, 6, 5, 8.
+// In a message all of whose bits count: refusals 1, 4, 7, 17, 6, 5, 8.
+pub fn recover(variant: u32, message: &[u8], place: usize, image: &[u8], out: &mut [u8]) -> Status
+    ensures { λ r. ⌜ (r ≡ recoverStatus variant (bytes (now (message .entry))) place (now (image .entry)) (length (now (out .entry))))
+        × (now (out .exit) ≡ recoverInto variant (bytes (now (message .entry))) place (now (image .entry)) (now (out .entry))) ⌝ }
+{
+    recover_with(variant, message, Ending::Whole, place, image, out)
+}
+
+// In a message whose last byte contributes `bits` bits: refusals 1, 15, 4, 7, 17, 6, 5, 8.
 pub fn recover_bits(
     variant: u32,
     message: &[u8],
@@ -220,14 +231,8 @@ pub fn recover_bits(
     image: &[u8],
     out: &mut [u8],
 ) -> Status
-    ensures { λ r. ⌜ (r ≡ recoverBitsStatus variant (now (message .entry)) bits place (now (image .entry)) (length (now (out .entry))))
-        × (now (out .exit) ≡ recoverBitsInto variant (now (message .entry)) bits place (now (image .entry)) (now (out .entry))) ⌝ }
+    ensures { λ r. ⌜ (r ≡ recoverStatus variant (given-as.bits (now (message .entry)) bits) place (now (image .entry)) (length (now (out .entry))))
+        × (now (out .exit) ≡ recoverInto variant (given-as.bits (now (message .entry)) bits) place (now (image .entry)) (now (out .entry))) ⌝ }
 {
-    let s = parts::check_message_bits(variant, message, bits);
-    let Status::Done = s else {
-        return s;
-    };
-    let v = variant as u8;
-    let e = parts::ending_of(v, message, bits as usize);
-    recover_at(v, &message[..e.front], e.last, e.bits, place, image, out)
+    recover_with(variant, message, Ending::Bits(bits), place, image, out)
 }

@@ -12,20 +12,26 @@ use lib.ListN.{length, take, replicate, length-append, length-take}
 use lib.Seq.{take-length, take-at}
 use lib.Pow.{pow-pos, shl-lt, shl-exact}
 use borrow.Author.Tests.{ltb-true, ltb-false, not-true, lt-ltb, le-ltb, leb-true, le-leb}
-use Rattle.answers.specs.declared.Status.the-variants.{Done}
-use Rattle.answers.specs.Checks.{firstRefusal}
-use Rattle.answers.specs.Outputs.{most, mostBits}
-use Rattle.answers.proofs.Rows.{passing-says}
+use Rattle.answers.specs.declared.Refusal.the-variants.{UnknownVariant, TooLong, BadBitNumber}
+use Rattle.answers.specs.declared.Status.{Status}
+use Rattle.answers.specs.declared.Status.the-variants.{Done, Refused}
+use Rattle.answers.specs.Checks.{Check, unless, when, firstRefusal}
+use Rattle.answers.specs.Outputs.{whenDone, most, mostBits}
+use Rattle.answers.proofs.Rows.{passing-says, row-append, row-second, row-both}
 use Rattle.standard.specs.Bits.{high-first, lowBits, ordered, bitsOf, bitsIn, unpack}
 use Rattle.standard.specs.Sponge.{Variant}
 use Rattle.standard.specs.Chain.{byteBits, countedOf, messageBits}
+use Rattle.standard.specs.Messages.{Given, bytes, bits, givenBits}
 use Rattle.standard.specs.PartBytes.{beforeLast, lastOf}
 use Rattle.standard.specs.Variants.{variant, known}
 use Rattle.standard.proofs.Tests.{and-true, either, one-to-five, six-to-ten}
 use Rattle.standard.proofs.BitLaws.{length-bitsOf, length-bitsIn, bitsIn-append}
 use Rattle.standard.proofs.HighBits.{top-bits, top-one}
-use Rattle.standard.proofs.PartBytes.{bits-are, bits-eight, bits-length}
-use Rattle.sponge.specs.Parts.{isBitNumber, messageChecks, messageBitsChecks, Marked, messageIn, HoldsMessage}
+use Rattle.standard.proofs.PartBytes.{bits-are, bits-eight, bits-length, uncounted, same-bytes}
+use Rattle.sponge.specs.declared.parts.Ending.{Ending}
+use Rattle.sponge.specs.declared.parts.Ending.the-variants.{Whole, Bits}
+use Rattle.sponge.specs.Messages.{isBitNumber, numberChecks, Fits, messageChecks, Alike}
+use Rattle.sponge.specs.Parts.{given, countOf, Marked, messageIn, HoldsMessage}
 
 -- ---- bit numbers
 
@@ -163,58 +169,126 @@ module _ (m : List Bool) (front : List ℕ) (last n : ℕ) (e : n ≡ length m) 
   pub holds-message : length m ≤ mostBits → HoldsMessage front last n
   holds-message l = record { short = omega arith; marked = subst (λ (x : List Bool). Marked x (front ++ last ∷ [])) (sym message-held) marked }
 
--- whole bytes, with 80 behind them
-module _ (m : List ℕ) where
-  whole-length : 8 * length m ≡ length (byteBits m)
-  whole-length = sym (length-bitsIn high-first m)
+-- ---- what a caller gives, and what the code makes of it
 
-  pub whole-held : messageIn m 128 (8 * length m) ≡ byteBits m
-  whole-held = message-held (byteBits m) m 128 (8 * length m) whole-length (marked-whole m)
+-- the bits are those of so many of the last byte
+pub given-bits : (H : Variant) (m : List ℕ) (e : Ending) → givenBits H (given m e) ≡ messageBits H m (countOf e)
+given-bits H m Whole = sym (bits-eight H m)
+given-bits H m (Bits k) = refl
 
-  pub holds-whole : length m ≤ most → HoldsMessage m 128 (8 * length m)
-  holds-whole l = holds-message (byteBits m) m 128 (8 * length m) whole-length (marked-whole m) (omega (arith, whole-length))
+-- a number that is given and fits
+pub fits-number : (m : List ℕ) (k : ℕ) → Fits (bits m k) → isBitNumber k (length m) ≡ true
+fits-number m k e = passing-says (numberChecks (bits m k)) e .0
 
--- The bits of a message pass their limit just where its bytes pass theirs, however many bits of the last one count.
-module _ (H : Variant) (m : List ℕ) (k : ℕ) (e : isBitNumber k (length m) ≡ true) where
-  number : BitNumber k (length m)
-  number = bit-number k (length m) e
+pub number-passes : (m : List ℕ) (k : ℕ) → isBitNumber k (length m) ≡ true → Fits (bits m k)
+number-passes m k e = rw e
 
-  many : length (messageBits H m k) ≡ 8 * (length m - 1) + k
-  many = bits-length m (number .some) H k
+-- how many bits of the last byte count where the number fits; a byte of which not all count is there
+pub record Counts (k n : ℕ) : Type 0 where
+  pub least : 1 ≤ k
+  pub most : k ≤ 8
+  pub some : k ≤ 7 → 0 < n
 
-  pub limit-same : ltb mostBits (length (messageBits H m k)) ≡ ltb most (length m)
-  limit-same =
-      let n : ℕ = length (messageBits H m k) in
+pub fits-counts : (m : List ℕ) (e : Ending) → Fits (given m e) → Counts (countOf e) (length m)
+fits-counts m Whole f = record { least = omega arith; most = omega arith; some = λ l. omega arith }
+fits-counts m (Bits k) f =
+    let b : BitNumber k (length m) = bit-number k (length m) (fits-number m k f) in
+    record { least = b .least; most = b .most; some = λ l. b .some }
+
+-- The bits pass their limit exactly when the bytes pass theirs, however many bits of the last one count.
+-- how many bits they are
+pub given-length : (H : Variant) (m : List ℕ) (e : Ending) → 0 < length m → length (givenBits H (given m e)) ≡ 8 * (length m - 1) + countOf e
+given-length H m e some = ap length (given-bits H m e) ∙ bits-length m some H (countOf e)
+
+pub given-none : (H : Variant) (e : Ending) → givenBits H (given [] e) ≡ []
+unfolding messageBits
+given-none H e = given-bits H [] e
+
+module _ (H : Variant) (m : List ℕ) (e : Ending) (f : Fits (given m e)) where
+  pub given-most : length (givenBits H (given m e)) ≤ 8 * length m
+  given-most = go m f
+    where
+      go : (x : List ℕ) → Fits (given x e) → length (givenBits H (given x e)) ≤ 8 * length x
+      go [] g = omega (arith, ap length (given-none H e))
+      go (b ∷ x) g = omega (arith, given-length H (b ∷ x) e (omega arith), fits-counts (b ∷ x) e g .most)
+
+  pub given-least : 8 * length m < length (givenBits H (given m e)) + 8
+  given-least = go m f
+    where
+      go : (x : List ℕ) → Fits (given x e) → 8 * length x < length (givenBits H (given x e)) + 8
+      go [] g = omega arith
+      go (b ∷ x) g = omega (arith, given-length H (b ∷ x) e (omega arith), fits-counts (b ∷ x) e g .least)
+
+  pub given-limit : ltb mostBits (length (givenBits H (given m e))) ≡ ltb most (length m)
+  given-limit =
+      let n : ℕ = length (givenBits H (given m e)) in
       ⊎-elim
-      (λ l. lt-ltb mostBits n (omega (arith, many, number, ltb-true most (length m) l)) ∙ sym l)
-      (λ l. le-ltb mostBits n (omega (arith, many, number, ltb-false most (length m) l)) ∙ sym l)
+      (λ l. lt-ltb mostBits n (omega (arith, given-least, ltb-true most (length m) l)) ∙ sym l)
+      (λ l. le-ltb mostBits n (omega (arith, given-most, ltb-false most (length m) l)) ∙ sym l)
       (either (ltb most (length m)))
-
-  pub within-limit : length m ≤ most → length (messageBits H m k) ≤ mostBits
-  within-limit l = omega (arith, many, number)
 
 -- ---- what passing the checks says
 
--- of a message all of whose bits count
-pub message-passed : (v n : ℕ) → firstRefusal (messageChecks v n) ≡ Done → (known v ≡ true) × (n ≤ most)
-message-passed v n e =
-    let p = passing-says (messageChecks v n) e in
-    (p .0, ltb-false _ _ (not-true _ (p .1 .0)))
+pub record Asked (v : ℕ) (g : Given) : Type 0 where
+  pub named : known v ≡ true
+  pub fits : Fits g
+  pub few : length (givenBits (variant v) g) ≤ mostBits
 
--- of one of whose last byte k bits count
-pub record BitsAsked (v : ℕ) (m : List ℕ) (k : ℕ) : Type 0 where
-  pub number : known v ≡ true
-  pub bit-number : isBitNumber k (length m) ≡ true
-  pub short : length m ≤ most
-  pub few : length (messageBits (variant v) m k) ≤ mostBits
-
-pub bits-passed : (v : ℕ) (m : List ℕ) (k : ℕ) → firstRefusal (messageBitsChecks v m k) ≡ Done → BitsAsked v m k
-bits-passed v m k e =
-    let p = passing-says (messageBitsChecks v m k) e in
-    let over : ltb mostBits (length (messageBits (variant v) m k)) ≡ false = not-true _ (p .1 .1 .0) in
+pub message-passed : (v : ℕ) (g : Given) → firstRefusal (messageChecks v g) ≡ Done → Asked v g
+message-passed v g e =
+    let p = row-both (unless (known v) UnknownVariant ∷ []) (numberChecks g ++ when (ltb mostBits (length (givenBits (variant v) g))) TooLong ∷ []) e in
+    let q = row-both (numberChecks g) (when (ltb mostBits (length (givenBits (variant v) g))) TooLong ∷ []) (p .1) in
     record {
-      number = p .0;
-      bit-number = p .1 .0;
-      short = ltb-false _ _ (sym (limit-same (variant v) m k (p .1 .0)) ∙ over);
-      few = ltb-false _ _ over;
+      named = passing-says (unless (known v) UnknownVariant ∷ []) (p .0) .0;
+      fits = q .0;
+      few = ltb-false _ _ (not-true _ (passing-says (when (ltb mostBits (length (givenBits (variant v) g))) TooLong ∷ []) (q .1) .0));
+    }
+
+pub message-short : (v : ℕ) (m : List ℕ) (e : Ending) → Asked v (given m e) → length m ≤ most
+message-short v m e a = ltb-false _ _ (sym (given-limit (variant v) m e (a .fits)) ∙ le-ltb _ _ (a .few))
+
+-- they pass of what is known, fits and is within the limit
+pub message-passes : (v : ℕ) (g : Given) → known v ≡ true → Fits g → length (givenBits (variant v) g) ≤ mostBits → firstRefusal (messageChecks v g) ≡ Done
+message-passes v g k f few =
+    row-second (unless (known v) UnknownVariant ∷ []) (numberChecks g ++ when (ltb mostBits (length (givenBits (variant v) g))) TooLong ∷ []) (rw k)
+    ∙ row-second (numberChecks g) (when (ltb mostBits (length (givenBits (variant v) g))) TooLong ∷ []) f
+    ∙ rw (le-ltb mostBits (length (givenBits (variant v) g)) few)
+
+-- what is past the limit is refused for that
+pub message-long : (v : ℕ) (g : Given) → known v ≡ true → Fits g → mostBits < length (givenBits (variant v) g) → firstRefusal (messageChecks v g) ≡ Refused TooLong
+message-long v g k f long =
+    row-second (unless (known v) UnknownVariant ∷ []) (numberChecks g ++ when (ltb mostBits (length (givenBits (variant v) g))) TooLong ∷ []) (rw k)
+    ∙ row-second (numberChecks g) (when (ltb mostBits (length (givenBits (variant v) g))) TooLong ∷ []) f
+    ∙ rw (lt-ltb mostBits (length (givenBits (variant v) g)) long)
+
+pub message-unknown : (v : ℕ) (g : Given) → known v ≡ false → firstRefusal (messageChecks v g) ≡ Refused UnknownVariant
+message-unknown v g k = rw k
+
+-- ---- two ways to give the same bits
+
+-- where a bit number is checked among other checks, what is alike is answered alike
+pub alike-row : (before behind : List Check) (g h : Given) → firstRefusal (numberChecks g) ≡ firstRefusal (numberChecks h)
+    → firstRefusal (before ++ (numberChecks g ++ behind)) ≡ firstRefusal (before ++ (numberChecks h ++ behind))
+alike-row before behind g h e =
+    row-append before (numberChecks g ++ behind)
+    ∙ ap (λ (s : Status). whenDone (firstRefusal before) s (firstRefusal before))
+    (row-append (numberChecks g) behind ∙ ap (λ (s : Status). whenDone s (firstRefusal behind) s) e ∙ sym (row-append (numberChecks h) behind))
+    ∙ sym (row-append before (numberChecks h ++ behind))
+
+pub alike-asked : (v : ℕ) (g h : Given) → Alike (variant v) g h → firstRefusal (messageChecks v g) ≡ firstRefusal (messageChecks v h)
+alike-asked v g h a =
+    alike-row (unless (known v) UnknownVariant ∷ []) _ g h (a .numbers)
+    ∙ ap (λ (m : List Bool). firstRefusal (unless (known v) UnknownVariant ∷ (numberChecks h ++ when (ltb mostBits (length m)) TooLong ∷ []))) (a .same)
+
+-- The number 8 with bytes that are there says that all bits count.
+pub eight-alike : (H : Variant) (m : List ℕ) → 0 < length m → Alike H (bits m 8) (bytes m)
+eight-alike H m some = record { numbers = number-passes m 8 (eight-fits (length m) some); same = bits-eight H m }
+
+-- Bits of the last byte that do not count change nothing.
+pub uncounted-alike : (H : Variant) (front : List ℕ) (b c k : ℕ) → countedOf (H .family) k b ≡ countedOf (H .family) k c
+    → Alike H (bits (front ++ b ∷ []) k) (bits (front ++ c ∷ []) k)
+uncounted-alike H front b c k e =
+    record {
+      numbers = ap (λ (n : ℕ). firstRefusal (unless (isBitNumber k n) BadBitNumber ∷ [])) (same-bytes front b c);
+      same = uncounted H front b c k e;
     }

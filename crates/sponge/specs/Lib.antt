@@ -2,6 +2,7 @@
 pub mod Layout
 pub mod Cells
 pub mod Blocks
+pub mod Messages
 pub mod Parts
 pub mod Endings
 pub mod Directions

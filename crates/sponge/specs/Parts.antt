@@ -1,39 +1,31 @@
--- Messages that may end inside a byte: when a bit number may be given, and what is asked of a message first; and as the code holds them, whole bytes, and a last byte behind them with the rest of the bits and the padding's 1 bit.
+-- For the code: a message as it holds one, whole bytes and a last byte after them with the rest of the bits and the padding's 1 bit.
 -- Assumes nothing.
 use mathlib.Core.Path.{_≡_}
-use mathlib.Core.Bool.{Bool, true, false, _&&_}
+use mathlib.Core.Bool.{Bool, true, false}
 use mathlib.Core.List.{List, [], _∷_, _++_}
 use Prim.Native.Nat.{ℕ, _-_, _*_, _≤_}
-use lib.Dec.{ltb, leb}
 use lib.ListN.{length, replicate}
 use Rattle.standard.specs.Bits.{high-first, bitsIn, unpack}
-use Rattle.standard.specs.Chain.{messageBits}
-use Rattle.standard.specs.Variants.{variant, known}
-use Rattle.answers.specs.declared.Refusal.the-variants.{UnknownVariant, TooLong, BadBitNumber}
-use Rattle.answers.specs.Checks.{Check, unless, when}
-use Rattle.answers.specs.Outputs.{most, mostBits}
+use Rattle.standard.specs.Messages.{Given, bytes, bits}
+use Rattle.answers.specs.Outputs.{mostBits}
+use Rattle.sponge.specs.declared.parts.Ending.{Ending}
+use Rattle.sponge.specs.declared.parts.Ending.the-variants.{Whole, Bits}
 
--- document 02, Q-6: with n bytes, of whose last one k bits count, k is 1 to 8 and there is a byte
-abbrev pub isBitNumber : ℕ → ℕ → Bool
-isBitNumber k n = ltb 0 n && ltb 0 k && leb k 8
+-- bytes and what counts of the last one are what a caller gives
+abbrev pub given : List ℕ → Ending → Given
+given m Whole = bytes m
+given m (Bits k) = bits m k
 
--- what a whole message and a lost block ask first, of a variant's number and a message of n bytes: 1; 4
-abbrev pub messageChecks : ℕ → ℕ → List Check
-messageChecks v n = unless (known v) UnknownVariant ∷ when (ltb most n) TooLong ∷ []
+-- how many bits of the last byte count
+abbrev pub countOf : Ending → ℕ
+countOf Whole = 8
+countOf (Bits k) = k
 
--- and of a message of whose last byte k bits count (document 02, Q-6): 1; 15; 4
-abbrev pub messageBitsChecks : ℕ → List ℕ → ℕ → List Check
-messageBitsChecks v m k =
-    unless (known v) UnknownVariant
-    ∷ unless (isBitNumber k (length m)) BadBitNumber
-    ∷ when (ltb mostBits (length (messageBits (variant v) m k))) TooLong
-    ∷ []
-
--- the bytes hold the bits m, the 1 bit that the padding adds behind them (5.2.3, 5.3.3), and zeros
+-- the bytes hold the bits m, the 1 bit that the padding adds after them (5.2.3, 5.3.3), and zeros
 abbrev pub Marked : List Bool → List ℕ → Type 0
-Marked m bytes = bitsIn high-first bytes ≡ m ++ true ∷ replicate (8 * length bytes - length m - 1) false
+Marked m held = bitsIn high-first held ≡ m ++ true ∷ replicate (8 * length held - length m - 1) false
 
--- so much of the code's message: the first n bits of whole bytes and a last one behind them
+-- so much of the code's message: the first n bits of whole bytes and a last one after them
 abbrev pub messageIn : List ℕ → ℕ → ℕ → List Bool
 messageIn front last n = unpack high-first n (front ++ last ∷ [])
 

@@ -5,11 +5,14 @@ ghost use mathlib.Core.List.{[], _∷_, _++_};
 ghost use Prim.Native.Nat.{_-_, _^_, _≤_, _<_};
 ghost use lib.ListN.{length, take, replicate};
 ghost use Rattle.standard.specs.Bits.{high-first, bitsOf};
-ghost use Rattle.standard.specs.Chain.{countedOf, messageBits};
+ghost use Rattle.standard.specs.Chain.{countedOf};
+ghost use Rattle.standard.specs.Messages.{givenBits};
 ghost use Rattle.standard.specs.Variants.{variant, known};
+ghost use Rattle.answers.specs.declared.Status.the-variants.{Done};
 ghost use Rattle.answers.specs.Checks.{firstRefusal};
 ghost use Rattle.answers.specs.Outputs.{most};
-ghost use Rattle.sponge.specs.Parts.{isBitNumber, messageChecks, messageBitsChecks, Marked};
+ghost use Rattle.sponge.specs.Messages.{isBitNumber, numberChecks, messageChecks};
+ghost use Rattle.sponge.specs.Parts.{given, countOf, Marked};
 use crate::sizes;
 use answers::MOST;
 use answers::Refusal;
@@ -31,31 +34,43 @@ pub fn is_bit_number(bits: u32, n: usize) -> bool
     bits <= 8
 }
 
-// Whether a message of n bytes may be taken: refusals 1, 4.
-pub fn check_message(variant: u32, n: usize) -> Status
-    ensures { λ r. ⌜ r ≡ firstRefusal (messageChecks variant n) ⌝ }
+// Which bits of a message's last byte count: all of them, or so many.
+pub enum Ending {
+    Whole,
+    Bits(u32),
+}
+
+// Whether the bit number, if one is given, fits the bytes: refusal 15.
+pub fn check_number(message: &[u8], ending: Ending) -> Status
+    ensures { λ r. ⌜ r ≡ firstRefusal (numberChecks (given (now (message .entry)) ending)) ⌝ }
+{
+    match ending {
+        Ending::Whole => Status::Done,
+        Ending::Bits(k) => {
+            if is_bit_number(k, message.len()) {
+                return Status::Done;
+            }
+            Status::Refused(Refusal::BadBitNumber)
+        }
+    }
+}
+
+// Whether a whole message may be taken: refusals 1, 15, 4.
+pub fn check_message(variant: u32, message: &[u8], ending: Ending) -> Status
+    ensures { λ r. ⌜ r ≡ firstRefusal (messageChecks variant (given (now (message .entry)) ending)) ⌝ }
 {
     if !sizes::is_known(variant) {
         return Status::Refused(Refusal::UnknownVariant);
     }
-    if MOST < n {
+    let s = check_number(message, ending);
+    let Status::Done = s else {
+        return s;
+    };
+    // Bits pass their limit exactly when bytes pass theirs.
+    if MOST < message.len() {
         return Status::Refused(Refusal::TooLong);
     }
     Status::Done
-}
-
-// Whether a message of whose last byte so many bits count may be taken: refusals 1, 15, 4.
-pub fn check_message_bits(variant: u32, message: &[u8], bits: u32) -> Status
-    ensures { λ r. ⌜ r ≡ firstRefusal (messageBitsChecks variant (now (message .entry)) bits) ⌝ }
-{
-    if !sizes::is_known(variant) {
-        return Status::Refused(Refusal::UnknownVariant);
-    }
-    if !is_bit_number(bits, message.len()) {
-        return Status::Refused(Refusal::BadBitNumber);
-    }
-    // Bits pass their limit just where bytes pass theirs.
-    check_message(variant, message.len())
 }
 
 // The number that the k counting bits of a byte make: the low ones in SPONGENT, the high ones in the others.
@@ -89,29 +104,40 @@ pub fn with_one(n: u32, k: usize) -> u8
     ((n << (8 - k)) + (1 << (7 - k))) as u8
 }
 
-// How a message ends: so many of its bytes are whole, the byte behind them has the rest of its bits and the padding's 1 bit, and it has so many bits.
-pub struct Ending {
+// A message as the code holds it: so many of its bytes are whole, the byte after them has the rest of its bits and the padding's 1 bit, and
+// it has so many bits.
+pub struct Split {
     pub front: usize,
     pub last: u8,
     pub bits: usize,
 }
 
-// The ending of a message of whose last byte k bits count.
-pub fn ending_of(v: u8, message: &[u8], k: usize) -> Ending
-    requires { ⌜ (known v ≡ true) × (isBitNumber k (length (now message)) ≡ true) × (length (now message) ≤ most) ⌝ }
-    ensures { λ r. ⌜ (r .front ≤ length (now (message .entry))) × (r .bits ≡ length (messageBits (variant v) (now (message .entry)) k)) ⌝ }
-    ensures { λ r. ⌜ Marked (messageBits (variant v) (now (message .entry)) k) (take (r .front) (now (message .entry)) ++ r .last ∷ []) ⌝ }
+// How many bits of the last byte count.
+fn count_of(ending: Ending) -> u32
+    ensures { λ r. ⌜ r ≡ countOf ending ⌝ }
+{
+    match ending {
+        Ending::Whole => 8,
+        Ending::Bits(k) => k,
+    }
+}
+
+pub fn split_of(v: u8, message: &[u8], ending: Ending) -> Split
+    requires { ⌜ (known v ≡ true) × (firstRefusal (numberChecks (given (now message) ending)) ≡ Done) × (length (now message) ≤ most) ⌝ }
+    ensures { λ r. ⌜ (r .front ≤ length (now (message .entry))) × (r .bits ≡ length (givenBits (variant v) (given (now (message .entry)) ending))) ⌝ }
+    ensures { λ r. ⌜ Marked (givenBits (variant v) (given (now (message .entry)) ending)) (take (r .front) (now (message .entry)) ++ r .last ∷ []) ⌝ }
 {
     let n = message.len();
-    // A whole last byte leaves no room for the 1 bit, which stands behind it.
+    let k = count_of(ending) as usize;
+    // A whole last byte leaves no room for the 1 bit, which stands after it.
     if k == 8 {
-        return Ending {
+        return Split {
             front: n,
             last: ONE_ALONE,
             bits: 8 * n,
         };
     }
-    Ending {
+    Split {
         front: n - 1,
         last: with_one(counted(v, message[n - 1], k), k),
         bits: 8 * (n - 1) + k,

@@ -8,6 +8,7 @@ pub mod Spongent
 pub mod Lesamnta
 pub mod Sponge
 pub mod Chain
+pub mod Messages
 pub mod Variants
 pub mod PartBytes
 pub mod Values

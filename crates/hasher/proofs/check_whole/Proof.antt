@@ -8,38 +8,41 @@ use Rattle.answers.specs.Checks.{Check, firstRefusal}
 use Rattle.answers.proofs.Rows.{refused-first, row-second}
 use Rattle.standard.specs.Variants.{variant}
 use Rattle.standard.proofs.Variants.{known-high}
-use Rattle.sponge.specs.Parts.{messageChecks}
+use Rattle.sponge.specs.Messages.{messageChecks}
+use Rattle.sponge.specs.Parts.{given}
 use Rattle.sponge.proofs.PartBytes.{message-passed}
-use Rattle.hasher.specs.Reading.{roomChecks}
+use Rattle.hasher.specs.Reading.{roomChecks, wholeStatus}
 use Rattle.hasher.proofs.check_whole.Statement.{statement}
 use Rattle.hasher.proofs.check_whole.Tie as tie
 
 -- the checks of the message, and that of the output
 abbrev message : tie.Start → List Check
-message s = messageChecks (s .args .variant) (s .args .n)
+message s = messageChecks (s .args .variant) (given (s .args .message .now) (s .args .ending))
 
 abbrev room : tie.Start → List Check
 room s = roomChecks (variant (s .args .variant)) (s .args .wanted) (s .args .room)
 
 -- the first have passed
-passed : (c : tie.After-enum-told) → firstRefusal (message (c .before .before .before)) ≡ Done
+passed : (c : tie.After-enum-told) → firstRefusal (message (c .before .before .before .before)) ≡ Done
 passed c = sym (c .before .before .check-message .ensures) ∙ c .enum-told .given .1
+
+returns : tie.Need-returns
+unfolding wholeStatus
+returns c =
+    let checked = c .before .before in
+    refused-first (message (checked .before .before)) (room (checked .before .before)) _ _ (checked .check-message .ensures) (c .enum-told2 .given .1)
 
 cast-check-room : tie.Need-cast-check-room
 cast-check-room c =
-    let a = c .before .before .before .args in
-    omega (arith, known-high (a .variant) (message-passed (a .variant) (a .n) (passed c) .0))
-
-returns : tie.Need-returns
-returns c =
-    let s = c .before .before .before .before in
-    c .check-room .ensures ∙ sym (row-second (message s) (room s) (passed (c .before)))
+    let a = c .before .before .before .before .args in
+    omega (arith, known-high (a .variant) (message-passed (a .variant) (given (a .message .now) (a .ending)) (passed c) .named))
 
 returns-2 : tie.Need-returns-2
+unfolding wholeStatus
 returns-2 c =
-    let checked = c .before .before in
-    refused-first (message (checked .before)) (room (checked .before)) _ _ (checked .check-message .ensures) (c .enum-told2 .given .1)
+    let s = c .before .before .before .before .before in
+    c .check-room .ensures ∙ sym (row-second (message s) (room s) (passed (c .before)))
 
 pub check-whole-spec : {M : Type 1} → statement M
 check-whole-spec =
-    tie.close (tie.spec (λ c κs. search needs) (λ c. search needs) cast-check-room (λ c κs. search needs) returns (λ c. search needs) returns-2)
+    tie.close (tie.spec (λ c κs. search needs) (λ c. search needs) (λ c. search needs) returns cast-check-room (λ c κs. search needs) returns-2)

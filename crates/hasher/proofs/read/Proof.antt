@@ -10,6 +10,12 @@ use Rattle.hasher.proofs.Calls.{read-says}
 use Rattle.hasher.proofs.read.Statement.{statement}
 use Rattle.hasher.proofs.read.Tie as tie
 
+returns : tie.Need-returns
+unfolding readInto
+returns c =
+    let e = c .before .before .check-read .ensures in
+    (e, rw (← e, c .enum-told2 .given .1))
+
 write-result-requires : tie.Need-write-result-requires
 write-result-requires c κs =
     let told = c .before .before in
@@ -20,21 +26,14 @@ write-result-requires c κs =
     let f = facts h (r .whole) in
     (f .named, (state-kept h f (owned h _ (s .good .0)), r .room))
 
-returns : tie.Need-returns
+returns-2 : tie.Need-returns-2
 unfolding readInto stateOf
-returns c =
+returns-2 c =
     let write = c .before .before in
     let told = write .before .before .before in
     let e = sym (told .before .before .check-read .ensures) ∙ told .enum-told .given .1 in
     (sym e, rw e (write .write-result .ensures))
 
-returns-2 : tie.Need-returns-2
-unfolding readInto
-returns-2 c =
-    let e = c .before .before .check-read .ensures in
-    (e, rw (← e, c .enum-told2 .given .1))
-
 pub read-spec : {M : Type 1} → statement M
 read-spec =
-    tie.close (tie.spec (λ c κs. search needs) (λ c. search needs) write-result-requires (λ c. search needs) returns (λ c. search needs)
-    returns-2)
+    tie.close (tie.spec (λ c κs. search needs) (λ c. search needs) (λ c. search needs) returns write-result-requires (λ c. search needs) returns-2)
