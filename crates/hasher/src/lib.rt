@@ -133,7 +133,7 @@ pub fn check_update(h: Hasher, piece: &[u8], ending: Ending) -> Status
 }
 
 // Whether a result has room in so many bytes: refusal 5.
-fn check_room(v: u8, wanted: Wanted, room: usize) -> Status
+pub fn check_room(v: u8, wanted: Wanted, room: usize) -> Status
     ensures { λ r. ⌜ r ≡ firstRefusal (roomChecks (variant v) wanted room) ⌝ }
 {
     if room < result_size(v, wanted) {

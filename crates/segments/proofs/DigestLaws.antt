@@ -24,11 +24,15 @@ use Rattle.hasher.specs.declared.Advanced.{Advanced}
 use Rattle.hasher.specs.declared.Wanted.{Wanted}
 use Rattle.hasher.specs.Sized.{Sized}
 use Rattle.hasher.specs.Running.{wholeSoFar, Open, started, updated, finished, stateOf}
-use Rattle.hasher.specs.Reading.{resultOf, roomChecks, readStatus, readInto, wholeChecks, wholeStatus, wholeInto}
+use Rattle.hasher.specs.Reading.{resultOf, roomChecks, readStatus, readInto, wholeStatus, wholeInto}
 use Rattle.hasher.proofs.Calls.{start-done, Hashable, whole-says, update-done}
 use Rattle.hasher.proofs.Message.{fresh-sized, fresh-open, fresh-whole, calls-read}
 use Rattle.hasher.proofs.UpdateAppend.{update-twice}
-use Rattle.standard.specs.Bits.{bitsIn}
+use Rattle.standard.specs.Bits.{high-first, bitsIn}
+use Rattle.standard.specs.Messages.{bytes}
+use Rattle.standard.proofs.BitLaws.{length-bitsIn}
+use Rattle.sponge.specs.declared.parts.Ending.the-variants.{Whole}
+use Rattle.sponge.proofs.PartBytes.{given-limit}
 use Rattle.hasher.proofs.Owned.{Owned}
 use Rattle.hasher.proofs.WellFormed.{facts, state-kept, held-kept}
 use Rattle.hasher.proofs.Next.{onward-none, onward, onward-total, onward-whole, onward-open, onward-append}
@@ -47,21 +51,21 @@ module _ (h : Hasher) (w : Owned h) (o : Open h) (list buffer : List ℕ) (whole
   no-segment = sym (onward-none h (w .sized) o (state-kept h (facts h (o .0)) w) (held-kept h (facts h (o .0)) w))
 
   -- an update with the next segment
-  pub next-segment : (k : ℕ) → k < count list → (g : Hasher) (s : List ℕ) → g ≡ after k → s ≡ segmentOf list buffer k → updated g s .hasher ≡ after (k + 1)
+  pub next-segment : (k : ℕ) → k < count list → (g : Hasher) (s : List ℕ) → g ≡ after k → s ≡ segmentOf list buffer k → updated g (bytes s) .hasher ≡ after (k + 1)
   next-segment k l g s eg es =
       let m : List ℕ = segmentsUpTo list buffer k in
       let t : List ℕ = segmentIn list buffer k in
       let j : segmentsUpTo list buffer (k + 1) ≡ m ++ t = ap (segmentsUpTo list buffer) (add-one k) ∙ segments-suc list buffer k in
       let room : h .total + 8 * (length m + length t) ≤ mostBits = omega (arith, length-append m t, ap length j, segments-up-to-within list buffer (k + 1) (omega arith)) in
       ap (λ (a : Advanced). a .hasher)
-      (ap₂ updated eg (es ∙ segment-there list buffer whole all-fit k l)
-      ∙ update-done (after k) (onward-open h (w .sized) o m (omega arith)) t (onward-whole h ends m) (omega (arith, onward-total h m)))
+      (ap₂ (λ (x : Hasher) (y : List ℕ). updated x (bytes y)) eg (es ∙ segment-there list buffer whole all-fit k l)
+      ∙ update-done (after k) (bytes t) (onward-open h (w .sized) o m (omega arith)) refl (onward-whole h ends m) (omega (arith, onward-total h m, length-bitsIn high-first t)))
       ∙ onward-append h (w .sized) o m t
       ∙ ap (onward h) (sym j)
 
-  pub every-segment : after (count list) ≡ updated h (segmentsOf list buffer) .hasher
+  pub every-segment : after (count list) ≡ updated h (bytes (segmentsOf list buffer)) .hasher
   unfolding segmentsOf
-  every-segment = sym (ap (λ (a : Advanced). a .hasher) (update-done h o (segmentsOf list buffer) ends few))
+  every-segment = sym (ap (λ (a : Advanced). a .hasher) (update-done h (bytes (segmentsOf list buffer)) o refl ends (omega (arith, few, length-bitsIn high-first (segmentsOf list buffer)))))
 
 -- ---- the checks in order
 
@@ -86,20 +90,24 @@ module _ (v : ℕ) (list buffer : List ℕ) (wanted : Wanted) (n : ℕ) where
 
 module _ (v : ℕ) (list buffer : List ℕ) (wanted : Wanted) (l : isList list ≡ true) (e : entriesStatus list (length buffer) ≡ Done) where
   -- A list whose entries pass is refused as the whole message that it makes is, or neither is refused.
-  pub list-whole-status : (n : ℕ) → listStatus v list buffer wanted n ≡ wholeStatus v (messageOf list buffer) wanted n
+  pub list-whole-status : (n : ℕ) → listStatus v list buffer wanted n ≡ wholeStatus v (bytes (messageOf list buffer)) wanted n
   unfolding listStatus wholeStatus
   list-whole-status n =
       ap₂ (λ (b : Bool) (s : Status). cond (known v) (cond b s (Refused BadList)) (Refused UnknownVariant)) l
-      (row-second (entriesChecks list (length buffer)) (behind v (messageOf list buffer) wanted n) e)
+      (row-second (entriesChecks list (length buffer)) (behind v (messageOf list buffer) wanted n) e
+      ∙ ap (λ (b : Bool). firstRefusal (when b TooLong ∷ roomChecks (variant v) wanted n)) (sym (given-limit (variant v) (messageOf list buffer) Whole refl)))
 
-  -- the answer for a message of as many bytes as the header has and the entries name together
-  pub list-message : (n t : ℕ) (s : Status) → t ≡ length (headerOf list) + totalOf list → s ≡ firstRefusal (wholeChecks v t wanted n) → s ≡ listStatus v list buffer wanted n
-  unfolding wholeStatus
-  list-message n t s et es =
-      es ∙ ap (λ (i : ℕ). firstRefusal (wholeChecks v i wanted n)) (et ∙ sym (message-length list buffer e)) ∙ sym (list-whole-status n)
+  -- the answers behind those of the entries, for a message of as many bytes as the header has and the entries name together
+  pub list-message : known v ≡ true → (n t : ℕ) → t ≡ length (headerOf list) + totalOf list
+      → firstRefusal (when (ltb most t) TooLong ∷ roomChecks (variant v) wanted n) ≡ listStatus v list buffer wanted n
+  unfolding listStatus
+  list-message k n t et =
+      ap (λ (i : ℕ). firstRefusal (when (ltb most i) TooLong ∷ roomChecks (variant v) wanted n)) (et ∙ sym (message-length list buffer e))
+      ∙ sym (row-second (before v list) (entriesChecks list (length buffer) ++ behind v (messageOf list buffer) wanted n) (passed-all (before v list) (k, (l, tt)))
+      ∙ row-second (entriesChecks list (length buffer)) (behind v (messageOf list buffer) wanted n) e)
 
   -- And the output is that of the whole message.
-  pub list-whole-into : (out : List ℕ) → listInto v list buffer wanted out ≡ wholeInto v (messageOf list buffer) wanted out
+  pub list-whole-into : (out : List ℕ) → listInto v list buffer wanted out ≡ wholeInto v (bytes (messageOf list buffer)) wanted out
   unfolding listInto wholeInto
   list-whole-into out =
       ap (λ (s : Status). written s (resultOf (variant v) wanted (endState (variant v) (byteBits (messageOf list buffer)))) out) (list-whole-status (length out))
@@ -114,10 +122,10 @@ pub same-message : (v : ℕ) (list₁ buffer₁ list₂ buffer₂ : List ℕ) (w
     × (listInto v list₁ buffer₁ wanted out ≡ listInto v list₂ buffer₂ wanted out)
 same-message v list₁ buffer₁ list₂ buffer₂ wanted out l₁ e₁ l₂ e₂ same = (
   list-whole-status v list₁ buffer₁ wanted l₁ e₁ (length out)
-      ∙ ap (λ (x : List ℕ). wholeStatus v x wanted (length out)) same
+      ∙ ap (λ (x : List ℕ). wholeStatus v (bytes x) wanted (length out)) same
       ∙ sym (list-whole-status v list₂ buffer₂ wanted l₂ e₂ (length out)),
   list-whole-into v list₁ buffer₁ wanted l₁ e₁ out
-      ∙ ap (λ (x : List ℕ). wholeInto v x wanted out) same
+      ∙ ap (λ (x : List ℕ). wholeInto v (bytes x) wanted out) same
       ∙ sym (list-whole-into v list₂ buffer₂ wanted l₂ e₂ out),
 )
 
@@ -128,7 +136,7 @@ module _ (v : ℕ) (list buffer : List ℕ) (wanted : Wanted) (n : ℕ) where
   pub record Accepted : Type 0 where
     pub whole : isList list ≡ true
     pub all-fit : entriesStatus list (length buffer) ≡ Done
-    pub message : Hashable v (length (messageOf list buffer)) wanted n
+    pub message : Hashable v (bytes (messageOf list buffer)) wanted n
 
   pub accepted : (s : Status) → s ≡ listStatus v list buffer wanted n → s ≡ Done → Accepted
   unfolding listStatus wholeStatus
@@ -138,7 +146,7 @@ module _ (v : ℕ) (list buffer : List ℕ) (wanted : Wanted) (n : ℕ) where
       let a = row-both (before v list) (entriesChecks list (length buffer) ++ behind v m wanted n) e in
       let l = passing-says (before v list) (a .0) .1 .0 in
       let f = row-both (entriesChecks list (length buffer)) (behind v m wanted n) (a .1) .0 in
-      record { whole = l; all-fit = f; message = whole-says v (length m) wanted n (sym (list-whole-status v list buffer wanted l f n) ∙ e) }
+      record { whole = l; all-fit = f; message = whole-says v (bytes m) wanted n (sym (list-whole-status v list buffer wanted l f n) ∙ e) }
 
 -- ---- from start to read
 
@@ -152,31 +160,31 @@ start-ready v k s e = subst Ready (sym (ap (λ (a : Advanced). a .hasher) (e ∙
 
 -- the number of entries and then the list
 pub header-taken : (h : Hasher) → Sized h → Open h → (list : List ℕ) → (wholeSoFar h ≡ true) × (h .total + 8 * length (headerOf list) ≤ mostBits)
-    → (bytes : List ℕ) (counted listed : Advanced) → bytes ≡ inBytes 2 (count list) → counted ≡ updated h bytes → listed ≡ updated (counted .hasher) list
-    → listed .hasher ≡ updated h (headerOf list) .hasher
+    → (two : List ℕ) (counted listed : Advanced) → two ≡ inBytes 2 (count list) → counted ≡ updated h (bytes two) → listed ≡ updated (counted .hasher) (bytes list)
+    → listed .hasher ≡ updated h (bytes (headerOf list)) .hasher
 unfolding headerOf
-header-taken h z o list few bytes counted listed eb ec el =
-    ap (λ (a : Advanced). a .hasher) (el ∙ ap (λ (a : Advanced). updated (a .hasher) list) (ec ∙ ap (updated h) eb))
+header-taken h z o list few two counted listed eb ec el =
+    ap (λ (a : Advanced). a .hasher) (el ∙ ap (λ (a : Advanced). updated (a .hasher) (bytes list)) (ec ∙ ap (λ (x : List ℕ). updated h (bytes x)) eb))
     ∙ update-twice h z (inBytes 2 (count list)) list o (few .0) (few .1)
 
 module _ (v : ℕ) (list buffer : List ℕ) (wanted : Wanted) (n : ℕ) (a : Accepted v list buffer wanted n) (begun : Advanced) (eb : begun ≡ started v) where
   ready : Ready (begun .hasher)
-  ready = start-ready v (a .message .named) begun eb
+  ready = start-ready v (a .message .asked .named) begun eb
 
   few : length (headerOf list) + length (segmentsOf list buffer) ≤ most
-  few = omega (arith, a .message .few, message-length list buffer (a .all-fit), segments-length list buffer (a .all-fit))
+  few = omega (arith, a .message .asked .few, length-bitsIn high-first (messageOf list buffer), message-length list buffer (a .all-fit), segments-length list buffer (a .all-fit))
 
   -- the header fits
   pub header-fits : Open (begun .hasher) × ((isList list ≡ true) × ((wholeSoFar (begun .hasher) ≡ true) × (begun .hasher .total + 8 * length (headerOf list) ≤ mostBits)))
   header-fits = (ready .1, (a .whole, (ready .2, omega (arith, ready .3, few))))
 
   -- and the segments behind it
-  pub segments-fit : (led : Hasher) → led ≡ updated (begun .hasher) (headerOf list) .hasher
+  pub segments-fit : (led : Hasher) → led ≡ updated (begun .hasher) (bytes (headerOf list)) .hasher
       → Open led × (((isList list ≡ true) × (entriesStatus list (length buffer) ≡ Done)) × ((wholeSoFar led ≡ true) × (led .total + 8 * length (segmentsOf list buffer) ≤ mostBits)))
   segments-fit led e =
       let h : Hasher = begun .hasher in
       let m : List ℕ = headerOf list in
-      let on : onward h m ≡ led = sym (e ∙ ap (λ (u : Advanced). u .hasher) (update-done h (ready .1) m (ready .2) (header-fits .1 .1 .1))) in (
+      let on : onward h m ≡ led = sym (e ∙ ap (λ (u : Advanced). u .hasher) (update-done h (bytes m) (ready .1) refl (ready .2) (omega (arith, header-fits .1 .1 .1, length-bitsIn high-first m)))) in (
         subst Open on (onward-open h (ready .0) (ready .1) m (header-fits .1 .1 .1)),
         (
           (a .whole, a .all-fit),
@@ -188,12 +196,12 @@ module _ (v : ℕ) (list buffer : List ℕ) (wanted : Wanted) (n : ℕ) (a : Acc
       )
 
   -- the running hash after both is that after the message
-  pub message-taken : (led h : Hasher) → led ≡ updated (begun .hasher) (headerOf list) .hasher → h ≡ updated led (segmentsOf list buffer) .hasher
-      → h ≡ updated (begun .hasher) (messageOf list buffer) .hasher
+  pub message-taken : (led h : Hasher) → led ≡ updated (begun .hasher) (bytes (headerOf list)) .hasher → h ≡ updated led (bytes (segmentsOf list buffer)) .hasher
+      → h ≡ updated (begun .hasher) (bytes (messageOf list buffer)) .hasher
   unfolding messageOf
   message-taken led h e eh =
       let room : begun .hasher .total + 8 * length (headerOf list ++ segmentsOf list buffer) ≤ mostBits = omega (arith, ready .3, few, length-append (headerOf list) (segmentsOf list buffer)) in
-      eh ∙ ap (λ (g : Hasher). updated g (segmentsOf list buffer) .hasher) e ∙ update-twice (begun .hasher) (ready .0) (headerOf list) (segmentsOf list buffer) (ready .1) (ready .2) room
+      eh ∙ ap (λ (g : Hasher). updated g (bytes (segmentsOf list buffer)) .hasher) e ∙ update-twice (begun .hasher) (ready .0) (headerOf list) (segmentsOf list buffer) (ready .1) (ready .2) room
 
 module _ (v : ℕ) (list buffer : List ℕ) (wanted : Wanted) (out : List ℕ) where
   -- status and output after a call
@@ -201,9 +209,10 @@ module _ (v : ℕ) (list buffer : List ℕ) (wanted : Wanted) (out : List ℕ) w
   Left s after = (s ≡ listStatus v list buffer wanted (length out)) × (after ≡ listInto v list buffer wanted out)
 
   pub left-hashed : Accepted v list buffer wanted (length out) → (begun : Advanced) (h : Hasher) (last : Advanced)
-      → begun ≡ started v → h ≡ updated (begun .hasher) (messageOf list buffer) .hasher → last ≡ finished h
+      → begun ≡ started v → h ≡ updated (begun .hasher) (bytes (messageOf list buffer)) .hasher → last ≡ finished h
       → (s : Status) (after : List ℕ) → (s ≡ readStatus (last .hasher) wanted (length out)) × (after ≡ readInto (last .hasher) wanted out) → Left s after
   left-hashed a begun h last eb eh el s after er =
       let m : List ℕ = messageOf list buffer in
-      let r = calls-read v (a .message .named) m (a .message .few) wanted out begun (updated (begun .hasher) m) last s after eb refl (el ∙ ap finished eh) er in
+      let few : length m ≤ most = omega (arith, a .message .asked .few, length-bitsIn high-first m) in
+      let r = calls-read v (a .message .asked .named) m few wanted out begun (updated (begun .hasher) (bytes m)) last s after eb refl (el ∙ ap finished eh) er in
       (r .0 ∙ sym (list-whole-status v list buffer wanted (a .whole) (a .all-fit) (length out)), r .1 ∙ sym (list-whole-into v list buffer wanted (a .whole) (a .all-fit) out))

@@ -17,7 +17,10 @@ use Rattle.standard.specs.Values.{DifferWithin, inOneBlock}
 use Rattle.standard.proofs.CutLaws.{take-drop-take}
 use Rattle.standard.proofs.OneValue.{differ-part, differ-append, differ-behind, one-changed-row}
 use Rattle.standard.specs.Sponge.{isSponge, imageSize}
+use Rattle.standard.specs.Bits.{high-first}
 use Rattle.standard.specs.Chain.{byteBits, blocksOf, DifferAt, endState}
+use Rattle.standard.proofs.BitLaws.{length-bitsIn}
+use Rattle.standard.specs.Messages.{bytes}
 use Rattle.standard.specs.Variants.{variant}
 use Rattle.hasher.specs.declared.Wanted.the-variants.{EndState}
 use Rattle.hasher.specs.Apart.{Differ, ToldApart}
@@ -191,7 +194,7 @@ module _ (v : ℕ) (list x out list′ y out′ : List ℕ) (dx : listStatus v l
   abbrev Apart : Type 0
   Apart = Differ (imageSize (variant v)) (listInto v list x EndState out) (listInto v list′ y EndState out′)
 
-  lists-told : ToldApart v (messageOf list x) (messageOf list′ y) → Apart
+  lists-told : ToldApart v (bytes (messageOf list x)) (bytes (messageOf list′ y)) → Apart
   lists-told t e =
       t .whole out out′ (ax .message .room) (ay .message .room)
       (ap (take (imageSize (variant v))) (sym (list-whole-into v list x EndState (ax .whole) (ax .all-fit) out))
@@ -202,13 +205,13 @@ module _ (v : ℕ) (list x out list′ y out′ : List ℕ) (dx : listStatus v l
   pub list-row-told : isSponge (variant v) ≡ true → (i : ℕ) → DifferAt i (blocksOf (variant v) (byteBits (messageOf list x))) (blocksOf (variant v) (byteBits (messageOf list′ y)))
       → (endState (variant v) (byteBits (messageOf list x)) ≡ endState (variant v) (byteBits (messageOf list′ y)) → ⊥) × Apart
   list-row-told q i d = (
-    one-changed-row v (ax .message .named) q i (byteBits (messageOf list x)) (byteBits (messageOf list′ y)) d,
-    lists-told (row-told v (ax .message .named) (messageOf list x) (messageOf list′ y) q (ax .message .few) (ay .message .few) i d),
+    one-changed-row v (ax .message .asked .named) q i (byteBits (messageOf list x)) (byteBits (messageOf list′ y)) d,
+    lists-told (row-told v (ax .message .asked .named) q (bytes (messageOf list x)) (bytes (messageOf list′ y)) refl refl (ax .message .asked .few) (ay .message .asked .few) i d),
   )
 
   -- Of a sponge: two messages over lists that differ, and only within the block j.
   pub list-block-told : isSponge (variant v) ≡ true → (j : ℕ) → DifferWithin (j * variant v .r) (variant v .r) (byteBits (messageOf list x)) (byteBits (messageOf list′ y)) → Apart
-  list-block-told q j d = lists-told (block-told v (ax .message .named) (messageOf list x) (messageOf list′ y) q (ax .message .few) j d)
+  list-block-told q j d = lists-told (block-told v (ax .message .asked .named) q (bytes (messageOf list x)) (bytes (messageOf list′ y)) refl refl (ax .message .asked .few) j d)
 
 -- Of a sponge: two buffers that differ only in a value that one entry of a list names, and that lies in one block of the message.
 pub list-value-told : (v : ℕ) → isSponge (variant v) ≡ true → (list x out y out′ : List ℕ) → listStatus v list x EndState (length out) ≡ Done → listStatus v list y EndState (length out′) ≡ Done
@@ -219,5 +222,5 @@ list-value-told v q list x out y out′ dx dy hl hx hy p n d k w o =
     let a = accepted v list x EndState (length out) _ refl dx in
     let m = message-value list x y p n d (a .all-fit) k w in
     lists-told v list x out list y out′ dx dy
-    (value-told v (a .message .named) (messageOf list x) (messageOf list y) q (a .message .few) (message-bytes list x hl hx) (message-bytes list y hl hy)
+    (value-told v (a .message .asked .named) q (messageOf list x) (messageOf list y) (omega (arith, a .message .asked .few, length-bitsIn high-first (messageOf list x))) (message-bytes list x hl hx) (message-bytes list y hl hy)
     (length (headerOf list) + placeOf list k p) n m o)

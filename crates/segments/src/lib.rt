@@ -4,12 +4,14 @@ ghost use mathlib.Core.Bool.{true};
 ghost use Prim.Native.Nat.{_+_, _*_, _≤_, _<_};
 ghost use lib.ListN.{length};
 ghost use denote.Ref.{ptr};
+ghost use Rattle.standard.specs.Messages.{bytes};
 ghost use Rattle.answers.specs.declared.Status.the-variants.{Done};
 ghost use Rattle.answers.specs.Checks.{firstRefusal};
 ghost use Rattle.answers.specs.Outputs.{mostBits};
 ghost use Rattle.hasher.specs.Running.{wholeSoFar, Open, updated};
 ghost use Rattle.segments.specs.Entries.{offsetOf, lengthOf, endOf, formerEnd, isList, count, entryChecks, segmentStatus, segmentOf, segmentAt, further, entriesStatus, segmentsOf, headerOf, totalOf};
 ghost use Rattle.segments.specs.Digests.{listStatus, listInto};
+use answers::MOST;
 use answers::Refusal;
 use answers::Status;
 use hasher::Hasher;
@@ -144,7 +146,10 @@ fn check_list(variant: u32, list: &[u8], buffer: &[u8], wanted: Wanted, n: usize
     let Status::Done = s else {
         return s;
     };
-    hasher::check_whole(variant, message_length(list), wanted, n)
+    if MOST < message_length(list) {
+        return Status::Refused(Refusal::TooLong);
+    }
+    hasher::check_room(variant as u8, wanted, n)
 }
 
 // The running hash after the number of entries and the list.
@@ -152,7 +157,7 @@ fn update_header(h: Hasher, list: &[u8]) -> Hasher
     requires { ⌜ Open h ⌝ }
     requires { ⌜ isList (now list) ≡ true ⌝ }
     requires { ⌜ (wholeSoFar h ≡ true) × (h .total + 8 * length (headerOf (now list)) ≤ mostBits) ⌝ }
-    ensures { λ r. ⌜ r ≡ updated h (headerOf (now (list .entry))) .hasher ⌝ }
+    ensures { λ r. ⌜ r ≡ updated h (bytes (headerOf (now (list .entry)))) .hasher ⌝ }
 {
     let count = answers::u16_bytes((list.len() / 8) as u16);
     let counted = hasher::update(h, &count);
@@ -165,7 +170,7 @@ fn update_all(h: Hasher, list: &[u8], buffer: &[u8]) -> Hasher
     requires { ⌜ Open h ⌝ }
     requires { ⌜ (isList (now list) ≡ true) × (entriesStatus (now list) (length (now buffer)) ≡ Done) ⌝ }
     requires { ⌜ (wholeSoFar h ≡ true) × (h .total + 8 * length (segmentsOf (now list) (now buffer)) ≤ mostBits) ⌝ }
-    ensures { λ r. ⌜ r ≡ updated h (segmentsOf (now (list .entry)) (now (buffer .entry))) .hasher ⌝ }
+    ensures { λ r. ⌜ r ≡ updated h (bytes (segmentsOf (now (list .entry)) (now (buffer .entry)))) .hasher ⌝ }
 {
     let n = list.len() / 8;
     let mut g = h;

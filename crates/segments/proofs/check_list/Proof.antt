@@ -1,9 +1,17 @@
 -- `segments::check_list` meets its contract: the checks in order. Assumes nothing.
 use mathlib.Core.Path.{_≡_, sym, _∙_}
 use mathlib.Core.Bool.{true}
-use borrow.Author.Tests.{not-true, not-false}
+use mathlib.Core.List.{_∷_}
+use native.Mathlib.Omega.{arith}
+use lib.Dec.{ltb}
+use borrow.Author.Tests.{not-true, not-false, lt-ltb, le-ltb}
 use borrow.Author.Needs.{needs}
-use Rattle.standard.specs.Variants.{known}
+use Rattle.answers.specs.declared.Refusal.the-variants.{TooLong}
+use Rattle.answers.specs.Checks.{when, firstRefusal}
+use Rattle.answers.specs.Outputs.{most}
+use Rattle.standard.specs.Variants.{variant, known}
+use Rattle.standard.proofs.Variants.{known-high}
+use Rattle.hasher.specs.Reading.{roomChecks}
 use Rattle.segments.specs.Entries.{isList}
 use Rattle.segments.specs.Digests.{listStatus}
 use Rattle.segments.proofs.DigestLaws.{list-entry, list-message}
@@ -30,15 +38,29 @@ returns-3 c =
     c .enum-told2 .given .1
     ∙ sym (list-entry _ _ _ _ _ (named (all .before .before .before)) (whole (all .before)) _ (sym (all .check-all .ensures) ∙ c .enum-told2 .given .1))
 
+module _ (c : tie.After-message-length) where
+  abbrev all : tie.After-check-all
+  all = c .before .before .before
+
+  abbrev entry : tie.Start
+  entry = all .before .before .before .before .before .before .before
+
+  -- what the checks behind the entries' come to
+  last : firstRefusal (when (ltb most (c .message-length .result)) TooLong ∷ roomChecks (variant (entry .args .variant)) (entry .args .wanted) (entry .args .n))
+      ≡ listStatus (entry .args .variant) (entry .args .list .now) (entry .args .buffer .now) (entry .args .wanted) (entry .args .n)
+  last =
+      list-message (entry .args .variant) (entry .args .list .now) (entry .args .buffer .now) (entry .args .wanted) (whole (all .before))
+      (sym (all .check-all .ensures) ∙ c .before .enum-told .given .1) (named (all .before .before .before)) (entry .args .n) (c .message-length .result) (c .message-length .ensures)
+
 returns-4 : tie.Need-returns-4
-returns-4 c =
-    let told = c .before .before in
-    let all = told .before .before in
-    let a = all .before .before .before .before .before .before .before .args in
-    list-message (a .variant) (a .list .now) (a .buffer .now) (a .wanted) (whole (all .before)) (sym (all .check-all .ensures) ∙ told .enum-told .given .1) (a .n) _ _
-    (c .before .message-length .ensures) (c .check-whole .ensures)
+returns-4 c = sym (rw (lt-ltb _ _ (c .if3 .taken))) ∙ last (c .before)
+
+returns-5 : tie.Need-returns-5
+returns-5 c =
+    let short = c .before in
+    sym (rw (le-ltb _ _ (short .if3 .left)) (sym (c .check-room .ensures))) ∙ last (short .before)
 
 pub check-list-spec : {M : Type 1} → statement M
 check-list-spec =
     tie.close (tie.spec (λ c κs. search needs) returns (λ c κs. search needs) returns-2 (λ c κs. whole c) (λ c. search needs)
-    (λ c. search needs) returns-3 (λ c κs. whole (c .before .before .before)) (λ c κs. search needs) returns-4)
+    (λ c. search needs) returns-3 (λ c κs. whole (c .before .before .before)) returns-4 (λ c. omega (arith, known-high (entry (c .before) .args .variant) (named (all (c .before) .before .before .before)))) (λ c κs. search needs) returns-5)
