@@ -168,34 +168,52 @@ def value(thing):
     return begins[0] if texts[0] == thing.name and len(begins) == 1 else None
 
 
-def spelling(thing):
-    """The words, with meanings in place of names. A theorem whose type is a name says what the definition of that name says, as if it stood there."""
+def said(thing):
+    """The words of a thing, each with what it names; of a theorem those of its type, and where that is the name of a definition, those of the definition."""
     words, start = thing.words, 0
-    if thing.kind == "theorems":
-        start = next(k for k, token in enumerate(words) if token.text == ":") + 1
+    if thing.kind == "theorems" and [token.text for token in words[:2]] == [thing.name, ":"]:
+        start = 2
         named = thing.refers.get(start) if len(words) == start + 1 else None
         if named and named.kind == "definitions" and value(named):
             thing, words, start = named, named.words, value(named)
-    spelt = [thing.refers[k].meaning or t.text if k in thing.refers else "·" if t.text == thing.name else t.text for k, t in enumerate(words)]
-    hidden = joins(words[start:]) if start else ()
-    return [text for k, text in enumerate(spelt) if k >= start and k - start not in hidden]
+    found = [("·" if t.text == thing.name else t.text, thing.refers.get(start + k)) for k, t in enumerate(words[start:])]
+    return canonical(found) if start else found
 
 
-def joins(words):
-    """The arrows that only stand between two groups of parameters, where they may be left out."""
-    found, depth, binder = set(), 0, False
-    for k, token in enumerate(words):
-        if not depth and token.text in declarations.OPEN:
-            inside = words[k + 1 :]
-            stop = declarations.top(inside, {":", *declarations.CLOSE})
-            former, binder = binder, stop is not None and inside[stop].text == ":"
-            if former and binder and words[k - 1].text == "→" and words[k - 2].text in declarations.CLOSE:
-                found.add(k - 1)
-        depth += (token.text in declarations.OPEN) - (token.text in declarations.CLOSE)
+def spelling(thing):
+    """The words, with meanings in place of names."""
+    return [named.meaning or text if named else text for text, named in said(thing)]
+
+
+def canonical(words):
+    """A statement, each word with what it names, as its premises in brackets and its conclusion. So it makes no difference how parameters are grouped,
+    where an arrow between two groups is left out, and whether a premise has a name that nothing behind it uses."""
+    parts, depth = [[]], 0
+    for word in words:
+        depth += (word[0] in declarations.OPEN) - (word[0] in declarations.CLOSE)
+        if word[0] == "→" and not depth:
+            parts.append([])
+        else:
+            parts[-1].append(word)
+    premises = [premise for part in parts[:-1] for premise in parameters(part) or [(None, part)]]
+    spelt = parts[-1]
+    for name, kind in reversed(premises):
+        used = name and any(text == name[0] for text, _ in spelt)
+        spelt = [("(", None), *([name, (":", None)] if used else []), *kind, (")", None), ("→", None), *spelt]
+    return spelt
+
+
+def parameters(part):
+    """The parameters (name, type) of a part that is nothing but groups of them in round brackets."""
+    found, k = [], 0
+    while k < len(part):
+        depth, stop, colon = 1, k + 1, None
+        while part[k][0] == "(" and depth and stop < len(part):
+            depth += (part[stop][0] in declarations.OPEN) - (part[stop][0] in declarations.CLOSE)
+            colon = stop if colon is None and depth == 1 and part[stop][0] == ":" else colon
+            stop += 1
+        if depth or colon is None:
+            return []
+        found += [(name, part[colon + 1 : stop - 1]) for name in part[k + 1 : colon]]
+        k = stop
     return found
-
-
-def without_joins(words):
-    """The words of a signature, without such arrows."""
-    hidden = joins(words)
-    return [token.text for k, token in enumerate(words) if k not in hidden]
