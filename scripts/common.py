@@ -14,6 +14,24 @@ def crates():
     return [line.split(":")[0].strip() for line in lines if line.strip()]
 
 
+def operations(page):
+    """The public operations of README's table as `CRATE::FUNCTION`, the exports first. In a cell a name alone belongs to the crate before it,
+    and a crate's name alone says that the functions before it are in that crate too."""
+    rows = page.split("\n## The operations\n")[-1].split("\n## ")[0].splitlines() if "\n## The operations\n" in page else []
+    exports, others = [], []
+    for exported, named, *_ in (re.split(r"(?<!\\)\|", row)[1:-1] for row in rows if row.startswith("|")):
+        exports += [f"wickslate::{name}" for name in re.findall(r"`(\w+)`", exported)]
+        crate, found = None, []
+        for first, second in re.findall(r"`(\w+)(?:::(\w+))?[^`]*`", named):
+            if not second and first in crates():
+                others += [f"{first}::{name}" for name in found]
+            else:
+                crate, name = (first, second) if second else (crate, first)
+                others.append(f"{crate}::{name}")
+                found.append(name)
+    return list(dict.fromkeys(exports + others))
+
+
 def wrong_rows(page):
     """The rows of the tables of wrong programs, each as its cells without the outer ones."""
     for section in page.split(WRONG)[1:]:
