@@ -33,10 +33,11 @@ fn standing(answer: Advanced, got: isize) -> Fed
     }
 }
 
-fn variant_read(byte: u8, got: isize) -> u8
-    ensures { λ r. ⌜ r ≡ variantRead byte got ⌝ }
+// The byte that a first read of so many brought.
+fn variant_read(byte: u8, count: isize) -> u8
+    ensures { λ r. ⌜ r ≡ variantRead byte count ⌝ }
 {
-    if 0 < got { byte } else { 0 }
+    if 0 < count { byte } else { 0 }
 }
 
 // The first read, which asked for one byte.

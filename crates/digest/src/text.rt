@@ -85,6 +85,6 @@ pub fn write_answer(answer: Advanced, out: &mut [u8]) -> usize
     let status = answer.status;
     match status {
         Status::Done => write_closed(answer.hasher, out),
-        Status::Refused(r) => write_refusal(r, out),
+        Status::Refused(why) => write_refusal(why, out),
     }
 }
