@@ -1,6 +1,7 @@
 -- What a call leaves behind: the new value where it is Done, the old one where it is refused; bytes written over a part of an output; and
 -- the limit of a message.
 -- Assumes nothing.
+use mathlib.Core.Bool.{Bool, true, false}
 use mathlib.Core.List.{List, _++_}
 use Prim.Native.Nat.{ℕ, _+_}
 use lib.ListN.{length, take, drop}
@@ -11,6 +12,10 @@ use Rattle.answers.specs.declared.Status.the-variants.{Done, Refused}
 abbrev pub whenDone : {A : Type 0} → Status → A → A → A
 whenDone Done new old = new
 whenDone (Refused r) new old = old
+
+-- the answer is Done
+abbrev pub isDone : Status → Bool
+isDone s = whenDone s true false
 
 -- the result over the front of the caller's output; bytes past it stay, and all of them where the call is refused
 abbrev pub written : Status → List ℕ → List ℕ → List ℕ

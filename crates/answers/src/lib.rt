@@ -6,6 +6,7 @@ ghost use Prim.Native.Nat.{_+_, _*_, _<_, _≤_};
 ghost use lib.ListN.{length, take, drop};
 ghost use Rattle.answers.specs.Refusals.{number, entry, answer};
 ghost use Rattle.answers.specs.Numbers.{bigEndian, inBytes};
+ghost use Rattle.answers.specs.Outputs.{isDone};
 
 // The most bytes that a message may have, and the most bits.
 pub const MOST: usize = 16777215;
@@ -36,6 +37,15 @@ pub enum Refusal {
 pub enum Status {
     Done,
     Refused(Refusal),
+}
+
+pub fn is_done(s: Status) -> bool
+    ensures { λ r. ⌜ r ≡ isDone s ⌝ }
+{
+    match s {
+        Status::Done => true,
+        Status::Refused(_) => false,
+    }
 }
 
 // The number of a refusal, from 1 on.

@@ -4,7 +4,9 @@ ghost use Prim.Native.Nat.{_+_, _%_, _≤_};
 ghost use lib.ListN.{length};
 ghost use Rattle.answers.specs.Numbers.{digitCode, decimal};
 ghost use Rattle.answers.specs.Outputs.{writtenAt};
-ghost use Rattle.answers.specs.Lines.{lineOf};
+ghost use Rattle.answers.specs.Lines.{lineOf, refusedLine};
+use crate::Refusal;
+use crate::number_of;
 
 pub fn write_bytes(bytes: &[u8], out: &mut [u8], at: usize) -> usize
     requires { ⌜ at + length (now bytes) ≤ length (now out) ⌝ }
@@ -64,4 +66,12 @@ pub fn write_line(name: &[u8], n: u32, out: &mut [u8], at: usize) -> usize
     let spaced = write_bytes(b" ", out, named);
     let counted = write_decimal(n, out, spaced);
     write_bytes(b"\n", out, counted)
+}
+
+// The line of a refusal over the front of an output that has room for any number.
+pub fn write_refusal(r: Refusal, out: &mut [u8]) -> usize
+    requires { ⌜ 19 ≤ length (now out) ⌝ }
+    ensures { λ n. ⌜ (now (out .exit) ≡ writtenAt 0 (refusedLine r) (now (out .entry))) × (n ≡ length (refusedLine r)) × (n ≤ 19) ⌝ }
+{
+    write_line(b"refused", number_of(r) as u32, out, 0)
 }

@@ -1,15 +1,11 @@
 -- The digits of bytes, one by one. Assumes nothing.
-use mathlib.Core.Path.{_≡_, refl, ap}
+use mathlib.Core.Path.{_≡_, refl}
 use mathlib.Core.List.{List, [], _∷_}
-use mathlib.Core.Logic.{⊎-elim}
-use Prim.Native.Nat.{ℕ, zero, suc, _+_, _*_, _/_, _%_, _≤_, _<_}
+use Prim.Native.Nat.{ℕ, zero, suc, _+_, _*_, _/_, _%_, _<_}
 use native.Mathlib.Nat.{not-suc-le-zero, le-of-suc-le-suc}
 use native.Mathlib.Omega.{arith}
-use lib.ListN.{length, getD, List·getD-eq-default}
+use lib.ListN.{length, getD, take}
 use Rattle.io.specs.Digits.{glyph}
-use Rattle.standard.specs.Variants.{variant, variants, none}
-use Rattle.standard.proofs.Tests.{lt-or-le}
-use Rattle.standard.proofs.Variants.{bounds, known-true}
 use Rattle.digest.specs.Hex.{hexOf}
 
 pub length-hexOf : (bytes : List ℕ) → length (hexOf bytes) ≡ 2 * length bytes
@@ -33,15 +29,13 @@ lower-at (b ∷ bytes) (suc i) h =
     let e : 2 * suc i + 1 ≡ suc (suc (2 * i + 1)) = omega arith in
     rw e (lower-at bytes i (le-of-suc-le-suc h))
 
--- a digest has at most 32 bytes, for any number
-pub digest-short : (v : ℕ) → variant v .n / 8 ≤ 32
-unfolding variant
-digest-short v =
-    ⊎-elim
-    (λ l. let e : v ≡ 0 = omega arith in omega (arith, ap (λ (w : ℕ). variant w .n) e))
-    (λ l.
-    ⊎-elim
-    (λ h. omega (arith, bounds v (known-true v l (omega arith)) .digest-most))
-    (λ h. omega (arith, ap (λ H. H .n) (List·getD-eq-default variants none {n = v} h)))
-    (lt-or-le v 12))
-    (lt-or-le v 1)
+-- the digits of the first bytes are the first digits
+pub take-hexOf : (n : ℕ) (bytes : List ℕ) → take (2 * n) (hexOf bytes) ≡ hexOf (take n bytes)
+unfolding hexOf
+take-hexOf zero bytes = refl
+take-hexOf (suc n) [] =
+    let e : 2 * suc n ≡ suc (suc (2 * n)) = omega arith in
+    rw e
+take-hexOf (suc n) (b ∷ bytes) =
+    let e : 2 * suc n ≡ suc (suc (2 * n)) = omega arith in
+    rw (e, take-hexOf n bytes)

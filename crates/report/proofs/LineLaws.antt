@@ -6,15 +6,16 @@ use Prim.Native.Nat.{ℕ, _≤_}
 use native.Mathlib.Omega.{arith}
 use lib.ListN.{length}
 use Rattle.answers.specs.Outputs.{writtenAt}
+use Rattle.answers.specs.Text.{ascii}
 use Rattle.answers.specs.Lines.{lineOf}
 use Rattle.answers.proofs.LineLaws.{Wrote, wrote-on}
 use Rattle.manifest.specs.declared.report.Summary.{Summary}
-use Rattle.report.specs.Lines.{linesOf, listedName, tablesName, equalName, unequalName, untoldName, unlistedName}
+use Rattle.report.specs.Lines.{linesOf}
 
 pub lines-written : (s : Summary) (out : List ℕ) {o₁ o₂ o₃ o₄ o₅ o₆ : List ℕ} {p₁ p₂ p₃ p₄ p₅ p₆ : ℕ} → p₅ ≤ length out
-    → Wrote 0 (lineOf listedName (s .listed)) out o₁ p₁ → Wrote p₁ (lineOf tablesName (s .tables)) o₁ o₂ p₂
-    → Wrote p₂ (lineOf equalName (s .equal)) o₂ o₃ p₃ → Wrote p₃ (lineOf unequalName (s .unequal)) o₃ o₄ p₄
-    → Wrote p₄ (lineOf untoldName (s .untold)) o₄ o₅ p₅ → Wrote p₅ (lineOf unlistedName (s .unlisted)) o₅ o₆ p₆
+    → Wrote 0 (lineOf (ascii "listed") (s .listed)) out o₁ p₁ → Wrote p₁ (lineOf (ascii "tables") (s .tables)) o₁ o₂ p₂
+    → Wrote p₂ (lineOf (ascii "equal") (s .equal)) o₂ o₃ p₃ → Wrote p₃ (lineOf (ascii "unequal") (s .unequal)) o₃ o₄ p₄
+    → Wrote p₄ (lineOf (ascii "untold") (s .untold)) o₄ o₅ p₅ → Wrote p₅ (lineOf (ascii "unlisted") (s .unlisted)) o₅ o₆ p₆
     → (o₆ ≡ writtenAt 0 (linesOf s) out) × (p₆ ≡ length (linesOf s))
 unfolding linesOf
 lines-written s out h w₁ w₂ w₃ w₄ w₅ w₆ =

@@ -1,31 +1,26 @@
--- A report as text (document 02, Q-1): six lines, each a name, a space and a count in decimal.
+-- What the program prints (document 02, Q-1): six lines, each a name, a space and a count in decimal, or the line of a refusal.
 -- Assumes nothing.
-use mathlib.Core.List.{List, [], _∷_, _++_}
+use mathlib.Core.List.{List, _++_}
 use Prim.Native.Nat.{ℕ}
-use Rattle.answers.specs.Lines.{lineOf}
+use Rattle.answers.specs.declared.Status.{Status}
+use Rattle.answers.specs.declared.Status.the-variants.{Done, Refused}
+use Rattle.answers.specs.Text.{ascii}
+use Rattle.answers.specs.Lines.{lineOf, refusedLine}
+use Rattle.manifest.specs.declared.report.Report.{Report}
 use Rattle.manifest.specs.declared.report.Summary.{Summary}
-
--- the names in ASCII codes: listed, tables, equal, unequal, untold, unlisted
-abbrev pub listedName : List ℕ
-listedName = 108 ∷ 105 ∷ 115 ∷ 116 ∷ 101 ∷ 100 ∷ []
-
-abbrev pub tablesName : List ℕ
-tablesName = 116 ∷ 97 ∷ 98 ∷ 108 ∷ 101 ∷ 115 ∷ []
-
-abbrev pub equalName : List ℕ
-equalName = 101 ∷ 113 ∷ 117 ∷ 97 ∷ 108 ∷ []
-
-abbrev pub unequalName : List ℕ
-unequalName = 117 ∷ 110 ∷ 101 ∷ 113 ∷ 117 ∷ 97 ∷ 108 ∷ []
-
-abbrev pub untoldName : List ℕ
-untoldName = 117 ∷ 110 ∷ 116 ∷ 111 ∷ 108 ∷ 100 ∷ []
-
-abbrev pub unlistedName : List ℕ
-unlistedName = 117 ∷ 110 ∷ 108 ∷ 105 ∷ 115 ∷ 116 ∷ 101 ∷ 100 ∷ []
+use Rattle.manifest.specs.Progress.{countsSoFar}
 
 -- the six lines of the counts
 unfoldable pub linesOf : Summary → List ℕ
 linesOf s =
-    lineOf listedName (s .listed) ++ lineOf tablesName (s .tables) ++ lineOf equalName (s .equal) ++ lineOf unequalName (s .unequal)
-    ++ lineOf untoldName (s .untold) ++ lineOf unlistedName (s .unlisted)
+    lineOf (ascii "listed") (s .listed)
+    ++ lineOf (ascii "tables") (s .tables)
+    ++ lineOf (ascii "equal") (s .equal)
+    ++ lineOf (ascii "unequal") (s .unequal)
+    ++ lineOf (ascii "untold") (s .untold)
+    ++ lineOf (ascii "unlisted") (s .unlisted)
+
+-- what is printed: the counts that a report has come to, or, where none could be begun, the refusal
+abbrev pub printed : Status → Report → List ℕ
+printed Done report = linesOf (countsSoFar report)
+printed (Refused r) report = refusedLine r

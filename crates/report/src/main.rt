@@ -1,112 +1,88 @@
 // Reads the manifest in the file `rig` of the current folder and then tables from standard input, and prints the six counts of the report, a
 // line each, or, where the manifest is refused, "refused" and the number. The tables are read in pieces and never held.
+// These functions open, read and write; what they make of it is in `input` and `text`, under equations.
+mod input;
 mod text;
 
-use answers::Refusal;
-use answers::Status;
-use answers::text::write_line;
+ghost use Rattle.io.specs.Counts.{Counts};
+use input::Fed;
 use libc::STDERR_FILENO;
 use libc::STDIN_FILENO;
 use libc::STDOUT_FILENO;
 use manifest::MOST_RECORDS;
-use manifest::MOST_TABLES;
 use manifest::RECORD_BYTES;
-use manifest::Report;
-use manifest::Summary;
 
-// How the input stands after a read of it.
-struct Fed {
-    report: Report,
-    more: bool,
-    failed: bool,
+// What was read of the file: how many bytes, and what a read after them answered, which is 0 at the end of the file.
+struct Held {
+    length: usize,
+    past: isize,
 }
 
 // As many as the most bytes that 65,535 tables can have. A read that goes on brings one byte or more, so the last table is told before
 // these are used up.
 const MOST_READS: u64 = 65535 * (6 + 4294967295);
 
-// Reads once, and takes the piece that came into the report.
-fn feed_some(list: &[u8], report: Report) -> Fed {
-    let mut buffer = io::large_buffer();
-    let got = libc::read(STDIN_FILENO, &mut buffer);
-    let n = io::count(got, &buffer);
-    let next = manifest::taken(list, report, &buffer[..n]);
-    let counts = manifest::counts(next);
-    Fed {
-        report: next,
-        more: 0 < got && counts.tables < MOST_TABLES,
-        failed: got < 0,
+// Reads the file as far as there is room. A read that fails takes no byte and does not say so: the next one goes on where it stood, and so
+// the last one tells whether all was read, also where one failed before.
+fn read_list(list: &mut [u8]) -> Held
+    ensures { λ r. ⌜ Counts (r .length) (now (list .exit)) ⌝ }
+{
+    let fd = os::open_read(b"rig");
+    if fd < 0 {
+        return Held {
+            length: 0,
+            past: -1,
+        };
+    }
+    let n = io::read_full(fd, list);
+    let mut one = [0u8; 1];
+    let past = libc::read(fd, &mut one);
+    // Were standard input closed, the file would have its number: left open, it would be read as the tables.
+    libc::close(fd);
+    Held {
+        length: n,
+        past: past,
     }
 }
 
-// Reads until the input ends, a read fails or the last table was told.
-fn feed_all(list: &[u8], report: Report) -> Fed {
-    let mut fed = feed_some(list, report);
+// Reads the tables once.
+fn feed_some(list: &[u8], fed: Fed) -> Fed {
+    let mut buffer = io::large_buffer();
+    let got = libc::read(STDIN_FILENO, &mut buffer);
+    input::after_piece(list, fed, &buffer, got)
+}
+
+// Reads the tables for as long as there is more.
+fn feed_all(list: &[u8], begun: Fed) -> Fed {
+    let mut fed = begun;
     let mut left = MOST_READS;
     while 0 < left && fed.more {
-        fed = feed_some(list, fed.report);
+        fed = feed_some(list, fed);
         left -= 1;
     }
     fed
 }
 
-fn show_refusal(r: Refusal) {
-    // Room for the name, a space, ten digits and a line end.
-    let mut line = [0u8; 19];
-    let n = write_line(b"refused", answers::number_of(r) as u32, &mut line, 0);
-    io::write_all(STDOUT_FILENO, &line[0..n]);
-}
-
-fn show_summary(s: Summary) {
+// Nothing but a complaint is printed where the input cannot be read.
+fn show(fed: Fed) {
+    if fed.failed {
+        io::write_all(STDERR_FILENO, b"report: standard input cannot be read\n");
+        return;
+    }
+    let status = fed.status;
     let mut lines = [0u8; text::MOST_BYTES];
-    let n = text::write_summary(s, &mut lines);
+    let n = text::write_report(status, fed.report, &mut lines);
     io::write_all(STDOUT_FILENO, &lines[0..n]);
 }
 
-fn complain() {
-    io::write_all(STDERR_FILENO, b"report: standard input cannot be read\n");
-}
-
-// The counts of what was fed. Nothing but a complaint is printed where the input cannot be read.
-fn show_fed(fed: Fed) {
-    if fed.failed {
-        complain();
-    } else {
-        show_summary(manifest::counts(fed.report));
-    }
-}
-
 // The report of the tables in the input.
-fn report_on(list: &[u8]) {
-    let begun = manifest::begun(list);
-    let status = begun.status;
-    match status {
-        Status::Done => show_fed(feed_all(list, begun.report)),
-        Status::Refused(r) => show_refusal(r),
-    }
-}
-
-// Whether the file has nothing more. A read that fails takes no byte and does not say so: the next one goes on where it stood, and so this tells
-// whether all was read, also where one failed before.
-fn is_at_end(fd: i32) -> bool {
-    let mut past = [0u8; 1];
-    libc::read(fd, &mut past) == 0
+fn report_on(list: &[u8], past: isize) {
+    show(feed_all(list, input::after_list(list, past)));
 }
 
 fn main() {
-    let fd = os::open_read(b"rig");
-    if fd < 0 {
-        show_refusal(Refusal::BadManifest);
-        return;
-    }
     let mut list = [0u8; MOST_RECORDS * RECORD_BYTES];
-    let n = io::read_full(fd, &mut list);
-    let whole = is_at_end(fd);
-    // Were standard input closed, the file would have its number: left open, it would be read as the tables.
-    libc::close(fd);
-    if whole {
-        report_on(&list[..n]);
-    } else {
-        show_refusal(Refusal::BadManifest);
-    }
+    let held = read_list(&mut list);
+    let n = held.length;
+    report_on(&list[..n], held.past);
 }

@@ -1,17 +1,20 @@
-// The six lines of a report as text.
+// A report as text: its six lines, or the line of a refusal.
 ghost use mathlib.Core.Path.{_≡_};
 ghost use Prim.Native.Nat.{_≤_};
 ghost use lib.ListN.{length};
 ghost use Rattle.answers.specs.Outputs.{writtenAt};
-ghost use Rattle.report.specs.Lines.{linesOf};
+ghost use Rattle.report.specs.Lines.{linesOf, printed};
+use answers::Status;
 use answers::text::write_line;
+use answers::text::write_refusal;
+use manifest::Report;
 use manifest::Summary;
 
 // The most bytes that the six lines have: 50 of names, spaces and line ends, and ten digits in each.
 pub const MOST_BYTES: usize = 110;
 
 // The lines over the front of the output; how many bytes they have.
-pub fn write_summary(s: Summary, out: &mut [u8]) -> usize
+fn write_summary(s: Summary, out: &mut [u8]) -> usize
     requires { ⌜ 110 ≤ length (now out) ⌝ }
     ensures { λ r. ⌜ (now (out .exit) ≡ writtenAt 0 (linesOf s) (now (out .entry))) × (r ≡ length (linesOf s)) × (r ≤ 110) ⌝ }
 {
@@ -21,4 +24,15 @@ pub fn write_summary(s: Summary, out: &mut [u8]) -> usize
     let unequal = write_line(b"unequal", s.unequal, out, equal);
     let untold = write_line(b"untold", s.untold, out, unequal);
     write_line(b"unlisted", s.unlisted, out, untold)
+}
+
+// What is printed over the front of the output; how many bytes it has.
+pub fn write_report(status: Status, report: Report, out: &mut [u8]) -> usize
+    requires { ⌜ 110 ≤ length (now out) ⌝ }
+    ensures { λ r. ⌜ (now (out .exit) ≡ writtenAt 0 (printed status report) (now (out .entry))) × (r ≡ length (printed status report)) × (r ≤ 110) ⌝ }
+{
+    match status {
+        Status::Done => write_summary(manifest::counts(report), out),
+        Status::Refused(r) => write_refusal(r, out),
+    }
 }

@@ -1,0 +1,14 @@
+-- `digest::input::after_piece` meets its contract. Assumes nothing.
+use mir.Syntax.{w64}
+use mir.ValLaws.{toZ-ofZ}
+use borrow.Author.Needs.{needs}
+use Rattle.digest.proofs.input.after_piece.Statement.{statement}
+use Rattle.digest.proofs.input.after_piece.Tie as tie
+
+returns : tie.Need-returns
+returns c =
+    let s = c .before .before .before .before .before .before in
+    rw (c .standing .ensures, c .before .update .ensures, c .before .before .before .before .count .ensures .1, toZ-ofZ w64 (s .args .got) (s .fits .got))
+
+pub after-piece-spec : {M : Type 1} → statement M
+after-piece-spec = tie.close (tie.spec (λ c κs. search needs) (λ c. search needs) (λ c κs. search needs) (λ c κs. search needs) returns)
