@@ -4,3 +4,4 @@ pub mod Checks
 pub mod Outputs
 pub mod Numbers
 pub mod Lines
+pub mod Promises
