@@ -10,14 +10,16 @@ ghost use Rattle.hasher.specs.declared.Wanted.the-variants.{Digest, EndState};
 ghost use Rattle.hasher.specs.Reading.{readStatus, readInto, wholeStatus, wholeInto, wholeBitsStatus, wholeBitsInto};
 ghost use Rattle.recover.specs.Recovering.{recoverStatus, recoverInto, recoverBitsStatus, recoverBitsInto};
 ghost use Rattle.segments.specs.Entries.{segmentStatus};
+ghost use Rattle.segments.specs.Steps.{stepAnswer, foundAt};
 ghost use Rattle.segments.specs.Digests.{listStatus, listInto};
 ghost use Rattle.manifest.specs.Records.{manifestStatus};
-ghost use Rattle.lent.specs.Cursors.{stepAnswer, foundAt, movedOn};
+ghost use Rattle.lent.specs.Cursors.{movedOn};
 ghost use Rattle.wickslate.specs.Exports.{wantedOf, offsetGiven, lengthGiven};
+use answers::Status;
 use hasher::Hasher;
 use hasher::Wanted;
 use lent::Cursor;
-use lent::Step;
+use segments::Step;
 
 // Refusal 1.
 #[no_mangle]
@@ -180,21 +182,19 @@ pub extern "C" fn wickslate_check_entry(list: &[u8], buffer: &[u8], k: usize) ->
     answers::answer_of(segments::check(list, buffer, k))
 }
 
-fn offset_given(s: Step, old: u32) -> u32
-    ensures { λ r. ⌜ r ≡ offsetGiven s old ⌝ }
+// A step's entry, written through two lent numbers, and its answer; a refusal leaves both.
+fn give(s: Step, offset: &mut u32, length: &mut u32) -> u32
+    ensures { λ r. ⌜ (r ≡ stepAnswer s)
+        × (now (offset .exit) ≡ offsetGiven s (now (offset .entry)))
+        × (now (length .exit) ≡ lengthGiven s (now (length .entry))) ⌝ }
 {
     match s {
-        Step::Entry(offset, _) => offset,
-        Step::Refused(_) => old,
-    }
-}
-
-fn length_given(s: Step, old: u32) -> u32
-    ensures { λ r. ⌜ r ≡ lengthGiven s old ⌝ }
-{
-    match s {
-        Step::Entry(_, length) => length,
-        Step::Refused(_) => old,
+        Step::Entry(o, l) => {
+            *offset = o;
+            *length = l;
+            0
+        }
+        Step::Refused(refusal) => answers::answer_of(Status::Refused(refusal)),
     }
 }
 
@@ -205,20 +205,24 @@ pub extern "C" fn wickslate_entry(list: &[u8], k: usize, offset: &mut u32, lengt
         × (now (offset .exit) ≡ offsetGiven (foundAt (now (list .entry)) k .step) (now (offset .entry)))
         × (now (length .exit) ≡ lengthGiven (foundAt (now (list .entry)) k .step) (now (length .entry))) ⌝ }
 {
-    let f = lent::entry_at(list, k);
+    let f = segments::entry_at(list, k);
     let s = f.step;
-    *offset = offset_given(s, *offset);
-    *length = length_given(s, *length);
-    lent::answer_of_step(s)
+    give(s, offset, length)
 }
 
-// A step of a cursor: refusals 9, 7. It moves on to the next entry, and the one that it leaves is the one given; where it is refused it stays.
+// A step of a cursor: refusals 9, 7. It gives the next entry's offset and length and moves on; where it is refused all three stay.
 #[no_mangle]
-pub extern "C" fn wickslate_advance<'s, 'a>(c: &'s mut Cursor<'a>) -> u32
+pub extern "C" fn wickslate_advance<'s, 'a>(
+    c: &'s mut Cursor<'a>,
+    offset: &mut u32,
+    length: &mut u32,
+) -> u32
     ensures { λ r. ⌜ (r ≡ stepAnswer (foundAt (now (now (c .entry) .list)) (now (c .entry) .next) .step))
-        × (now (c .exit) ≡ movedOn (now (c .entry))) ⌝ }
+        × (now (c .exit) ≡ movedOn (now (c .entry)))
+        × (now (offset .exit) ≡ offsetGiven (foundAt (now (now (c .entry) .list)) (now (c .entry) .next) .step) (now (offset .entry)))
+        × (now (length .exit) ≡ lengthGiven (foundAt (now (now (c .entry) .list)) (now (c .entry) .next) .step) (now (length .entry))) ⌝ }
 {
-    lent::answer_of_step(lent::advance(c))
+    give(lent::advance(c), offset, length)
 }
 
 // The digest over a list and its segments or, if `wanted` is not 0, the end state: refusals 1, 9, 10, 11, 4, 5.
