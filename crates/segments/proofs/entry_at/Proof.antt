@@ -11,7 +11,7 @@ offset-at-requires : tie.Need-offset-at-requires
 offset-at-requires c κs = step-there _ _ (sym (c .before .before .check-step .ensures) ∙ c .enum-told .given .1) .inside
 
 length-at-requires : tie.Need-length-at-requires
-length-at-requires c κs = step-there _ _ (sym (c .before .before .before .check-step .ensures) ∙ c .before .enum-told .given .1) .inside
+length-at-requires c κs = omega (arith, step-there _ _ (sym (c .before .before .before .check-step .ensures) ∙ c .before .enum-told .given .1) .inside)
 
 add-t9 : tie.Need-add-t9
 add-t9 c =
