@@ -79,11 +79,9 @@ static uint32_t take_segments(wickslate_hasher *h, const uint8_t *list, size_t l
 {
     wickslate_cursor c = {list, list_length, 0};
     uint32_t answer = WICKSLATE_DONE;
-    while (answer == WICKSLATE_DONE && wickslate_advance(&c) == WICKSLATE_DONE) {
-        uint32_t offset = 0, bytes = 0;
+    uint32_t offset = 0, bytes = 0;
+    while (answer == WICKSLATE_DONE && wickslate_advance(&c, &offset, &bytes) == WICKSLATE_DONE) {
         answer = wickslate_check_entry(list, list_length, bars, length, c.next - 1);
-        if (answer == WICKSLATE_DONE)
-            answer = wickslate_entry(list, list_length, c.next - 1, &offset, &bytes);
         if (answer == WICKSLATE_DONE)
             answer = wickslate_update(h, bars + offset, bytes);
     }

@@ -515,21 +515,22 @@ WICKSLATE_CALL uint32_t wickslate_entry(const uint8_t *list, size_t list_length,
                                         uint32_t *offset, uint32_t *length);
 
 /*
- * Moves a cursor on by one entry. The entry that it leaves is c.next - 1
- * after the call; wickslate_entry reads it. The bytes of the list are lent as
- * long as the cursor is.
+ * Gives the offset and length of the cursor's next entry, as they stand, and
+ * moves the cursor on by one. The bytes of the list are lent as long as the
+ * cursor is. Behind the last entry the answer is 7, as often as it is asked.
  *
- * Refusals: 9; 7 if `next` is not below the number of entries.
- * Writes:   `next` of `*c`, if done; otherwise it stays.
+ * Refusals: 9 (BAD_LIST) if the list is not whole entries, or more than 512;
+ *           7 (OUT_OF_RANGE) if `next` is not below the number of entries.
+ * Writes:   `*offset`, `*length` and `next` of `*c`, if done; otherwise all
+ *           three stay.
  * Stack:    128 bytes.
  *
  *     wickslate_cursor c = {list, list_length, 0};
  *     uint32_t offset = 0, length = 0;
- *     while (wickslate_advance(&c) == WICKSLATE_DONE)
- *         if (wickslate_entry(c.list, c.list_length, c.next - 1, &offset, &length) == WICKSLATE_DONE)
- *             printf("%lu bytes from %lu\n", (unsigned long)length, (unsigned long)offset);
+ *     while (wickslate_advance(&c, &offset, &length) == WICKSLATE_DONE)
+ *         printf("%lu bytes from %lu\n", (unsigned long)length, (unsigned long)offset);
  */
-WICKSLATE_CALL uint32_t wickslate_advance(wickslate_cursor *c);
+WICKSLATE_CALL uint32_t wickslate_advance(wickslate_cursor *c, uint32_t *offset, uint32_t *length);
 
 /*
  * Tells whether entry `k` names a segment of the buffer. If so, the segment

@@ -244,13 +244,16 @@ fn answer<T>(result: Result<T, Refusal>) -> u32 {
     }
 }
 
-/// The offset and length of entry `k`.
-pub fn entry(list: &[u8], k: usize) -> (u32, u32, u32) {
+/// Makes a call that lends two numbers for the offset and length of entry
+/// `k`, and expects the entry of it, or a refusal that leaves both.
+fn expect_entry(
+    list: &[u8],
+    k: usize,
+    call: impl FnOnce(&mut u32, &mut u32) -> Answer,
+) -> (u32, u32, u32) {
     let mut offset = Value::new(OLD);
     let mut length = Value::new(OLD + 1);
-    let Answer(given) = only_read(&[list], || {
-        wickslate::entry(list, k, offset.lend(), length.lend())
-    });
+    let Answer(given) = only_read(&[list], || call(offset.lend(), length.lend()));
     let given = (given, offset.take_back(), length.take_back());
     let expected = match segments::entry(list, k) {
         Ok((offset, length)) => (0, offset as u32, length as u32),
@@ -260,16 +263,22 @@ pub fn entry(list: &[u8], k: usize) -> (u32, u32, u32) {
     given
 }
 
-/// A step of the cursor at entry `next`.
-pub fn advance(list: &[u8], next: usize) -> u32 {
+/// The offset and length of entry `k`.
+pub fn entry(list: &[u8], k: usize) -> (u32, u32, u32) {
+    expect_entry(list, k, |offset, length| {
+        wickslate::entry(list, k, offset, length)
+    })
+}
+
+/// A step of the cursor at entry `next`: it gives the entry and moves on, or
+/// stays.
+pub fn advance(list: &[u8], next: usize) -> (u32, u32, u32) {
     let mut cursor = Value::new(Cursor::at(list, next));
-    let Answer(given) = only_read(&[list], || wickslate::advance(cursor.lend()));
-    let expected = answer(segments::entry(list, next));
-    let after = if given == 0 { next + 1 } else { next };
-    assert_eq!(
-        (given, cursor.take_back()),
-        (expected, Cursor::at(list, after))
-    );
+    let given = expect_entry(list, next, |offset, length| {
+        wickslate::advance(cursor.lend(), offset, length)
+    });
+    let after = if given.0 == 0 { next + 1 } else { next };
+    assert_eq!(cursor.take_back(), Cursor::at(list, after));
     given
 }
 

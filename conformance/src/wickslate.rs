@@ -175,7 +175,7 @@ mod archive {
             offset: *mut u32,
             length: *mut u32,
         ) -> Answer;
-        pub fn wickslate_advance(c: *mut Cursor) -> Answer;
+        pub fn wickslate_advance(c: *mut Cursor, offset: *mut u32, length: *mut u32) -> Answer;
         pub fn wickslate_check_entry(
             list: *const u8,
             list_bytes: usize,
@@ -346,10 +346,11 @@ pub fn entry(list: &[u8], k: usize, offset: &mut u32, length: &mut u32) -> Answe
     unsafe { archive::wickslate_entry(list.as_ptr(), list.len(), k, offset, length) }
 }
 
-/// A step of the cursor: refusals 9, 7.
-pub fn advance(c: &mut Cursor) -> Answer {
+/// A step of the cursor, which gives the offset and length of the entry:
+/// refusals 9, 7.
+pub fn advance(c: &mut Cursor, offset: &mut u32, length: &mut u32) -> Answer {
     // SAFETY: see above; the cursor's list is a slice too.
-    unsafe { archive::wickslate_advance(c) }
+    unsafe { archive::wickslate_advance(c, offset, length) }
 }
 
 /// Whether entry `k` names a segment of the buffer: refusals 9, 7, 10, 11.

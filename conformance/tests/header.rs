@@ -33,7 +33,7 @@ uint32_t wickslate_recover(uint32_t, const uint8_t *, size_t, size_t, const uint
 uint32_t wickslate_recover_bits(uint32_t, const uint8_t *, size_t, uint32_t, size_t,
                                 const uint8_t *, size_t, uint8_t *, size_t);
 uint32_t wickslate_entry(const uint8_t *, size_t, size_t, uint32_t *, uint32_t *);
-uint32_t wickslate_advance(wickslate_cursor *);
+uint32_t wickslate_advance(wickslate_cursor *, uint32_t *, uint32_t *);
 uint32_t wickslate_check_entry(const uint8_t *, size_t, const uint8_t *, size_t, size_t);
 uint32_t wickslate_digest_list(uint32_t, const uint8_t *, size_t, const uint8_t *, size_t,
                                uint32_t, uint8_t *, size_t);
@@ -256,7 +256,7 @@ const CALLS: [(&str, &str); 17] = [
     ("recover", "1 in 9 0 in 9 out 9"),
     ("recover_bits", "1 in 9 3 0 in 9 out 9"),
     ("entry", "in 8 0 &number &number"),
-    ("advance", "&c"),
+    ("advance", "&c &number &number"),
     ("check_entry", "in 8 in 9 0"),
     ("digest_list", "1 in 8 in 9 0 out 9"),
     ("check_manifest", "in 9"),

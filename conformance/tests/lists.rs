@@ -22,8 +22,7 @@ fn digest_list(variant: u32, list: &[u8], buffer: &[u8], wanted: u32, out: &[u8]
 fn expect_same(random: &mut Random, list: &[u8], buffer: &[u8]) -> u32 {
     for k in 0..=list.len() / 8 {
         check_entry(list, buffer, k);
-        entry(list, k);
-        advance(list, k);
+        assert_eq!(advance(list, k), entry(list, k));
     }
     let variant = variant(random);
     let wanted = random.pick(&[0, 1]);
@@ -42,20 +41,25 @@ fn sound_lists() {
     }
 }
 
-/// One cursor goes over the whole list, entry by entry, and then stays.
+/// One cursor goes over the whole list, gives entry by entry, and then stays.
 #[test]
 fn a_cursor_goes_over_the_list() {
     let mut random = Random::of_test("a_cursor_goes_over_the_list");
     for count in [0, 1, 2, 511, 512] {
         let list = random.bytes(8 * count);
         let mut cursor = Cursor::at(&list, 0);
+        let (mut offset, mut length) = (0, 0);
         for k in 0..count {
-            assert!(wickslate::advance(&mut cursor).is_done());
+            assert!(wickslate::advance(&mut cursor, &mut offset, &mut length).is_done());
             assert_eq!(cursor, Cursor::at(&list, k + 1));
+            assert_eq!((0, offset, length), entry(&list, k));
         }
+        let last = (offset, length);
         for _ in 0..3 {
-            assert_eq!(wickslate::advance(&mut cursor), Answer(7));
+            let answer = wickslate::advance(&mut cursor, &mut offset, &mut length);
+            assert_eq!(answer, Answer(7));
             assert_eq!(cursor, Cursor::at(&list, count));
+            assert_eq!((offset, length), last);
         }
     }
 }
@@ -200,8 +204,8 @@ fn lists_that_are_none() {
         let broken = &long[..bytes];
         assert_eq!(entry(broken, 0).0, 9);
         assert_eq!(entry(broken, usize::MAX).0, 9, "and past the end");
-        assert_eq!(advance(broken, 0), 9);
-        assert_eq!(advance(broken, usize::MAX), 9, "and past the end");
+        assert_eq!(advance(broken, 0).0, 9);
+        assert_eq!(advance(broken, usize::MAX).0, 9, "and past the end");
         assert_eq!(check_entry(broken, &buffer, 0), 9);
         assert_eq!(check_entry(broken, &buffer, 513), 9, "and past the end");
         assert_eq!(digest_list(4, broken, &buffer, 0, &OUT), 9);
@@ -211,7 +215,7 @@ fn lists_that_are_none() {
         for k in [0, 510, 511] {
             let inside = k < count;
             assert_eq!(entry(most, k).0, if inside { 0 } else { 7 });
-            assert_eq!(advance(most, k), if inside { 0 } else { 7 });
+            assert_eq!(advance(most, k).0, if inside { 0 } else { 7 });
             assert_eq!(check_entry(most, &buffer, k), if inside { 0 } else { 7 });
         }
         assert_eq!(digest_list(4, most, &buffer, 0, &OUT), 0);
@@ -226,7 +230,7 @@ fn entries_past_the_end() {
     for (bytes, count) in [(0, 0), (8, 1), (16, 2), (24, 3)] {
         for k in [count, count + 1, 1 << 29, 1 << 32, 1 << 61, usize::MAX] {
             assert_eq!(entry(&wrong[..bytes], k).0, 7);
-            assert_eq!(advance(&wrong[..bytes], k), 7);
+            assert_eq!(advance(&wrong[..bytes], k).0, 7);
             assert_eq!(check_entry(&wrong[..bytes], SIX, k), 7);
         }
     }

@@ -143,7 +143,7 @@ fn entry() {
 fn advance() {
     let sound = Call::sound(&VARIANTS[0]);
     expect_order(&sound, &faults::of_entry(), |call| {
-        compare::advance(&call.list(), call.entry)
+        compare::advance(&call.list(), call.entry).0
     });
 }
 

@@ -181,7 +181,10 @@ impl Most {
     fn advance(&mut self, call: &Call) -> u32 {
         let list = call.list();
         let mut cursor = Cursor::at(&list, call.entry);
-        self.call("advance", wickslate_advance, &[&raw mut cursor as usize])
+        let (mut offset, mut length) = (0_u32, 0_u32);
+        let pair = [&raw mut offset as usize, &raw mut length as usize];
+        let words = [&raw mut cursor as usize, pair[0], pair[1]];
+        self.call("advance", wickslate_advance, &words)
     }
 
     fn check_entry(&mut self, call: &Call) -> u32 {

@@ -11,16 +11,16 @@ use Rattle.answers.specs.declared.Status.{Status}
 use Rattle.answers.specs.declared.Status.the-variants.{Done, Refused}
 use Rattle.answers.specs.Checks.{Check, firstRefusal, each, Pass}
 use Rattle.answers.specs.Outputs.{whenDone}
+use Rattle.answers.specs.Promises.{RefusedHere, PassedAll, PassingSays}
 use Rattle.answers.proofs.Statuses.{not-done, done-or, kept, both-done}
 
 -- ---- a row
 
-pub passed-all : (row : List Check) → Pass row → firstRefusal row ≡ Done
+pub passed-all : PassedAll
 passed-all [] p = refl
 passed-all (c ∷ cs) p = rw (p .0) (passed-all cs (p .1))
 
-pub refused-here : (before : List Check) (c : Check) (behind : List Check) → Pass before → c .passes ≡ false
-    → firstRefusal (before ++ c ∷ behind) ≡ Refused (c .refusal)
+pub refused-here : RefusedHere
 refused-here [] c behind p e = rw e
 refused-here (b ∷ bs) c behind p e = rw (p .0) (refused-here bs c behind (p .1) e)
 
@@ -28,7 +28,7 @@ passed : (t : Bool) (r : Refusal) (s : Status) → cond t s (Refused r) ≡ Done
 passed true r s e = (refl, e)
 passed false r s e = absurd (not-done r e)
 
-pub passing-says : (row : List Check) → firstRefusal row ≡ Done → Pass row
+pub passing-says : PassingSays
 passing-says [] e = tt
 passing-says (c ∷ cs) e =
     let p = passed (c .passes) (c .refusal) (firstRefusal cs) e in

@@ -3,7 +3,7 @@
 use mathlib.Core.Path.{_≡_, refl, sym, ap, _∙_, subst}
 use mathlib.Core.List.{[], _∷_}
 use mathlib.Core.Logic.{_⊎_, inl, inr, ⊎-elim}
-use Prim.Native.Nat.{ℕ, _/_, _%_, _<_}
+use Prim.Native.Nat.{ℕ, _<_}
 use native.Mathlib.Omega.{arith}
 use lib.ListN.{getD}
 use types.Run.{OneOf, miss}
@@ -14,6 +14,7 @@ use Rattle.answers.specs.declared.Status.{Status}
 use Rattle.answers.specs.declared.Status.the-variants.{Done, Refused}
 use Rattle.answers.specs.Refusals.{number, entry, answer}
 use Rattle.answers.specs.Outputs.{whenDone}
+use Rattle.answers.specs.Promises.{AnswerTells, AnswerNumber, AnswerEntry}
 use Rattle.answers.proofs.Status as type
 
 -- ---- Done or refused
@@ -71,15 +72,13 @@ told BadBitNumber = (refl, omega arith)
 told InsideByte = (refl, omega arith)
 told NotSponge = (refl, omega arith)
 
--- the low byte is the refusal's number, and what is above it the entry
-pub answer-number : (r : Refusal) → answer (Refused r) % 256 ≡ number r
+pub answer-number : AnswerNumber
 answer-number r = omega (arith, told r .1)
 
-pub answer-entry : (r : Refusal) → answer (Refused r) / 256 ≡ entry r
+pub answer-entry : AnswerEntry
 answer-entry r = omega (arith, told r .1)
 
--- Two different answers never have the same number.
-pub answer-tells : (s t : Status) → answer s ≡ answer t → s ≡ t
+pub answer-tells : AnswerTells
 answer-tells Done Done e = refl
 answer-tells Done (Refused r) e = absurd (omega (arith, told r .1))
 answer-tells (Refused r) Done e = absurd (omega (arith, told r .1))

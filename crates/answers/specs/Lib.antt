@@ -5,3 +5,4 @@ pub mod Outputs
 pub mod Numbers
 pub mod Text
 pub mod Lines
+pub mod Promises

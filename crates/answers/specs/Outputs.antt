@@ -3,7 +3,7 @@
 -- Assumes nothing.
 use mathlib.Core.Bool.{Bool, true, false}
 use mathlib.Core.List.{List, _++_}
-use Prim.Native.Nat.{ℕ, _+_}
+use Prim.Native.Nat.{ℕ, _+_, _*_}
 use lib.ListN.{length, take, drop}
 use Rattle.answers.specs.declared.Status.{Status}
 use Rattle.answers.specs.declared.Status.the-variants.{Done, Refused}
@@ -31,4 +31,4 @@ most = 16777215
 
 -- the most bits (document 02, Q-6): those of as many bytes
 abbrev pub mostBits : ℕ
-mostBits = 134217720
+mostBits = 8 * most

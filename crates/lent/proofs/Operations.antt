@@ -5,11 +5,12 @@ use mathlib.Core.List.{List}
 use Prim.Native.Nat.{ℕ}
 use lib.ListN.{length}
 use mir.Syntax.{w32}
+use Rattle.standard.specs.Messages as given
 use Rattle.answers.specs.declared.Status.{Status}
 use Rattle.hasher.specs.declared.Hasher.{Hasher}
 use Rattle.hasher.specs.declared.Advanced.{Advanced}
 use Rattle.hasher.specs.declared.Wanted.{Wanted}
-use Rattle.hasher.specs.Running.{startedOver, updated, updatedBits, finished}
+use Rattle.hasher.specs.Running.{startedOver, updated, finished}
 use Rattle.hasher.specs.Reading.{readStatus, readInto}
 use Rattle.lent.proofs.Beside.{Beside, number, bytes, _and_, none}
 
@@ -23,13 +24,13 @@ abbrev pub piece : Beside 2
 piece = bytes 1 tt and none
 
 abbrev pub updating : Hasher × piece .Value → Advanced
-updating h = updated (h .0) (h .1 .0)
+updating h = updated (h .0) (given.bytes (h .1 .0))
 
 abbrev pub pieceBits : Beside 2
 pieceBits = bytes 1 tt and number w32 and none
 
 abbrev pub updatingBits : Hasher × pieceBits .Value → Advanced
-updatingBits h = updatedBits (h .0) (h .1 .0) (h .1 .1 .0)
+updatingBits h = updated (h .0) (given.bits (h .1 .0) (h .1 .1 .0))
 
 abbrev pub finishing : Hasher × none {n = 1} .Value → Advanced
 finishing h = finished (h .0)

@@ -1,2 +1,3 @@
--- The definitions that the contracts of this crate cite.
+-- The definitions that the contracts of this crate cite, and its promises.
 pub mod Cursors
+pub mod Promises

@@ -1,13 +1,16 @@
 // The running hash that a caller lends and finds advanced, and the cursor that carries a lent segment list.
 ghost use mathlib.Core.Path.{_≡_};
 ghost use lib.ListN.{length};
-ghost use Rattle.hasher.specs.Running.{startedOver, updated, updatedBits, finished};
+ghost use Rattle.standard.specs.Messages.{bytes};
+ghost use Rattle.standard.specs.Messages as given-as;
+ghost use Rattle.hasher.specs.Running.{startedOver, updated, finished};
 ghost use Rattle.hasher.specs.Reading.{readStatus, readInto};
 ghost use Rattle.hasher.specs.declared.Wanted.the-variants.{Digest, EndState};
-ghost use Rattle.lent.specs.Cursors.{stepAnswer, foundAt, movedOn};
-use answers::Refusal;
+ghost use Rattle.segments.specs.Steps.{foundAt};
+ghost use Rattle.lent.specs.Cursors.{movedOn};
 use answers::Status;
 use hasher::Hasher;
+use segments::Step;
 
 // Refusal 1.
 pub fn start(h: &mut Hasher, variant: u32) -> Status
@@ -20,18 +23,18 @@ pub fn start(h: &mut Hasher, variant: u32) -> Status
 
 // Refusals 2, 3, 16, 4.
 pub fn update(h: &mut Hasher, piece: &[u8]) -> Status
-    ensures { λ r. ⌜ (r ≡ updated (now (h .entry)) (now (piece .entry)) .status)
-        × (now (h .exit) ≡ updated (now (h .entry)) (now (piece .entry)) .hasher) ⌝ }
+    ensures { λ r. ⌜ (r ≡ updated (now (h .entry)) (bytes (now (piece .entry))) .status)
+        × (now (h .exit) ≡ updated (now (h .entry)) (bytes (now (piece .entry))) .hasher) ⌝ }
 {
     let a = hasher::update(*h, piece);
     *h = a.hasher;
     a.status
 }
 
-// A piece of whose last byte so many bits count: refusals 2, 3, 15, 16, 4.
+// A piece whose last byte contributes `bits` bits: refusals 2, 3, 15, 16, 4.
 pub fn update_bits(h: &mut Hasher, piece: &[u8], bits: u32) -> Status
-    ensures { λ r. ⌜ (r ≡ updatedBits (now (h .entry)) (now (piece .entry)) bits .status)
-        × (now (h .exit) ≡ updatedBits (now (h .entry)) (now (piece .entry)) bits .hasher) ⌝ }
+    ensures { λ r. ⌜ (r ≡ updated (now (h .entry)) (given-as.bits (now (piece .entry)) bits) .status)
+        × (now (h .exit) ≡ updated (now (h .entry)) (given-as.bits (now (piece .entry)) bits) .hasher) ⌝ }
 {
     let a = hasher::update_bits(*h, piece, bits);
     *h = a.hasher;
@@ -63,50 +66,6 @@ pub fn end_state(h: &Hasher, out: &mut [u8]) -> Status
     hasher::end_state(*h, out)
 }
 
-// What a step gives: an entry's offset and length, or refusal 9 or 7.
-pub enum Step {
-    Entry(u32, u32),
-    Refused(Refusal),
-}
-
-// A step as one number: 0 where it gives an entry.
-pub fn answer_of_step(s: Step) -> u32
-    ensures { λ r. ⌜ r ≡ stepAnswer s ⌝ }
-{
-    match s {
-        Step::Entry(_, _) => 0,
-        Step::Refused(refusal) => answers::answer_of(Status::Refused(refusal)),
-    }
-}
-
-// The answer of a step, and the number of the entry that is next after it.
-pub struct Found {
-    pub step: Step,
-    pub next: usize,
-}
-
-// Entry k of a list: refusals 9, 7.
-pub fn entry_at(list: &[u8], k: usize) -> Found
-    ensures { λ r. ⌜ r ≡ foundAt (now (list .entry)) k ⌝ }
-{
-    if !segments::is_list(list) {
-        return Found {
-            step: Step::Refused(Refusal::BadList),
-            next: k,
-        };
-    }
-    if list.len() / 8 <= k {
-        return Found {
-            step: Step::Refused(Refusal::OutOfRange),
-            next: k,
-        };
-    }
-    Found {
-        step: Step::Entry(segments::offset_at(list, k), segments::length_at(list, k)),
-        next: k + 1,
-    }
-}
-
 // A lent segment list and the number of its next entry.
 #[repr(C)]
 pub struct Cursor<'a> {
@@ -119,7 +78,7 @@ pub fn advance<'s, 'a>(c: &'s mut Cursor<'a>) -> Step
     ensures { λ r. ⌜ (r ≡ foundAt (now (now (c .entry) .list)) (now (c .entry) .next) .step)
         × (now (c .exit) ≡ movedOn (now (c .entry))) ⌝ }
 {
-    let f = entry_at(c.list, c.next);
+    let f = segments::entry_at(c.list, c.next);
     c.next = f.next;
     f.step
 }

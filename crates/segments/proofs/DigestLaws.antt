@@ -36,8 +36,10 @@ use Rattle.sponge.proofs.PartBytes.{given-limit}
 use Rattle.hasher.proofs.Owned.{Owned}
 use Rattle.hasher.proofs.WellFormed.{facts, state-kept, held-kept}
 use Rattle.hasher.proofs.Next.{onward-none, onward, onward-total, onward-whole, onward-open, onward-append}
-use Rattle.segments.specs.Entries.{isList, entriesChecks, entriesStatus, segmentsOf, headerOf, messageOf, totalOf, count, segmentIn, segmentOf}
+use Rattle.segments.specs.Entries.{isList, entriesChecks, entriesStatus, segmentsOf, headerOf, messageOf, count, segmentIn, segmentOf}
 use Rattle.segments.specs.Digests.{listStatus, listInto}
+use Rattle.segments.specs.Cuts.{totalOf}
+use Rattle.segments.specs.Promises.{SameMessage}
 use Rattle.segments.proofs.ListLaws.{segments-length, message-length, segmentsUpTo, segments-suc, segments-up-to-within, segment-there}
 
 module _ (h : Hasher) (w : Owned h) (o : Open h) (list buffer : List ℕ) (whole : isList list ≡ true) (all-fit : entriesStatus list (length buffer) ≡ Done)
@@ -112,21 +114,14 @@ module _ (v : ℕ) (list buffer : List ℕ) (wanted : Wanted) (l : isList list �
   list-whole-into out =
       ap (λ (s : Status). written s (resultOf (variant v) wanted (endState (variant v) (byteBits (messageOf list buffer)))) out) (list-whole-status (length out))
 
--- The digest over a list sees the message alone: two lists over two buffers, whose entries pass and whose messages are equal, give the same
--- answer and leave the same output.
-pub same-message : (v : ℕ) (list₁ buffer₁ list₂ buffer₂ : List ℕ) (wanted : Wanted) (out : List ℕ)
-    → isList list₁ ≡ true → entriesStatus list₁ (length buffer₁) ≡ Done
-    → isList list₂ ≡ true → entriesStatus list₂ (length buffer₂) ≡ Done
-    → messageOf list₁ buffer₁ ≡ messageOf list₂ buffer₂
-    → (listStatus v list₁ buffer₁ wanted (length out) ≡ listStatus v list₂ buffer₂ wanted (length out))
-    × (listInto v list₁ buffer₁ wanted out ≡ listInto v list₂ buffer₂ wanted out)
-same-message v list₁ buffer₁ list₂ buffer₂ wanted out l₁ e₁ l₂ e₂ same = (
-  list-whole-status v list₁ buffer₁ wanted l₁ e₁ (length out)
+pub same-message : SameMessage
+same-message v list buffer list′ buffer′ wanted out a a′ same = (
+  list-whole-status v list buffer wanted (a .0) (a .1) (length out)
       ∙ ap (λ (x : List ℕ). wholeStatus v (bytes x) wanted (length out)) same
-      ∙ sym (list-whole-status v list₂ buffer₂ wanted l₂ e₂ (length out)),
-  list-whole-into v list₁ buffer₁ wanted l₁ e₁ out
+      ∙ sym (list-whole-status v list′ buffer′ wanted (a′ .0) (a′ .1) (length out)),
+  list-whole-into v list buffer wanted (a .0) (a .1) out
       ∙ ap (λ (x : List ℕ). wholeInto v (bytes x) wanted out) same
-      ∙ sym (list-whole-into v list₂ buffer₂ wanted l₂ e₂ out),
+      ∙ sym (list-whole-into v list′ buffer′ wanted (a′ .0) (a′ .1) out),
 )
 
 -- ---- the calls of the code

@@ -13,7 +13,9 @@ use Rattle.answers.specs.declared.Status.the-variants.{Done}
 use Rattle.answers.specs.Checks.{firstRefusal}
 use Rattle.answers.proofs.Rows.{passed-all, passing-says}
 use Rattle.standard.proofs.Tests.{and-true}
-use Rattle.segments.specs.Entries.{offsetOf, lengthOf, endOf, formerEnd, isList, count, segmentIn, entryChecks, segmentChecks, segmentStatus, segmentOf, segmentAt, further}
+use Rattle.segments.specs.Entries.{offsetOf, lengthOf, endOf, formerEnd, isList, count, segmentIn, stepChecks, entryChecks, segmentChecks, segmentStatus, segmentOf, segmentAt, further}
+use Rattle.segments.specs.Steps.{stepStatus, foundAt}
+use Rattle.segments.specs.Promises.{EntryGiven}
 
 -- behind entry 0, the former end is that of the entry before
 pub former-behind : (list : List ℕ) (k : ℕ) → (k ≡ 0 → ⊥) → formerEnd list k ≡ endOf list (k - 1)
@@ -28,6 +30,24 @@ list-short list e = leb-true (length list) 4096 (and-true (eqb (length list % 8)
 pub list-whole : (list : List ℕ) → isList list ≡ true → length list % 8 ≡ 0
 unfolding isList
 list-whole list e = eqb-true (length list % 8) 0 (and-true (eqb (length list % 8) 0) (leb (length list) 4096) e .0)
+
+-- ---- a step
+
+-- what a step that passed says of the list and the entry
+pub record There (list : List ℕ) (k : ℕ) : Type 0 where
+  pub whole : isList list ≡ true
+  pub inside : k < count list
+
+pub step-there : (list : List ℕ) (k : ℕ) → stepStatus list k ≡ Done → There list k
+step-there list k e =
+    let p = passing-says (stepChecks list k) e in
+    record { whole = p .0; inside = ltb-true _ _ (p .1 .0) }
+
+pub entry-given : EntryGiven
+unfolding foundAt
+entry-given list k whole there = simp (whole, lt-ltb _ _ there)
+
+-- ---- the check of an entry
 
 module _ (list : List ℕ) (n k : ℕ) where
   -- an entry that is not refused begins where the former ends or later, and ends within the buffer

@@ -3,7 +3,7 @@
 use mathlib.Core.Path.{_≡_, refl, sym, ap, ap₂, _∙_, subst}
 use mathlib.Core.Bool.{true}
 use mathlib.Core.List.{List, [], _∷_, _++_, append-assoc, flatMap}
-use mathlib.Core.Logic.{_↔_, ⊎-elim}
+use mathlib.Core.Logic.{⊎-elim}
 use Prim.Native.Nat.{ℕ, zero, suc, _+_, _-_, _*_, _≤_, _<_}
 use native.Mathlib.Omega.{arith}
 use lib.ListN.{length, take, drop}
@@ -13,7 +13,9 @@ use Rattle.answers.specs.declared.Status.the-variants.{Done}
 use Rattle.answers.specs.Numbers.{bigEndian, inBytes}
 use Rattle.answers.proofs.NumberLaws.{length-inBytes, bigEndian-inBytes}
 use Rattle.standard.proofs.Tests.{lt-or-le}
-use Rattle.segments.specs.Entries.{offsetOf, lengthOf, endOf, isList, count, segmentIn, segmentChecks, segmentOf, entriesStatus, segmentsOf, headerOf, messageOf, Passes, SameSegments, BorderMoved}
+use Rattle.segments.specs.Entries.{offsetOf, lengthOf, endOf, isList, count, segmentIn, segmentChecks, segmentOf, entriesStatus, segmentsOf, headerOf, messageOf}
+use Rattle.segments.specs.Cuts.{Passes, SameSegments, BorderMoved}
+use Rattle.segments.specs.Promises.{EqualMessages, BorderShows, BorderJoined}
 use Rattle.segments.proofs.EntryLaws.{list-short, list-whole}
 use Rattle.segments.proofs.ListLaws.{segmentsUpTo, segments-suc, passed-up-to-length, same-up-to, segment-there}
 
@@ -99,50 +101,50 @@ module _ (list buffer list′ buffer′ : List ℕ) (a : Passes list buffer) (a�
       (λ j m h. sym (segment-there list buffer (a .0) (a .1) j h) ∙ s .segments j ∙ segment-there list′ buffer′ (a′ .0) (a′ .1) j (omega (arith, n)))
       ∙ ap (segmentsUpTo list′ buffer′) n)
 
-  -- The messages of two accepted lists, each over its own buffer, are equal exactly where the lists are equal and entry by entry name equal bytes.
-  pub equal-messages : (messageOf list buffer ≡ messageOf list′ buffer′) ↔ SameSegments list buffer list′ buffer′
-  equal-messages = (same-segments, message-same)
+pub equal-messages : EqualMessages
+equal-messages list buffer list′ buffer′ a a′ = (same-segments list buffer list′ buffer′ a a′, message-same list buffer list′ buffer′ a a′)
 
 -- ---- a border that is moved
 
-module _ (k : ℕ) (list list′ : List ℕ) (b : BorderMoved k list list′) where
-  -- Two accepted lists that differ in a border always have different messages, whatever their buffers hold.
-  pub border-shows : (buffer buffer′ : List ℕ) → Passes list buffer → Passes list′ buffer′ → messageOf list buffer ≡ messageOf list′ buffer′ → ⊥
-  border-shows buffer buffer′ a a′ m = b .moved (ap (λ (z : List ℕ). endOf z k) (equal-messages list buffer list′ buffer′ a a′ .0 m .lists))
+pub border-shows : BorderShows
+border-shows k list list′ b buffer buffer′ a a′ m = b .moved (ap (λ (z : List ℕ). endOf z k) (equal-messages list buffer list′ buffer′ a a′ .0 m .lists))
 
-  module _ (buffer : List ℕ) where
-    other : (j : ℕ) → j < count list → (j ≡ k → ⊥) → (j ≡ suc k → ⊥) → segmentIn list buffer j ≡ segmentIn list′ buffer j
-    unfolding segmentIn
-    other j h n m =
-        let s = b .elsewhere j h n m in
-        ap₂ (λ (a c : ℕ). take a (drop c buffer)) (s .1) (s .0)
+module _ (k : ℕ) (list list′ : List ℕ) (b : BorderMoved k list list′) (buffer : List ℕ) where
+  other : (j : ℕ) → j < count list → (j ≡ k → ⊥) → (j ≡ suc k → ⊥) → segmentIn list buffer j ≡ segmentIn list′ buffer j
+  unfolding segmentIn
+  other j h n m =
+      let s = b .elsewhere j h n m in
+      ap₂ (λ (a c : ℕ). take a (drop c buffer)) (s .1) (s .0)
 
-    -- the two segments at the border are one part of the buffer
-    both : (z : List ℕ) → endOf z k ≡ offsetOf z (suc k)
-        → segmentsUpTo z buffer (suc (suc k)) ≡ segmentsUpTo z buffer k ++ take (endOf z (suc k) - offsetOf z k) (drop (offsetOf z k) buffer)
-    unfolding segmentIn
-    both z t =
-        let o : ℕ = offsetOf z k in
-        let sum : endOf z (suc k) - o ≡ lengthOf z k + lengthOf z (suc k) = omega (arith, t) in
-        let at : drop (offsetOf z (suc k)) buffer ≡ drop (lengthOf z k) (drop o buffer) = sym (drop-drop (lengthOf z k) o buffer ∙ ap (λ (i : ℕ). drop i buffer) t) in
-        segments-suc z buffer (suc k)
-        ∙ ap (λ (p : List ℕ). p ++ segmentIn z buffer (suc k)) (segments-suc z buffer k)
-        ∙ append-assoc (segmentsUpTo z buffer k) (segmentIn z buffer k) (segmentIn z buffer (suc k))
-        ∙ ap (λ (p : List ℕ). segmentsUpTo z buffer k ++ p)
-        (ap (λ (p : List ℕ). segmentIn z buffer k ++ take (lengthOf z (suc k)) p) at
-        ∙ sym (take-add (lengthOf z k) (lengthOf z (suc k)) (drop o buffer))
-        ∙ ap (λ (i : ℕ). take i (drop o buffer)) (sym sum))
+  -- the two segments at the border are one part of the buffer
+  both : (z : List ℕ) → endOf z k ≡ offsetOf z (suc k)
+      → segmentsUpTo z buffer (suc (suc k)) ≡ segmentsUpTo z buffer k ++ take (endOf z (suc k) - offsetOf z k) (drop (offsetOf z k) buffer)
+  unfolding segmentIn
+  both z t =
+      let o : ℕ = offsetOf z k in
+      let sum : endOf z (suc k) - o ≡ lengthOf z k + lengthOf z (suc k) = omega (arith, t) in
+      let at : drop (offsetOf z (suc k)) buffer ≡ drop (lengthOf z k) (drop o buffer) = sym (drop-drop (lengthOf z k) o buffer ∙ ap (λ (i : ℕ). drop i buffer) t) in
+      segments-suc z buffer (suc k)
+      ∙ ap (λ (p : List ℕ). p ++ segmentIn z buffer (suc k)) (segments-suc z buffer k)
+      ∙ append-assoc (segmentsUpTo z buffer k) (segmentIn z buffer k) (segmentIn z buffer (suc k))
+      ∙ ap (λ (p : List ℕ). segmentsUpTo z buffer k ++ p)
+      (ap (λ (p : List ℕ). segmentIn z buffer k ++ take (lengthOf z (suc k)) p) at
+      ∙ sym (take-add (lengthOf z k) (lengthOf z (suc k)) (drop o buffer))
+      ∙ ap (λ (i : ℕ). take i (drop o buffer)) (sym sum))
 
-    -- Over one buffer nothing else is different: the joined segments are the same.
-    pub border-joined : segmentsOf list buffer ≡ segmentsOf list′ buffer
-    unfolding segmentsOf flatMap
-    border-joined =
-        let before : segmentsUpTo list buffer k ≡ segmentsUpTo list′ buffer k =
-        same-up-to list buffer list′ buffer 0 k (omega arith) refl (λ j m h. other j (omega (arith, b .there)) (omega arith) (omega arith)) in
-        let middle : segmentsUpTo list buffer (suc (suc k)) ≡ segmentsUpTo list′ buffer (suc (suc k)) =
-        both list (b .touch)
-        ∙ ap₂ (λ (p q : List ℕ). p ++ q) before
-        (ap₂ (λ (i j : ℕ). take (i - j) (drop j buffer)) (b .ends) (b .begins))
-        ∙ sym (both list′ (b .touch′)) in
-        same-up-to list buffer list′ buffer (suc (suc k)) (count list) (b .there) middle (λ j m h. other j h (omega (arith, m)) (omega (arith, m)))
-        ∙ ap (segmentsUpTo list′ buffer) (b .counts)
+  -- over one buffer nothing else is different
+  joined-same : segmentsOf list buffer ≡ segmentsOf list′ buffer
+  unfolding segmentsOf flatMap
+  joined-same =
+      let before : segmentsUpTo list buffer k ≡ segmentsUpTo list′ buffer k =
+      same-up-to list buffer list′ buffer 0 k (omega arith) refl (λ j m h. other j (omega (arith, b .there)) (omega arith) (omega arith)) in
+      let middle : segmentsUpTo list buffer (suc (suc k)) ≡ segmentsUpTo list′ buffer (suc (suc k)) =
+      both list (b .touch)
+      ∙ ap₂ (λ (p q : List ℕ). p ++ q) before
+      (ap₂ (λ (i j : ℕ). take (i - j) (drop j buffer)) (b .ends) (b .begins))
+      ∙ sym (both list′ (b .touch′)) in
+      same-up-to list buffer list′ buffer (suc (suc k)) (count list) (b .there) middle (λ j m h. other j h (omega (arith, m)) (omega (arith, m)))
+      ∙ ap (segmentsUpTo list′ buffer) (b .counts)
+
+pub border-joined : BorderJoined
+border-joined = joined-same

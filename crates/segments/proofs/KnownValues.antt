@@ -8,8 +8,10 @@ use Rattle.standard.specs.KnownValues as standard
 use Rattle.standard.specs.KnownValues.{AllHold}
 use Rattle.standard.proofs.KnownValues as proved
 use Rattle.standard.proofs.KnownValues.{holds-append}
-use Rattle.segments.specs.Entries.{formerEnd, isList, segmentIn, entryChecks, segmentChecks, segmentOf, segmentsOf, headerOf, messageOf, BorderMoved}
-use Rattle.segments.specs.KnownValues.{entryOf, sixBytes, listValues, knownValues}
+use Rattle.segments.specs.Entries.{formerEnd, isList, segmentIn, entryChecks, segmentChecks, segmentOf, segmentsOf, headerOf, messageOf}
+use Rattle.segments.specs.Cuts.{Passes, BorderMoved}
+use Rattle.segments.specs.Promises.{BorderExample}
+use Rattle.segments.specs.KnownValues.{smallEntry, sixBytes, listValues, knownValues}
 use Rattle.segments.proofs.EqualMessages.{border-shows}
 
 -- the rows for lists compute
@@ -22,7 +24,7 @@ known-values = holds-append standard.knownValues listValues proved.known-values 
 
 -- ---- a border that is moved, and shows
 
-border-moved : BorderMoved 0 (entryOf 0 2 ++ entryOf 2 2) (entryOf 0 3 ++ entryOf 3 1)
+border-moved : BorderMoved 0 (smallEntry 0 2 ++ smallEntry 2 2) (smallEntry 0 3 ++ smallEntry 3 1)
 unfolding bigEndian
 border-moved =
     record {
@@ -36,6 +38,9 @@ border-moved =
       elsewhere = λ j h n m. absurd (omega (arith, h, n, m));
     }
 
-pub border-example : messageOf (entryOf 0 2 ++ entryOf 2 2) sixBytes ≡ messageOf (entryOf 0 3 ++ entryOf 3 1) sixBytes → ⊥
+pub border-example : BorderExample
 unfolding bigEndian formerEnd isList entryChecks
-border-example = border-shows 0 (entryOf 0 2 ++ entryOf 2 2) (entryOf 0 3 ++ entryOf 3 1) border-moved sixBytes sixBytes (refl, refl) (refl, refl)
+border-example =
+    let a : Passes (smallEntry 0 2 ++ smallEntry 2 2) sixBytes = (refl, refl) in
+    let b : Passes (smallEntry 0 3 ++ smallEntry 3 1) sixBytes = (refl, refl) in
+    (border-moved, a, b, border-shows 0 (smallEntry 0 2 ++ smallEntry 2 2) (smallEntry 0 3 ++ smallEntry 3 1) border-moved sixBytes sixBytes a b)

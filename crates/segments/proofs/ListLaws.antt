@@ -21,7 +21,9 @@ use Rattle.answers.proofs.Statuses.{not-done}
 use Rattle.answers.proofs.Rows.{by-ways, each-done, done-each, each-first, First, first-of}
 use Rattle.standard.specs.Grid.{tab}
 use Rattle.standard.proofs.Tab.{tab-snoc}
-use Rattle.segments.specs.Entries.{lengthOf, endOf, formerEnd, isList, count, segmentIn, entryChecks, segmentStatus, segmentOf, entriesStatus, StopsAt, segmentsOf, headerOf, messageOf, totalUpTo, totalOf}
+use Rattle.segments.specs.Entries.{lengthOf, endOf, formerEnd, isList, count, segmentIn, entryChecks, segmentStatus, segmentOf, entriesStatus, segmentsOf, headerOf, messageOf}
+use Rattle.segments.specs.Cuts.{StopsAt, totalUpTo, totalOf}
+use Rattle.segments.specs.Promises.{PassedEntries, EntriesPassed, RefusedEntry, EntryRefused, SegmentsLength, SegmentsWithin}
 use Rattle.segments.proofs.EntryLaws.{Fits, entry-fits, segment-checked, segment-entry}
 
 -- ---- joined segments, and the sum of their lengths
@@ -99,29 +101,28 @@ module _ (list buffer : List ℕ) where
   all-passed : entriesStatus list (length buffer) ≡ Done → Passed (count list)
   all-passed e = done-each (count list) (entryChecks list (length buffer)) e
 
-  module _ (e : entriesStatus list (length buffer) ≡ Done) where
-    -- The first k segments of an accepted list have as many bytes as its first k entries name together.
-    pub passed-up-to-length : (k : ℕ) → k ≤ count list → length (segmentsUpTo list buffer k) ≡ totalUpTo list k
-    passed-up-to-length k h = segments-up-to-length k (λ j l. all-passed e j (omega arith))
+  -- the first k segments of a list that passes have as many bytes as its first k entries name together
+  pub passed-up-to-length : entriesStatus list (length buffer) ≡ Done → (k : ℕ) → k ≤ count list → length (segmentsUpTo list buffer k) ≡ totalUpTo list k
+  passed-up-to-length e k h = segments-up-to-length k (λ j l. all-passed e j (omega arith))
 
-    -- So all of them have the sum of the lengths, and never more bytes than the buffer.
-    pub segments-length : length (segmentsOf list buffer) ≡ totalOf list
-    unfolding segmentsOf totalOf
-    segments-length = segments-up-to-length (count list) (all-passed e)
+pub segments-length : SegmentsLength
+unfolding segmentsOf totalOf
+segments-length list buffer e = segments-up-to-length list buffer (count list) (all-passed list buffer e)
 
-    pub segments-within : length (segmentsOf list buffer) ≤ length buffer
-    unfolding totalOf
-    segments-within =
-        let p = all-passed e in
-        omega (arith, segments-length, total-former (count list) p, former-within (count list) p)
+pub segments-within : SegmentsWithin
+unfolding totalOf
+segments-within list buffer e =
+    let p = all-passed list buffer e in
+    omega (arith, segments-length list buffer e, total-former list buffer (count list) p, former-within list buffer (count list) p)
 
-    -- The message has those of its header more.
-    pub message-length : length (messageOf list buffer) ≡ length (headerOf list) + totalOf list
-    unfolding messageOf
-    message-length = simp length-append (omega (arith, segments-length))
+module _ (list buffer : List ℕ) (e : entriesStatus list (length buffer) ≡ Done) where
+  -- The message has those of its header more.
+  pub message-length : length (messageOf list buffer) ≡ length (headerOf list) + totalOf list
+  unfolding messageOf
+  message-length = simp length-append (omega (arith, segments-length list buffer e))
 
-    pub message-within : length (messageOf list buffer) ≤ length (headerOf list) + length buffer
-    message-within = omega (arith, message-length, segments-length, segments-within)
+  pub message-within : length (messageOf list buffer) ≤ length (headerOf list) + length buffer
+  message-within = omega (arith, message-length, segments-length list buffer e, segments-within list buffer e)
 
 pub header-length : (list : List ℕ) → length (headerOf list) ≡ 2 + length list
 unfolding headerOf
@@ -158,35 +159,30 @@ module _ (list : List ℕ) (n : ℕ) where
       by-ways (λ (s : Status). (r : Refusal) → s ≡ Refused r → entry r ≡ k) (entryChecks list n k)
       (λ e r q. sym (ap named q), λ e. (λ e r q. sym (ap named q), λ e r q. absurd (not-done r (sym q))))
 
-  module _ (whole : isList list ≡ true) where
-    -- A list that passes has no entry that is refused by itself.
-    pub passed-entries : entriesStatus list n ≡ Done → (k : ℕ) → k < count list → segmentStatus list n k ≡ Done
-    passed-entries e k h = segment-entry list n k whole h ∙ done-each (count list) (entryChecks list n) e k h
+pub passed-entries : PassedEntries
+passed-entries list n whole e k h = segment-entry list n k whole h ∙ done-each (count list) (entryChecks list n) e k h
 
-    -- And back: a list whose entries all pass, passes.
-    pub entries-passed : ((k : ℕ) → k < count list → segmentStatus list n k ≡ Done) → entriesStatus list n ≡ Done
-    entries-passed h = each-done (count list) (entryChecks list n) (λ k l. segment-checked list n k (h k l) .entry)
+pub entries-passed : EntriesPassed
+entries-passed list n whole h = each-done (count list) (entryChecks list n) (λ k l. segment-checked list n k (h k l) .entry)
 
-    -- A refusal, 10 or 11, of a list names an entry: that entry by itself is refused so, and every earlier one passes.
-    pub refused-entry : (r : Refusal) → entriesStatus list n ≡ Refused r → StopsAt list n (entry r) (Refused r)
-    refused-entry r e =
-        subst (λ (k : ℕ). StopsAt list n k (Refused r)) (sym (entry-named (w .place) r (w .same ∙ e)))
-        (record {
-          there = w .there;
-          earlier = λ j h. segment-entry list n j whole (omega (arith, w .there)) ∙ w .earlier j h;
-          refused = segment-entry list n (w .place) whole (w .there) ∙ w .same ∙ e;
-        })
-      where
-        w : First (count list) (entryChecks list n)
-        w = first-of (count list) (entryChecks list n) (λ d. not-done r (sym e ∙ d))
+pub refused-entry : RefusedEntry
+refused-entry list n whole r e =
+    subst (λ (k : ℕ). StopsAt list n k (Refused r)) (sym (entry-named list n (w .place) r (w .same ∙ e)))
+    (record {
+      there = w .there;
+      earlier = λ j h. segment-entry list n j whole (omega (arith, w .there)) ∙ w .earlier j h;
+      refused = segment-entry list n (w .place) whole (w .there) ∙ w .same ∙ e;
+    })
+  where
+    w : First (count list) (entryChecks list n)
+    w = first-of (count list) (entryChecks list n) (λ d. not-done r (sym e ∙ d))
 
-    -- And back: a list whose first refused entry is refused by r, is refused by r.
-    pub entry-refused : (k : ℕ) (r : Refusal) → StopsAt list n k (Refused r) → entriesStatus list n ≡ Refused r
-    entry-refused k r w =
-        each-first (count list) (entryChecks list n) k (w .there) (λ j l. segment-checked list n j (w .earlier j l) .entry) (λ d. not-done r (sym here ∙ d)) ∙ here
-      where
-        here : firstRefusal (entryChecks list n k) ≡ Refused r
-        here = sym (segment-entry list n k whole (w .there)) ∙ w .refused
+pub entry-refused : EntryRefused
+entry-refused list n whole k r w =
+    each-first (count list) (entryChecks list n) k (w .there) (λ j l. segment-checked list n j (w .earlier j l) .entry) (λ d. not-done r (sym here ∙ d)) ∙ here
+  where
+    here : firstRefusal (entryChecks list n k) ≡ Refused r
+    here = sym (segment-entry list n k whole (w .there)) ∙ w .refused
 
 -- The segment of an entry of a list that passes is there.
 pub segment-there : (list buffer : List ℕ) → isList list ≡ true → entriesStatus list (length buffer) ≡ Done → (k : ℕ) → k < count list → segmentOf list buffer k ≡ segmentIn list buffer k

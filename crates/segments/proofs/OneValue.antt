@@ -25,7 +25,9 @@ use Rattle.standard.specs.Variants.{variant}
 use Rattle.hasher.specs.declared.Wanted.the-variants.{EndState}
 use Rattle.hasher.specs.Apart.{Differ, ToldApart}
 use Rattle.hasher.proofs.Apart.{row-told, block-told, value-told}
-use Rattle.segments.specs.Entries.{offsetOf, lengthOf, endOf, formerEnd, count, segmentIn, entryChecks, entriesStatus, segmentsOf, headerOf, messageOf, placeOf, Names}
+use Rattle.segments.specs.Entries.{offsetOf, lengthOf, endOf, formerEnd, count, segmentIn, entryChecks, entriesStatus, segmentsOf, headerOf, messageOf}
+use Rattle.segments.specs.Cuts.{joinedPlace, Names, Apart}
+use Rattle.segments.specs.Promises.{ListRowTold, ListBlockTold, ListValueTold}
 use Rattle.segments.specs.Digests.{listStatus, listInto}
 use Rattle.segments.proofs.EntryLaws.{Fits, entry-fits}
 use Rattle.segments.proofs.ListLaws.{segmentsUpTo, segments-suc, passed-up-to-length, same-up-to}
@@ -143,15 +145,15 @@ module _ (list x y : List ℕ) (p n : ℕ) (d : DifferWithin p n x y) (passes : 
   value-length : (z : List ℕ) → length z ≡ length x → length (take n (drop p z)) ≡ n
   value-length z l = simp (length-take, length-drop) (omega (arith, fits list (length x) passes k (v .there) .within, v .ends))
 
-  before-length : length (before x) ≡ placeOf list k p
-  unfolding placeOf
+  before-length : length (before x) ≡ joinedPlace list k p
+  unfolding joinedPlace
   before-length =
       length-append (segmentsUpTo list x k) _
       ∙ ap₂ (λ (a b : ℕ). a + b)
       (passed-up-to-length list x passes k (omega (arith, v .there)))
       (simp (length-take, length-drop) (omega (arith, fits list (length x) passes k (v .there) .within, v .ends, v .begins)))
 
-  at-value : DifferWithin (placeOf list k p) n (segmentsUpTo list x (suc k)) (segmentsUpTo list y (suc k))
+  at-value : DifferWithin (joinedPlace list k p) n (segmentsUpTo list x (suc k)) (segmentsUpTo list y (suc k))
   at-value =
       subst (λ (q : ℕ). DifferWithin q n (segmentsUpTo list x (suc k)) (segmentsUpTo list y (suc k))) before-length
       (differ-same (length (before x)) n _ _ _ _ (sym (cut-message x)) (same-around (take n (drop p y)) ∙ sym (cut-message y))
@@ -159,28 +161,28 @@ module _ (list x y : List ℕ) (p n : ℕ) (d : DifferWithin p n x y) (passes : 
       (value-length x refl) (value-length y (sym (d .size))) (differ-part p n x y d)))
 
   -- and the segments behind it
-  further-on : (j : ℕ) → suc k + j ≤ count list → DifferWithin (placeOf list k p) n (segmentsUpTo list x (suc k + j)) (segmentsUpTo list y (suc k + j))
+  further-on : (j : ℕ) → suc k + j ≤ count list → DifferWithin (joinedPlace list k p) n (segmentsUpTo list x (suc k + j)) (segmentsUpTo list y (suc k + j))
   further-on zero h =
       let e : suc k ≡ suc k + 0 = omega arith in
-      subst (λ (i : ℕ). DifferWithin (placeOf list k p) n (segmentsUpTo list x i) (segmentsUpTo list y i)) e at-value
+      subst (λ (i : ℕ). DifferWithin (joinedPlace list k p) n (segmentsUpTo list x i) (segmentsUpTo list y i)) e at-value
   further-on (suc j) h =
       let i : ℕ = suc k + j in
       let e : suc i ≡ suc k + suc j = omega arith in
-      subst (λ (i : ℕ). DifferWithin (placeOf list k p) n (segmentsUpTo list x i) (segmentsUpTo list y i)) e
-      (differ-same (placeOf list k p) n _ _ _ _ (sym (segments-suc list x i))
+      subst (λ (i : ℕ). DifferWithin (joinedPlace list k p) n (segmentsUpTo list x i) (segmentsUpTo list y i)) e
+      (differ-same (joinedPlace list k p) n _ _ _ _ (sym (segments-suc list x i))
       (ap (λ (t : List ℕ). segmentsUpTo list y i ++ t) (same-behind i (omega arith) (omega arith)) ∙ sym (segments-suc list y i))
-      (differ-append (placeOf list k p) n (segmentsUpTo list x i) (segmentsUpTo list y i) (further-on j (omega arith)) (segmentIn list x i)))
+      (differ-append (joinedPlace list k p) n (segmentsUpTo list x i) (segmentsUpTo list y i) (further-on j (omega arith)) (segmentIn list x i)))
 
-  pub segments-value : DifferWithin (placeOf list k p) n (segmentsOf list x) (segmentsOf list y)
+  pub segments-value : DifferWithin (joinedPlace list k p) n (segmentsOf list x) (segmentsOf list y)
   unfolding segmentsOf
   segments-value =
       let e : suc k + (count list - suc k) ≡ count list = omega (arith, v .there) in
-      subst (λ (i : ℕ). DifferWithin (placeOf list k p) n (segmentsUpTo list x i) (segmentsUpTo list y i)) e (further-on (count list - suc k) (omega (arith, v .there)))
+      subst (λ (i : ℕ). DifferWithin (joinedPlace list k p) n (segmentsUpTo list x i) (segmentsUpTo list y i)) e (further-on (count list - suc k) (omega (arith, v .there)))
 
   -- behind one header
-  pub message-value : DifferWithin (length (headerOf list) + placeOf list k p) n (messageOf list x) (messageOf list y)
+  pub message-value : DifferWithin (length (headerOf list) + joinedPlace list k p) n (messageOf list x) (messageOf list y)
   unfolding messageOf
-  message-value = differ-behind (placeOf list k p) n (segmentsOf list x) (segmentsOf list y) segments-value (headerOf list)
+  message-value = differ-behind (joinedPlace list k p) n (segmentsOf list x) (segmentsOf list y) segments-value (headerOf list)
 
 -- the lists, buffers and outputs of two calls that are asked for the end state, both Done
 module _ (v : ℕ) (list x out list′ y out′ : List ℕ) (dx : listStatus v list x EndState (length out) ≡ Done) (dy : listStatus v list′ y EndState (length out′) ≡ Done) where
@@ -190,37 +192,30 @@ module _ (v : ℕ) (list x out list′ y out′ : List ℕ) (dx : listStatus v l
   ay : Accepted v list′ y EndState (length out′)
   ay = accepted v list′ y EndState (length out′) _ refl dy
 
-  -- the bytes that the two calls write differ
-  abbrev Apart : Type 0
-  Apart = Differ (imageSize (variant v)) (listInto v list x EndState out) (listInto v list′ y EndState out′)
-
-  lists-told : ToldApart v (bytes (messageOf list x)) (bytes (messageOf list′ y)) → Apart
+  lists-told : ToldApart v (bytes (messageOf list x)) (bytes (messageOf list′ y)) → Apart v list x out list′ y out′
   lists-told t e =
       t .whole out out′ (ax .message .room) (ay .message .room)
       (ap (take (imageSize (variant v))) (sym (list-whole-into v list x EndState (ax .whole) (ax .all-fit) out))
       ∙ e
       ∙ ap (take (imageSize (variant v))) (list-whole-into v list′ y EndState (ay .whole) (ay .all-fit) out′))
 
-  -- Demand 3 over lists, of a sponge: rows of blocks of equal count that differ at exactly one place.
-  pub list-row-told : isSponge (variant v) ≡ true → (i : ℕ) → DifferAt i (blocksOf (variant v) (byteBits (messageOf list x))) (blocksOf (variant v) (byteBits (messageOf list′ y)))
-      → (endState (variant v) (byteBits (messageOf list x)) ≡ endState (variant v) (byteBits (messageOf list′ y)) → ⊥) × Apart
-  list-row-told q i d = (
-    one-changed-row v (ax .message .asked .named) q i (byteBits (messageOf list x)) (byteBits (messageOf list′ y)) d,
-    lists-told (row-told v (ax .message .asked .named) q (bytes (messageOf list x)) (bytes (messageOf list′ y)) refl refl (ax .message .asked .few) (ay .message .asked .few) i d),
-  )
+pub list-row-told : ListRowTold
+list-row-told v list x out list′ y out′ dx dy q i d =
+    let named = ax v list x out list′ y out′ dx dy .message .asked .named in (
+      one-changed-row v named q i (byteBits (messageOf list x)) (byteBits (messageOf list′ y)) d,
+      lists-told v list x out list′ y out′ dx dy
+          (row-told v named q (bytes (messageOf list x)) (bytes (messageOf list′ y)) refl refl (ax v list x out list′ y out′ dx dy .message .asked .few) (ay v list x out list′ y out′ dx dy .message .asked .few) i d),
+    )
 
-  -- Of a sponge: two messages over lists that differ, and only within the block j.
-  pub list-block-told : isSponge (variant v) ≡ true → (j : ℕ) → DifferWithin (j * variant v .r) (variant v .r) (byteBits (messageOf list x)) (byteBits (messageOf list′ y)) → Apart
-  list-block-told q j d = lists-told (block-told v (ax .message .asked .named) q (bytes (messageOf list x)) (bytes (messageOf list′ y)) refl refl (ax .message .asked .few) j d)
+pub list-block-told : ListBlockTold
+list-block-told v list x out list′ y out′ dx dy q j d =
+    let a = ax v list x out list′ y out′ dx dy .message .asked in
+    lists-told v list x out list′ y out′ dx dy (block-told v (a .named) q (bytes (messageOf list x)) (bytes (messageOf list′ y)) refl refl (a .few) j d)
 
--- Of a sponge: two buffers that differ only in a value that one entry of a list names, and that lies in one block of the message.
-pub list-value-told : (v : ℕ) → isSponge (variant v) ≡ true → (list x out y out′ : List ℕ) → listStatus v list x EndState (length out) ≡ Done → listStatus v list y EndState (length out′) ≡ Done
-    → Bytes list → Bytes x → Bytes y → (p n : ℕ) → DifferWithin p n x y
-    → (k : ℕ) → Names list k p n → inOneBlock (variant v) (length (headerOf list) + placeOf list k p) n ≡ true
-    → Differ (imageSize (variant v)) (listInto v list x EndState out) (listInto v list y EndState out′)
+pub list-value-told : ListValueTold
 list-value-told v q list x out y out′ dx dy hl hx hy p n d k w o =
     let a = accepted v list x EndState (length out) _ refl dx in
     let m = message-value list x y p n d (a .all-fit) k w in
     lists-told v list x out list y out′ dx dy
     (value-told v (a .message .asked .named) q (messageOf list x) (messageOf list y) (omega (arith, a .message .asked .few, length-bitsIn high-first (messageOf list x))) (message-bytes list x hl hx) (message-bytes list y hl hy)
-    (length (headerOf list) + placeOf list k p) n m o)
+    (length (headerOf list) + joinedPlace list k p) n m o)

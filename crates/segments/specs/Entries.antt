@@ -1,14 +1,12 @@
 -- A segment list (document 01: cut sheet): entries (pairs) of eight bytes that name segments (parts) of a buffer.
 -- Assumes nothing.
-use mathlib.Core.Path.{_≡_}
-use mathlib.Core.Bool.{Bool, true, _&&_}
-use mathlib.Core.List.{List, [], _∷_, _++_, flatMap, sum}
-use Prim.Native.Nat.{ℕ, zero, suc, _+_, _-_, _*_, _/_, _%_, _≤_, _<_}
+use mathlib.Core.Bool.{Bool, _&&_}
+use mathlib.Core.List.{List, [], _∷_, _++_, flatMap}
+use Prim.Native.Nat.{ℕ, zero, suc, _+_, _*_, _/_, _%_}
 use lib.Dec.{eqb, ltb, leb}
 use lib.ListN.{length, take, drop}
 use Rattle.answers.specs.declared.Refusal.the-variants.{OutOfRange, BadList, Misordered, PastEnd}
 use Rattle.answers.specs.declared.Status.{Status}
-use Rattle.answers.specs.declared.Status.the-variants.{Done}
 use Rattle.answers.specs.Checks.{Check, unless, when, firstRefusal, each}
 use Rattle.answers.specs.Numbers.{bigEndian, inBytes}
 use Rattle.answers.specs.Outputs.{whenDone}
@@ -42,13 +40,17 @@ count list = length list / 8
 unfoldable pub segmentIn : List ℕ → List ℕ → ℕ → List ℕ
 segmentIn list buffer k = take (lengthOf list k) (drop (offsetOf list k) buffer)
 
+-- Step of the walker, at entry k: 9, 7
+abbrev pub stepChecks : List ℕ → ℕ → List Check
+stepChecks list k = unless (isList list) BadList ∷ unless (ltb k (count list)) OutOfRange ∷ []
+
 -- the checks of an entry against a buffer of n bytes: 10, then 11
 unfoldable pub entryChecks : List ℕ → ℕ → ℕ → List Check
 entryChecks list n k = when (ltb (offsetOf list k) (formerEnd list k)) (Misordered k) ∷ when (ltb n (endOf list k)) (PastEnd k) ∷ []
 
--- Part of a pair: 9, 7, then 10 and 11 for that entry alone
+-- Part of a pair: those of a step, then 10 and 11 for that entry alone
 unfoldable pub segmentChecks : List ℕ → ℕ → ℕ → List Check
-segmentChecks list n k = unless (isList list) BadList ∷ unless (ltb k (count list)) OutOfRange ∷ entryChecks list n k
+segmentChecks list n k = stepChecks list k ++ entryChecks list n k
 
 -- the checks of all entries, entry by entry
 abbrev pub entriesChecks : List ℕ → ℕ → List Check
@@ -74,12 +76,6 @@ segmentAt list n k = whenDone (segmentStatus list n k) (offsetOf list k) 0
 abbrev pub further : ℕ → ℕ × ℕ → ℕ × ℕ
 further a place = (place .0, a + place .1)
 
--- the entries before entry k pass, and it is refused by s
-pub record StopsAt (list : List ℕ) (n k : ℕ) (s : Status) : Type 0 where
-  pub there : k < count list
-  pub earlier : (j : ℕ) → j < k → segmentStatus list n j ≡ Done
-  pub refused : segmentStatus list n k ≡ s
-
 -- the segments joined in order
 unfoldable pub segmentsOf : List ℕ → List ℕ → List ℕ
 segmentsOf list buffer = flatMap (λ s. s) (tab (count list) (segmentIn list buffer))
@@ -91,40 +87,3 @@ headerOf list = inBytes 2 (count list) ++ list
 -- the message (document 02, Q-3): the number of entries, the list, the segments
 unfoldable pub messageOf : List ℕ → List ℕ → List ℕ
 messageOf list buffer = headerOf list ++ segmentsOf list buffer
-
--- the bytes that the first k entries name together, and those of all
-abbrev pub totalUpTo : List ℕ → ℕ → ℕ
-totalUpTo list k = sum _+_ 0 (tab k (lengthOf list))
-
-unfoldable pub totalOf : List ℕ → ℕ
-totalOf list = totalUpTo list (count list)
-
--- where among the joined segments the byte p of the buffer stands, which entry k names
-unfoldable pub placeOf : List ℕ → ℕ → ℕ → ℕ
-placeOf list k p = totalUpTo list k + (p - offsetOf list k)
-
--- entry k names the n bytes of the buffer from p on, all of them
-pub record Names (list : List ℕ) (k p n : ℕ) : Type 0 where
-  pub there : k < count list
-  pub begins : offsetOf list k ≤ p
-  pub ends : p + n ≤ endOf list k
-
--- a list that none of 9, 10 and 11 refuses over a buffer: an accepted one
-abbrev pub Passes : List ℕ → List ℕ → Type 0
-Passes list buffer = (isList list ≡ true) × (entriesStatus list (length buffer) ≡ Done)
-
--- two lists, each over its own buffer, are equal and entry by entry name equal bytes
-pub record SameSegments (list buffer list′ buffer′ : List ℕ) : Type 0 where
-  pub lists : list ≡ list′
-  pub segments : (k : ℕ) → segmentOf list buffer k ≡ segmentOf list′ buffer′ k
-
--- two lists that differ only in the border between the touching segments of the entries k and k + 1
-pub record BorderMoved (k : ℕ) (list list′ : List ℕ) : Type 0 where
-  pub counts : count list ≡ count list′
-  pub there : suc k < count list
-  pub begins : offsetOf list k ≡ offsetOf list′ k
-  pub touch : endOf list k ≡ offsetOf list (suc k)
-  pub touch′ : endOf list′ k ≡ offsetOf list′ (suc k)
-  pub moved : endOf list k ≡ endOf list′ k → ⊥
-  pub ends : endOf list (suc k) ≡ endOf list′ (suc k)
-  pub elsewhere : (j : ℕ) → j < count list → (j ≡ k → ⊥) → (j ≡ suc k → ⊥) → (offsetOf list j ≡ offsetOf list′ j) × (lengthOf list j ≡ lengthOf list′ j)

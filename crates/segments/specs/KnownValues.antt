@@ -11,20 +11,20 @@ use Rattle.standard.specs.KnownValues.{Row}
 use Rattle.segments.specs.Entries.{count, segmentStatus, segmentOf, entriesStatus, segmentsOf, messageOf}
 
 -- an entry of an offset and a length below 256
-abbrev pub entryOf : ℕ → ℕ → List ℕ
-entryOf o l = 0 ∷ 0 ∷ 0 ∷ o ∷ 0 ∷ 0 ∷ 0 ∷ l ∷ []
+abbrev pub smallEntry : ℕ → ℕ → List ℕ
+smallEntry o l = 0 ∷ 0 ∷ 0 ∷ o ∷ 0 ∷ 0 ∷ 0 ∷ l ∷ []
 
 -- a buffer whose bytes are their places
 abbrev pub sixBytes : List ℕ
 sixBytes = 0 ∷ 1 ∷ 2 ∷ 3 ∷ 4 ∷ 5 ∷ []
 
 -- the number of an answer and the entry that it names
-abbrev pub parts : Status → List ℕ
-parts s = answer s % 256 ∷ answer s / 256 ∷ []
+abbrev pub answerParts : Status → List ℕ
+answerParts s = answer s % 256 ∷ answer s / 256 ∷ []
 
 -- those of a list over six bytes
 abbrev pub answerOf : List ℕ → List ℕ
-answerOf list = parts (entriesStatus list 6)
+answerOf list = answerParts (entriesStatus list 6)
 
 -- the bytes of a message, and of these those of the count, of the list and of the segments
 abbrev pub sizesOf : List ℕ → List ℕ → List ℕ
@@ -34,25 +34,25 @@ sizesOf list buffer = length (messageOf list buffer) ∷ length (inBytes 2 (coun
 abbrev pub listValues : List Row
 listValues =
     -- (0, 2), (3, 2) take the bytes 0, 1, 3, 4
-    record { gives = answerOf (entryOf 0 2 ++ entryOf 3 2); stated = 0 ∷ 0 ∷ [] }
-    ∷ record { gives = segmentsOf (entryOf 0 2 ++ entryOf 3 2) sixBytes; stated = 0 ∷ 1 ∷ 3 ∷ 4 ∷ [] }
+    record { gives = answerOf (smallEntry 0 2 ++ smallEntry 3 2); stated = 0 ∷ 0 ∷ [] }
+    ∷ record { gives = segmentsOf (smallEntry 0 2 ++ smallEntry 3 2) sixBytes; stated = 0 ∷ 1 ∷ 3 ∷ 4 ∷ [] }
     -- and give 22 bytes (document 02, Q-3): 2 of count, 16 of list, 4 of segments
-    ∷ record { gives = sizesOf (entryOf 0 2 ++ entryOf 3 2) sixBytes; stated = 22 ∷ 2 ∷ 16 ∷ 4 ∷ [] }
-    ∷ record { gives = messageOf (entryOf 0 2 ++ entryOf 3 2) sixBytes; stated = 0 ∷ 2 ∷ (entryOf 0 2 ++ entryOf 3 2 ++ 0 ∷ 1 ∷ 3 ∷ 4 ∷ []) }
-    ∷ record { gives = segmentOf (entryOf 0 2 ++ entryOf 3 2) sixBytes 0; stated = 0 ∷ 1 ∷ [] }
-    ∷ record { gives = segmentOf (entryOf 0 2 ++ entryOf 3 2) sixBytes 1; stated = 3 ∷ 4 ∷ [] }
+    ∷ record { gives = sizesOf (smallEntry 0 2 ++ smallEntry 3 2) sixBytes; stated = 22 ∷ 2 ∷ 16 ∷ 4 ∷ [] }
+    ∷ record { gives = messageOf (smallEntry 0 2 ++ smallEntry 3 2) sixBytes; stated = 0 ∷ 2 ∷ (smallEntry 0 2 ++ smallEntry 3 2 ++ 0 ∷ 1 ∷ 3 ∷ 4 ∷ []) }
+    ∷ record { gives = segmentOf (smallEntry 0 2 ++ smallEntry 3 2) sixBytes 0; stated = 0 ∷ 1 ∷ [] }
+    ∷ record { gives = segmentOf (smallEntry 0 2 ++ smallEntry 3 2) sixBytes 1; stated = 3 ∷ 4 ∷ [] }
     -- (0, 2), (1, 2) gives 10 at entry 1
-    ∷ record { gives = answerOf (entryOf 0 2 ++ entryOf 1 2); stated = 10 ∷ 1 ∷ [] }
-    ∷ record { gives = parts (segmentStatus (entryOf 0 2 ++ entryOf 1 2) 6 1); stated = 10 ∷ 1 ∷ [] }
+    ∷ record { gives = answerOf (smallEntry 0 2 ++ smallEntry 1 2); stated = 10 ∷ 1 ∷ [] }
+    ∷ record { gives = answerParts (segmentStatus (smallEntry 0 2 ++ smallEntry 1 2) 6 1); stated = 10 ∷ 1 ∷ [] }
     -- (5, 2) gives 11 at entry 0
-    ∷ record { gives = answerOf (entryOf 5 2); stated = 11 ∷ 0 ∷ [] }
+    ∷ record { gives = answerOf (smallEntry 5 2); stated = 11 ∷ 0 ∷ [] }
     -- (6, 0) passes
-    ∷ record { gives = answerOf (entryOf 6 0); stated = 0 ∷ 0 ∷ [] }
+    ∷ record { gives = answerOf (smallEntry 6 0); stated = 0 ∷ 0 ∷ [] }
     -- not the papers': the border of (0, 2), (2, 2) moved by one shows in the message, and not in the joined segments
-    ∷ record { gives = segmentsOf (entryOf 0 2 ++ entryOf 2 2) sixBytes; stated = 0 ∷ 1 ∷ 2 ∷ 3 ∷ [] }
-    ∷ record { gives = segmentsOf (entryOf 0 3 ++ entryOf 3 1) sixBytes; stated = 0 ∷ 1 ∷ 2 ∷ 3 ∷ [] }
-    ∷ record { gives = messageOf (entryOf 0 2 ++ entryOf 2 2) sixBytes; stated = 0 ∷ 2 ∷ (entryOf 0 2 ++ entryOf 2 2 ++ 0 ∷ 1 ∷ 2 ∷ 3 ∷ []) }
-    ∷ record { gives = messageOf (entryOf 0 3 ++ entryOf 3 1) sixBytes; stated = 0 ∷ 2 ∷ (entryOf 0 3 ++ entryOf 3 1 ++ 0 ∷ 1 ∷ 2 ∷ 3 ∷ []) }
+    ∷ record { gives = segmentsOf (smallEntry 0 2 ++ smallEntry 2 2) sixBytes; stated = 0 ∷ 1 ∷ 2 ∷ 3 ∷ [] }
+    ∷ record { gives = segmentsOf (smallEntry 0 3 ++ smallEntry 3 1) sixBytes; stated = 0 ∷ 1 ∷ 2 ∷ 3 ∷ [] }
+    ∷ record { gives = messageOf (smallEntry 0 2 ++ smallEntry 2 2) sixBytes; stated = 0 ∷ 2 ∷ (smallEntry 0 2 ++ smallEntry 2 2 ++ 0 ∷ 1 ∷ 2 ∷ 3 ∷ []) }
+    ∷ record { gives = messageOf (smallEntry 0 3 ++ smallEntry 3 1) sixBytes; stated = 0 ∷ 2 ∷ (smallEntry 0 3 ++ smallEntry 3 1 ++ 0 ∷ 1 ∷ 2 ∷ 3 ∷ []) }
     ∷ []
 
 -- the one list

@@ -1,4 +1,4 @@
-// Lists of segments of a buffer: the check of an entry, the segment that it names, and the digest over all of them.
+// Lists of segments of a buffer: an entry by its number, its check, the segment that it names, and the digest over all of them.
 ghost use mathlib.Core.Path.{_≡_};
 ghost use mathlib.Core.Bool.{true};
 ghost use Prim.Native.Nat.{_+_, _*_, _≤_, _<_};
@@ -9,7 +9,9 @@ ghost use Rattle.answers.specs.declared.Status.the-variants.{Done};
 ghost use Rattle.answers.specs.Checks.{firstRefusal};
 ghost use Rattle.answers.specs.Outputs.{mostBits};
 ghost use Rattle.hasher.specs.Running.{wholeSoFar, Open, updated};
-ghost use Rattle.segments.specs.Entries.{offsetOf, lengthOf, endOf, formerEnd, isList, count, entryChecks, segmentStatus, segmentOf, segmentAt, further, entriesStatus, segmentsOf, headerOf, totalOf};
+ghost use Rattle.segments.specs.Entries.{offsetOf, lengthOf, endOf, formerEnd, isList, count, entryChecks, segmentStatus, segmentOf, segmentAt, further, entriesStatus, segmentsOf, headerOf};
+ghost use Rattle.segments.specs.Steps.{stepStatus, foundAt};
+ghost use Rattle.segments.specs.Cuts.{totalOf};
 ghost use Rattle.segments.specs.Digests.{listStatus, listInto};
 use answers::MOST;
 use answers::Refusal;
@@ -57,6 +59,47 @@ pub fn is_list(list: &[u8]) -> bool
     list.len() % 8 == 0 && list.len() <= 4096
 }
 
+// Whether there is an entry k: refusals 9, 7.
+fn check_step(list: &[u8], k: usize) -> Status
+    ensures { λ r. ⌜ r ≡ stepStatus (now (list .entry)) k ⌝ }
+{
+    if !is_list(list) {
+        return Status::Refused(Refusal::BadList);
+    }
+    if list.len() / 8 <= k {
+        return Status::Refused(Refusal::OutOfRange);
+    }
+    Status::Done
+}
+
+// What a step gives: an entry's offset and length, or refusal 9 or 7.
+pub enum Step {
+    Entry(u32, u32),
+    Refused(Refusal),
+}
+
+// What a step gives, and the number of the entry that is next after it.
+pub struct Found {
+    pub step: Step,
+    pub next: usize,
+}
+
+// Entry k of a list: refusals 9, 7.
+pub fn entry_at(list: &[u8], k: usize) -> Found
+    ensures { λ r. ⌜ r ≡ foundAt (now (list .entry)) k ⌝ }
+{
+    match check_step(list, k) {
+        Status::Done => Found {
+            step: Step::Entry(offset_at(list, k), length_at(list, k)),
+            next: k + 1,
+        },
+        Status::Refused(refusal) => Found {
+            step: Step::Refused(refusal),
+            next: k,
+        },
+    }
+}
+
 // Refusals 10, 11 of one entry.
 fn check_entry(list: &[u8], buffer: &[u8], k: usize) -> Status
     requires { ⌜ isList (now list) ≡ true ⌝ }
@@ -76,12 +119,10 @@ fn check_entry(list: &[u8], buffer: &[u8], k: usize) -> Status
 pub fn check(list: &[u8], buffer: &[u8], k: usize) -> Status
     ensures { λ r. ⌜ r ≡ segmentStatus (now (list .entry)) (length (now (buffer .entry))) k ⌝ }
 {
-    if !is_list(list) {
-        return Status::Refused(Refusal::BadList);
-    }
-    if list.len() / 8 <= k {
-        return Status::Refused(Refusal::OutOfRange);
-    }
+    let s = check_step(list, k);
+    let Status::Done = s else {
+        return s;
+    };
     check_entry(list, buffer, k)
 }
 

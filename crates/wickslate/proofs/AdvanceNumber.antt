@@ -1,4 +1,4 @@
--- An advance by number: the walk by hand of the MIR that `wickslate_start`, `wickslate_update`, `wickslate_finish` and `wickslate_advance` have but for what they are lent and passed beside it, and the functions that they call.
+-- An advance by number: the walk by hand of the MIR that `wickslate_start`, `wickslate_update`, `wickslate_update_bits` and `wickslate_finish` have but for what they are passed beside the running hash, and the functions that they call.
 -- What is lent is lent on for good, and the answer's number returned. All that is known of the callees is their contracts. Assumes nothing.
 use mathlib.Core.Path.{_≡_, refl}
 use Prim.Native.Nat.{ℕ, suc}

@@ -1,4 +1,4 @@
--- The step of a walk that gives up an answer, a status or a cursor's step, for its number.
+-- The step of a walk that gives up an answer, as a status, for its number.
 -- Assumes nothing.
 use mathlib.Core.Path.{_≡_}
 use Prim.Native.Nat.{ℕ}
@@ -23,11 +23,7 @@ use denote.Triple.Statement.{Contract, Triple}
 use Rattle.answers.proofs.Status as S
 use Rattle.answers.proofs.Status.Laws as S′
 use Rattle.answers.specs.Refusals.{answer}
-use Rattle.lent.specs.Cursors.{stepAnswer}
-use Rattle.lent.proofs.Step as E
-use Rattle.lent.proofs.Step.Laws as E′
 use Rattle.answers.proofs.answer_of.Symbol.{name as #answers·answer-of}
-use Rattle.lent.proofs.answer_of_step.Symbol.{name as #lent·answer-of-step}
 use Rattle.lent.proofs.Passed.{Passed, Promises, calls}
 
 -- an answer: its type, in MIR too, its machine values, its number and the function that gives it
@@ -42,9 +38,6 @@ pub record Answer : Type 2 where
 
 abbrev pub status : Answer
 status = record { row = S.the-row; mir = S′.mir; spells = EL.vals S.the-type S′.the-laws; tells = EL.tells S.the-type S′.the-laws; typed = λ M 𝓤 H A W r w is. EL.lawful S.the-type S′.the-laws 𝓤 H A W tt .typed r (w ∷ []) is .0; number = answer; by = #answers·answer-of }
-
-abbrev pub step : Answer
-step = record { row = E.the-row; mir = E′.mir; spells = EL.vals E.the-type E′.the-laws; tells = EL.tells E.the-type E′.the-laws; typed = λ M 𝓤 H A W r w is. EL.lawful E.the-type E′.the-laws 𝓤 H A W tt .typed r (w ∷ []) is .0; number = stepAnswer; by = #lent·answer-of-step }
 
 module _ (N : Answer) where
   abbrev passed : Passed

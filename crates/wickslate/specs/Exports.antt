@@ -5,8 +5,8 @@ use Prim.Native.Nat.{ℕ}
 use lib.Dec.{eqb}
 use Rattle.hasher.specs.declared.Wanted.{Wanted}
 use Rattle.hasher.specs.declared.Wanted.the-variants.{Digest, EndState}
-use Rattle.lent.specs.declared.Step.{Step}
-use Rattle.lent.specs.declared.Step.the-variants.{Entry, Refused}
+use Rattle.segments.specs.declared.Step.{Step}
+use Rattle.segments.specs.declared.Step.the-variants.{Entry, Refused}
 
 -- 0 asks for the digest, any other number for the end state
 abbrev pub wantedOf : ℕ → Wanted

@@ -5,19 +5,23 @@ ghost use Rattle.standard.specs.Rounds.{forward, backward};
 ghost use Rattle.lesamnta.specs.Words.{ciphered};
 ghost use Rattle.answers.specs.Refusals.{answer};
 ghost use Rattle.sponge.specs.Images.{imageStatus, permutedImage};
-ghost use Rattle.hasher.specs.Running.{startedOver, updated, updatedBits, finished};
+ghost use Rattle.standard.specs.Messages.{bytes};
+ghost use Rattle.standard.specs.Messages as given-as;
+ghost use Rattle.hasher.specs.Running.{startedOver, updated, finished};
 ghost use Rattle.hasher.specs.declared.Wanted.the-variants.{Digest, EndState};
-ghost use Rattle.hasher.specs.Reading.{readStatus, readInto, wholeStatus, wholeInto, wholeBitsStatus, wholeBitsInto};
-ghost use Rattle.recover.specs.Recovering.{recoverStatus, recoverInto, recoverBitsStatus, recoverBitsInto};
+ghost use Rattle.hasher.specs.Reading.{readStatus, readInto, wholeStatus, wholeInto};
+ghost use Rattle.recover.specs.Recovering.{recoverStatus, recoverInto};
 ghost use Rattle.segments.specs.Entries.{segmentStatus};
+ghost use Rattle.segments.specs.Steps.{stepAnswer, foundAt};
 ghost use Rattle.segments.specs.Digests.{listStatus, listInto};
 ghost use Rattle.manifest.specs.Records.{manifestStatus};
-ghost use Rattle.lent.specs.Cursors.{stepAnswer, foundAt, movedOn};
+ghost use Rattle.lent.specs.Cursors.{movedOn};
 ghost use Rattle.wickslate.specs.Exports.{wantedOf, offsetGiven, lengthGiven};
+use answers::Status;
 use hasher::Hasher;
 use hasher::Wanted;
 use lent::Cursor;
-use lent::Step;
+use segments::Step;
 
 // Refusal 1.
 #[no_mangle]
@@ -30,17 +34,17 @@ pub extern "C" fn wickslate_start(h: &mut Hasher, variant: u32) -> u32
 // Refusals 2, 3, 16, 4.
 #[no_mangle]
 pub extern "C" fn wickslate_update(h: &mut Hasher, piece: &[u8]) -> u32
-    ensures { λ r. ⌜ (r ≡ answer (updated (now (h .entry)) (now (piece .entry)) .status))
-        × (now (h .exit) ≡ updated (now (h .entry)) (now (piece .entry)) .hasher) ⌝ }
+    ensures { λ r. ⌜ (r ≡ answer (updated (now (h .entry)) (bytes (now (piece .entry))) .status))
+        × (now (h .exit) ≡ updated (now (h .entry)) (bytes (now (piece .entry))) .hasher) ⌝ }
 {
     answers::answer_of(lent::update(h, piece))
 }
 
-// A piece of whose last byte so many bits count: refusals 2, 3, 15, 16, 4.
+// A piece whose last byte contributes `bits` bits: refusals 2, 3, 15, 16, 4.
 #[no_mangle]
 pub extern "C" fn wickslate_update_bits(h: &mut Hasher, piece: &[u8], bits: u32) -> u32
-    ensures { λ r. ⌜ (r ≡ answer (updatedBits (now (h .entry)) (now (piece .entry)) bits .status))
-        × (now (h .exit) ≡ updatedBits (now (h .entry)) (now (piece .entry)) bits .hasher) ⌝ }
+    ensures { λ r. ⌜ (r ≡ answer (updated (now (h .entry)) (given-as.bits (now (piece .entry)) bits) .status))
+        × (now (h .exit) ≡ updated (now (h .entry)) (given-as.bits (now (piece .entry)) bits) .hasher) ⌝ }
 {
     answers::answer_of(lent::update_bits(h, piece, bits))
 }
@@ -84,13 +88,13 @@ fn wanted_of(n: u32) -> Wanted
 // The digest of a whole message or, if `wanted` is not 0, its end state: refusals 1, 4, 5.
 #[no_mangle]
 pub extern "C" fn wickslate_whole(variant: u32, message: &[u8], wanted: u32, out: &mut [u8]) -> u32
-    ensures { λ r. ⌜ (r ≡ answer (wholeStatus variant (now (message .entry)) (wantedOf wanted) (length (now (out .entry)))))
-        × (now (out .exit) ≡ wholeInto variant (now (message .entry)) (wantedOf wanted) (now (out .entry))) ⌝ }
+    ensures { λ r. ⌜ (r ≡ answer (wholeStatus variant (bytes (now (message .entry))) (wantedOf wanted) (length (now (out .entry)))))
+        × (now (out .exit) ≡ wholeInto variant (bytes (now (message .entry))) (wantedOf wanted) (now (out .entry))) ⌝ }
 {
     answers::answer_of(hasher::whole(variant, message, wanted_of(wanted), out))
 }
 
-// The same of a message of whose last byte so many bits count: refusals 1, 15, 4, 5.
+// The same of a message whose last byte contributes `bits` bits: refusals 1, 15, 4, 5.
 #[no_mangle]
 pub extern "C" fn wickslate_whole_bits(
     variant: u32,
@@ -99,8 +103,8 @@ pub extern "C" fn wickslate_whole_bits(
     wanted: u32,
     out: &mut [u8],
 ) -> u32
-    ensures { λ r. ⌜ (r ≡ answer (wholeBitsStatus variant (now (message .entry)) bits (wantedOf wanted) (length (now (out .entry)))))
-        × (now (out .exit) ≡ wholeBitsInto variant (now (message .entry)) bits (wantedOf wanted) (now (out .entry))) ⌝ }
+    ensures { λ r. ⌜ (r ≡ answer (wholeStatus variant (given-as.bits (now (message .entry)) bits) (wantedOf wanted) (length (now (out .entry)))))
+        × (now (out .exit) ≡ wholeInto variant (given-as.bits (now (message .entry)) bits) (wantedOf wanted) (now (out .entry))) ⌝ }
 {
     answers::answer_of(hasher::whole_bits(variant, message, bits, wanted_of(wanted), out))
 }
@@ -150,13 +154,13 @@ pub extern "C" fn wickslate_recover(
     image: &[u8],
     out: &mut [u8],
 ) -> u32
-    ensures { λ r. ⌜ (r ≡ answer (recoverStatus variant (now (message .entry)) place (now (image .entry)) (length (now (out .entry)))))
-        × (now (out .exit) ≡ recoverInto variant (now (message .entry)) place (now (image .entry)) (now (out .entry))) ⌝ }
+    ensures { λ r. ⌜ (r ≡ answer (recoverStatus variant (bytes (now (message .entry))) place (now (image .entry)) (length (now (out .entry)))))
+        × (now (out .exit) ≡ recoverInto variant (bytes (now (message .entry))) place (now (image .entry)) (now (out .entry))) ⌝ }
 {
     answers::answer_of(recover::recover(variant, message, place, image, out))
 }
 
-// The same of a message of whose last byte so many bits count: refusals 1, 15, 4, 7, 17, 6, 5, 8.
+// The same of a message whose last byte contributes `bits` bits: refusals 1, 15, 4, 7, 17, 6, 5, 8.
 #[no_mangle]
 pub extern "C" fn wickslate_recover_bits(
     variant: u32,
@@ -166,8 +170,8 @@ pub extern "C" fn wickslate_recover_bits(
     image: &[u8],
     out: &mut [u8],
 ) -> u32
-    ensures { λ r. ⌜ (r ≡ answer (recoverBitsStatus variant (now (message .entry)) bits place (now (image .entry)) (length (now (out .entry)))))
-        × (now (out .exit) ≡ recoverBitsInto variant (now (message .entry)) bits place (now (image .entry)) (now (out .entry))) ⌝ }
+    ensures { λ r. ⌜ (r ≡ answer (recoverStatus variant (given-as.bits (now (message .entry)) bits) place (now (image .entry)) (length (now (out .entry)))))
+        × (now (out .exit) ≡ recoverInto variant (given-as.bits (now (message .entry)) bits) place (now (image .entry)) (now (out .entry))) ⌝ }
 {
     answers::answer_of(recover::recover_bits(variant, message, bits, place, image, out))
 }
@@ -180,21 +184,19 @@ pub extern "C" fn wickslate_check_entry(list: &[u8], buffer: &[u8], k: usize) ->
     answers::answer_of(segments::check(list, buffer, k))
 }
 
-fn offset_given(s: Step, old: u32) -> u32
-    ensures { λ r. ⌜ r ≡ offsetGiven s old ⌝ }
+// A step's entry, written through two lent numbers, and its answer; a refusal leaves both.
+fn give(s: Step, offset: &mut u32, length: &mut u32) -> u32
+    ensures { λ r. ⌜ (r ≡ stepAnswer s)
+        × (now (offset .exit) ≡ offsetGiven s (now (offset .entry)))
+        × (now (length .exit) ≡ lengthGiven s (now (length .entry))) ⌝ }
 {
     match s {
-        Step::Entry(offset, _) => offset,
-        Step::Refused(_) => old,
-    }
-}
-
-fn length_given(s: Step, old: u32) -> u32
-    ensures { λ r. ⌜ r ≡ lengthGiven s old ⌝ }
-{
-    match s {
-        Step::Entry(_, length) => length,
-        Step::Refused(_) => old,
+        Step::Entry(o, l) => {
+            *offset = o;
+            *length = l;
+            0
+        }
+        Step::Refused(refusal) => answers::answer_of(Status::Refused(refusal)),
     }
 }
 
@@ -205,20 +207,24 @@ pub extern "C" fn wickslate_entry(list: &[u8], k: usize, offset: &mut u32, lengt
         × (now (offset .exit) ≡ offsetGiven (foundAt (now (list .entry)) k .step) (now (offset .entry)))
         × (now (length .exit) ≡ lengthGiven (foundAt (now (list .entry)) k .step) (now (length .entry))) ⌝ }
 {
-    let f = lent::entry_at(list, k);
+    let f = segments::entry_at(list, k);
     let s = f.step;
-    *offset = offset_given(s, *offset);
-    *length = length_given(s, *length);
-    lent::answer_of_step(s)
+    give(s, offset, length)
 }
 
-// A step of a cursor: refusals 9, 7. It moves on to the next entry, and the one that it leaves is the one given; where it is refused it stays.
+// A step of a cursor: refusals 9, 7. It gives the next entry's offset and length and moves on; where it is refused all three stay.
 #[no_mangle]
-pub extern "C" fn wickslate_advance<'s, 'a>(c: &'s mut Cursor<'a>) -> u32
+pub extern "C" fn wickslate_advance<'s, 'a>(
+    c: &'s mut Cursor<'a>,
+    offset: &mut u32,
+    length: &mut u32,
+) -> u32
     ensures { λ r. ⌜ (r ≡ stepAnswer (foundAt (now (now (c .entry) .list)) (now (c .entry) .next) .step))
-        × (now (c .exit) ≡ movedOn (now (c .entry))) ⌝ }
+        × (now (c .exit) ≡ movedOn (now (c .entry)))
+        × (now (offset .exit) ≡ offsetGiven (foundAt (now (now (c .entry) .list)) (now (c .entry) .next) .step) (now (offset .entry)))
+        × (now (length .exit) ≡ lengthGiven (foundAt (now (now (c .entry) .list)) (now (c .entry) .next) .step) (now (length .entry))) ⌝ }
 {
-    lent::answer_of_step(lent::advance(c))
+    give(lent::advance(c), offset, length)
 }
 
 // The digest over a list and its segments or, if `wanted` is not 0, the end state: refusals 1, 9, 10, 11, 4, 5.

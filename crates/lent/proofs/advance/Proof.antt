@@ -1,4 +1,4 @@
--- `lent::advance` meets its contract: a walk of its MIR, by hand. The borrow of the cursor is opened, the slice and the number are copied out of it and passed to `entry_at`, the next number is stored, and the borrow is closed at the cursor with that number. Assumes nothing.
+-- `lent::advance` meets its contract: a walk of its MIR, by hand. The borrow of the cursor is opened, the slice and the number are copied out of it and passed to `segments::entry_at`, the next number is stored, and the borrow is closed at the cursor with that number. Assumes nothing.
 use mathlib.Core.Path.{_≡_, refl, ap, _∙_}
 use Prim.Native.Nat.{ℕ, _<_, _^_}
 use mathlib.Core.List.{List, [], _∷_}
@@ -34,17 +34,17 @@ use denote.Enum.Laws as EL
 use denote.Triple.Statement.{Contract, Triple}
 use denote.Triple.Table.{cited}
 use denote.Triple.Walked.{Stays, stay-ref, goes-ref}
-use Rattle.lent.specs.Cursors.{foundAt}
+use Rattle.segments.specs.Steps.{foundAt}
 use Rattle.lent.specs.declared.Cursor.{Cursor}
-use Rattle.lent.specs.declared.Found.{Found}
-use Rattle.lent.specs.declared.Step.{Step}
+use Rattle.segments.specs.declared.Found.{Found}
+use Rattle.segments.specs.declared.Step.{Step}
 use Rattle.lent.proofs.Cursor as T
 use Rattle.lent.proofs.Cursor.Laws as T′
-use Rattle.lent.proofs.Found as D
-use Rattle.lent.proofs.Found.Laws as D′
-use Rattle.lent.proofs.Step as S
-use Rattle.lent.proofs.Step.Laws as S′
-use Rattle.lent.proofs.entry_at as callee
+use Rattle.segments.proofs.Found as D
+use Rattle.segments.proofs.Found.Laws as D′
+use Rattle.segments.proofs.Step as S
+use Rattle.segments.proofs.Step.Laws as S′
+use Rattle.segments.proofs.entry_at as callee
 use Rattle.lent.proofs.Passed.{Passed, kept, values, Promises, Promised, calls, ends, Walk, proved}
 use Rattle.lent.proofs.Beside.{none}
 use Rattle.lent.proofs.Advancing.{cursor, advancing}
@@ -158,5 +158,5 @@ unfolding self.Code.routine tablesOf
 advance-spec 𝓤 H 𝓜 𝓖 𝓡 =
     let W = givenOf 𝓤 H 𝓜 𝓖 in
     proved lent S.the-row Moves 𝓤 H 𝓜 𝓖 𝓡 self.Code.env self.Key.name self.Code.function (self.Code.unfolded 𝓤 H 𝓜 𝓡) had (goes-ref 𝓤 H (𝓖 .A) W 2 0 tt (cursor .slot), tt)
-    (walk 𝓤 H (𝓖 .A) W (tablesOf 𝓤 H 𝓜 (tables 𝓤 H 𝓜 𝓡 self.Code.env)) (cited 𝓤 H (EntryAt 𝓤 H (𝓖 .A)) 𝓜 𝓡 self.Code.env callee.Symbol.name callee.Symbol.routine self.Code.calls-lent·entry-at (callee.Met.met 𝓤 H 𝓜 𝓖 𝓡)))
+    (walk 𝓤 H (𝓖 .A) W (tablesOf 𝓤 H 𝓜 (tables 𝓤 H 𝓜 𝓡 self.Code.env)) (cited 𝓤 H (EntryAt 𝓤 H (𝓖 .A)) 𝓜 𝓡 self.Code.env callee.Symbol.name callee.Symbol.routine self.Code.calls-segments·entry-at (callee.Met.met 𝓤 H 𝓜 𝓖 𝓡)))
     (self.clauses 𝓤 H (𝓖 .A) (𝓜 .mem) (𝓡 .run)) (promised 𝓤 H (𝓖 .A) (𝓜 .mem) (𝓡 .run))

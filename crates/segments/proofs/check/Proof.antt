@@ -1,26 +1,24 @@
--- `segments::check` meets its contract: refusals 9, 7, then those of the entry. Assumes nothing.
+-- `segments::check` meets its contract: the checks of a step, then those of the entry. Assumes nothing.
 use mathlib.Core.Path.{_≡_, sym, _∙_}
-use mathlib.Core.Bool.{true}
-use borrow.Author.Tests.{not-true, not-false, le-ltb}
 use borrow.Author.Needs.{needs}
-use Rattle.segments.specs.Entries.{isList, segmentChecks}
-use Rattle.segments.proofs.EntryLaws.{segment-entry}
+use Rattle.answers.proofs.Rows.{refused-first, row-second}
+use Rattle.segments.specs.Entries.{stepChecks, entryChecks, segmentChecks}
+use Rattle.segments.proofs.EntryLaws.{step-there}
 use Rattle.segments.proofs.check.Statement.{statement}
 use Rattle.segments.proofs.check.Tie as tie
 
-whole : (c : tie.Else1) → isList (c .before .before .before .before .args .list .now) ≡ true
-whole c = sym (c .before .is-list .ensures) ∙ not-false _ (c .if1 .left)
-
 returns : tie.Need-returns
 unfolding segmentChecks
-returns c = rw (sym (c .before .is-list .ensures) ∙ not-true _ (c .if1 .taken))
+returns c = refused-first (stepChecks _ _) (entryChecks _ _ _) _ _ (c .before .before .check-step .ensures) (c .enum-told2 .given .1)
+
+check-entry-requires : tie.Need-check-entry-requires
+check-entry-requires c κs =
+    let t = step-there _ _ (sym (c .before .before .check-step .ensures) ∙ c .enum-told .given .1) in
+    (t .whole, t .inside)
 
 returns-2 : tie.Need-returns-2
 unfolding segmentChecks
-returns-2 c = rw (whole (c .before), le-ltb _ _ (c .if2 .taken))
-
-returns-3 : tie.Need-returns-3
-returns-3 c = c .check-entry .ensures ∙ sym (segment-entry _ _ _ (whole (c .before .before)) (c .before .if2 .left))
+returns-2 c = c .check-entry .ensures ∙ sym (row-second (stepChecks _ _) (entryChecks _ _ _) (sym (c .before .before .before .check-step .ensures) ∙ c .before .enum-told .given .1))
 
 pub check-spec : {M : Type 1} → statement M
-check-spec = tie.close (tie.spec (λ c κs. search needs) returns returns-2 (λ c κs. (whole (c .before), c .if2 .left)) returns-3)
+check-spec = tie.close (tie.spec (λ c κs. search needs) (λ c. search needs) (λ c. search needs) returns check-entry-requires returns-2)

@@ -5,7 +5,8 @@ use Prim.Native.Nat.{_+_, _*_, _-_, _≤_}
 use native.Mathlib.Omega.{arith}
 use lib.ListN.{length}
 use borrow.Author.Needs.{needs}
-use Rattle.segments.specs.Entries.{count, headerOf, totalUpTo, totalOf}
+use Rattle.segments.specs.Entries.{count, headerOf}
+use Rattle.segments.specs.Cuts.{totalUpTo, totalOf}
 use Rattle.segments.proofs.ListLaws.{header-length, total-next}
 use Rattle.segments.proofs.EntryLaws.{list-short}
 use Rattle.segments.proofs.message_length.Statement.{statement}
