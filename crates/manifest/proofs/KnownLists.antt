@@ -27,6 +27,10 @@ seven = record { variant = 1; digest = replicate 10 7 }
 abbrev other : Expected
 other = record { variant = 6; digest = replicate 11 255 }
 
+-- of a variant that is not known
+abbrev unknown : Expected
+unknown = record { variant = 12; digest = [] }
+
 abbrev two : Axes
 two axis = cond (eqb axis 7) (some seven) (cond (eqb axis 258) (some other) none)
 
@@ -87,7 +91,11 @@ pub filler-first : manifestStatus (recordOf 7 seven ++ recordOf 7 (record { vari
 unfolding manifestStatus isManifest recordChecks risesAt fillerAt recordOf inBytes bigEndian variant
 filler-first = refl
 
--- but one that does not rise comes before a wrong one behind it
-pub earlier-first : manifestStatus (recordOf 7 seven ++ recordOf 7 seven ++ recordOf 8 (record { variant = 11; digest = [] })) ≡ Refused NotRising
+-- but one that does not rise comes before a wrong record after it; that record alone, of a variant that is not known, is refused with 13
+pub earlier-first : manifestStatus (recordOf 7 seven ++ recordOf 7 seven ++ recordOf 8 unknown) ≡ Refused NotRising
 unfolding manifestStatus isManifest recordChecks risesAt fillerAt recordOf inBytes bigEndian variant
 earlier-first = refl
+
+pub unknown-refused : manifestStatus (recordOf 8 unknown) ≡ Refused BadRecord
+unfolding manifestStatus isManifest recordChecks risesAt fillerAt recordOf inBytes bigEndian variant
+unknown-refused = refl
