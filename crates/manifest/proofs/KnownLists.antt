@@ -15,7 +15,7 @@ use Rattle.answers.specs.declared.Status.the-variants.{Done, Refused}
 use Rattle.answers.specs.Numbers.{Bytes, bigEndian, inBytes}
 use Rattle.standard.specs.Variants.{variant}
 use Rattle.standard.proofs.Tests.{either, lt-or-le, bound-below}
-use Rattle.manifest.specs.Records.{isManifest, recordCount, axisAt, digestAt, fillerAt, risesAt, recordChecks, manifestStatus, recordFor, isListed}
+use Rattle.manifest.specs.Records.{isManifest, recordCount, axisAt, digestAt, fillerAt, risesAt, recordChecks, manifestStatus}
 use Rattle.manifest.specs.Installations.{Expected, Axes, IsInstallation, recordOf, listOf, held}
 use Rattle.manifest.proofs.OneList.{passes-exactly, held-nothing}
 
@@ -59,7 +59,7 @@ neither axis a b (suc zero) h e = eqb-false axis 258 b (sym e)
 neither axis a b (suc (suc k)) h e = absurd (omega arith)
 
 rising-holds : held rising ≡ two
-unfolding held isListed recordFor digestAt bigEndian variant
+unfolding held digestAt bigEndian variant
 rising-holds =
     fun-ext
     (λ axis. ⊎-elim

@@ -16,7 +16,7 @@ use Rattle.manifest.specs.declared.tally.Tally.{Tally}
 use Rattle.manifest.specs.declared.current.Current.{Current}
 use Rattle.manifest.specs.declared.report.Report.{Report}
 use Rattle.manifest.specs.Tables.{mostTables}
-use Rattle.manifest.specs.Progress.{headed, grown, onward, isComplete, tallied, settled, byteTaken}
+use Rattle.manifest.specs.Progress.{headed, contentByte, onward, isComplete, tallied, settled, byteTaken}
 use Rattle.manifest.specs.Strides.{Stride}
 
 -- the table that is being read, with so much left and this running hash
@@ -44,12 +44,12 @@ module _ (list : List ℕ) where
 
   -- bytes of the contents, hashed one by one
   pub onward-bytes : (part : List ℕ) (c : Current) → 6 ≤ c .got → foldl (onward list) c part ≡ further c (c .left - length part) (foldl withByte (c .hasher) part)
-  unfolding onward grown
+  unfolding onward contentByte
   onward-bytes [] c h = let e : c .left ≡ c .left - 0 = omega arith in ap (λ (n : ℕ). further c n (c .hasher)) e
   onward-bytes (b ∷ part) c h =
       let e : c .left - 1 - length part ≡ c .left - suc (length part) = omega arith in
       rw (le-ltb (c .got) 6 h)
-      (onward-bytes part (grown c b) h ∙ ap (λ (n : ℕ). further c n (foldl withByte (c .hasher) (b ∷ part))) e)
+      (onward-bytes part (contentByte c b) h ∙ ap (λ (n : ℕ). further c n (foldl withByte (c .hasher) (b ∷ part))) e)
 
   module _ (y : Tally) (few : tallied y < mostTables) where
     -- one byte
@@ -59,19 +59,19 @@ module _ (list : List ℕ) where
 
     -- a byte inside the contents ends no table
     inside-byte : (p : Bool) (c : Current) (b : ℕ) → 6 ≤ c .got → 1 < c .left
-        → byteTaken list (reportWith p y c) b ≡ reportWith true y (grown c b)
-    unfolding settled onward isComplete grown
+        → byteTaken list (reportWith p y c) b ≡ reportWith true y (contentByte c b)
+    unfolding settled onward isComplete contentByte
     inside-byte p c b h l = one-byte p c b ∙ rw (le-ltb (c .got) 6 h, le-leb 6 (c .got) h, ne-eqb (c .left - 1) 0 (λ e. omega arith))
 
     -- so bytes of the contents end one by their last alone
     inside : (part : List ℕ) (p : Bool) (c : Current) (b : ℕ) → 6 ≤ c .got → suc (length part) ≤ c .left
         → foldl (byteTaken list) (reportWith p y c) (b ∷ part) ≡ settled list y (foldl (onward list) c (b ∷ part))
-    unfolding onward grown
+    unfolding onward contentByte
     inside [] p c b h l = one-byte p c b
     inside (d ∷ part) p c b h l =
         ap (λ (r : Report). foldl (byteTaken list) r (d ∷ part)) (inside-byte p c b h (omega arith))
-        ∙ inside part true (grown c b) d h (omega arith)
-        ∙ ap (λ (e : Current). settled list y (foldl (onward list) e (d ∷ part))) {x = grown c b} {y = onward list c b} (rw (le-ltb (c .got) 6 h))
+        ∙ inside part true (contentByte c b) d h (omega arith)
+        ∙ ap (λ (e : Current). settled list y (foldl (onward list) e (d ∷ part))) {x = contentByte c b} {y = onward list c b} (rw (le-ltb (c .got) 6 h))
 
     -- a stride
     pub stride-settled : (p : Bool) (c : Current) (part : List ℕ) → Stride c (length part)

@@ -1,4 +1,4 @@
--- The verdict on a listed table: a running hash that took its contents byte by byte matches the record of its axis exactly where the table agrees with it.
+-- The verdict on a listed table: a running hash that took its contents byte by byte matches the record of its axis exactly where the table is what that record expects.
 -- Assumes nothing.
 use mathlib.Core.Path.{_≡_, refl, sym, ap, ap₂, _∙_}
 use mathlib.Core.Bool.{Bool, true, false, _&&_}
@@ -28,8 +28,11 @@ use Rattle.hasher.proofs.Next.{onward-none}
 use Rattle.hasher.proofs.Calls.{start-unknown, start-done, update-done, finish-done, result-length}
 use Rattle.hasher.proofs.Message.{taken, fresh-sized, fresh-open, fresh-whole, fresh-kept, none-kept, taken-open, end-status, end-into, whole-done}
 use Rattle.hasher.proofs.Demand2.{whole-digest}
-use Rattle.manifest.specs.Records.{recordCount, variantAt, filledAt, digestBytes, digestAt, fillerAt, zeros, manifestStatus, recordFor, isListed}
-use Rattle.manifest.specs.Counts.{same, agrees}
+use Rattle.manifest.specs.Lists.{same}
+use Rattle.manifest.specs.Records.{recordCount, variantAt, filledAt, digestBytes, digestAt, fillerAt, zeros, manifestStatus}
+use Rattle.manifest.specs.Installations.{expectedAt}
+use Rattle.manifest.specs.Counts.{isExpected}
+use Rattle.manifest.specs.Lookups.{recordFor, isListed}
 use Rattle.manifest.specs.Progress.{hashedUnder, matches}
 use Rattle.manifest.proofs.Counting.{and-yes, and-assoc}
 use Rattle.manifest.proofs.RecordLaws.{filled-length}
@@ -62,7 +65,7 @@ none-matches : (list : List ℕ) (k : ℕ) → matches list k (blank 0) ≡ fals
 unfolding matches finished readStatus wellFormed
 none-matches list k = refl
 
--- ---- the digest in 32 bytes, zeros behind it
+-- ---- the digest in 32 bytes, zeros after it
 
 -- rows compared part by part
 same-append : (a b c d : List ℕ) → length a ≡ length c → same (a ++ b) (c ++ d) ≡ (same a c && same b d)
@@ -100,7 +103,7 @@ module _ (list : List ℕ) (passes : manifestStatus list ≡ Done) (k : ℕ) (he
   room : digestBytes v ≤ 32
   room = omega (arith, bounds v named .digest-most)
 
-  -- so many bytes with zeros behind them are the record's 32 where they are its digest
+  -- so many bytes with zeros after them are the record's 32 where they are its digest
   digest-alone : (d : List ℕ) → length d ≡ digestBytes v → same (d ++ drop (digestBytes v) (replicate 32 0)) (filledAt list k) ≡ same d (digestAt list k)
   unfolding digestAt fillerAt
   digest-alone d l =
@@ -136,12 +139,13 @@ module _ (list : List ℕ) (passes : manifestStatus list ≡ Done) (axis : ℕ) 
   unfolding isListed
   here = ltb-true (recordFor list axis) (recordCount list) is
 
-  -- The running hash under the variant of the axis's record, after every byte of the contents, matches that record exactly where the table
-  -- agrees with it; past the limit neither.
-  pub verdict : matches list (recordFor list axis) (foldl withByte (started (hashedUnder list axis (length m)) .hasher) m) ≡ agrees list (recordFor list axis) m
-  unfolding hashedUnder agrees
+  -- The running hash under the variant of the axis's record, after every byte of the contents, matches that record exactly where the table is
+  -- what it expects; past the limit neither.
+  pub verdict : matches list (recordFor list axis) (foldl withByte (started (hashedUnder list axis (length m)) .hasher) m) ≡ isExpected (expectedAt list (recordFor list axis)) m
+  unfolding hashedUnder isExpected
   verdict =
+      let n = named list passes k here in
       ⊎-elim
-      (λ l. rw (lt-leb (length m) most l, is, none-taken m) (none-matches list k))
-      (λ l. rw (le-leb (length m) most l, is, contents-taken (variantAt list k) (named list passes k here) m l) (hashed-matches list passes k here m l))
+      (λ l. rw (lt-leb (length m) most l, is, n, none-taken m) (none-matches list k))
+      (λ l. rw (le-leb (length m) most l, is, n, contents-taken (variantAt list k) n m l) (hashed-matches list passes k here m l))
       (lt-or-le most (length m))

@@ -6,7 +6,7 @@ ghost use Prim.Native.Nat.{_+_, _-_, _*_, _≤_, _<_};
 ghost use lib.ListN.{length};
 ghost use Rattle.answers.specs.Outputs.{mostBits};
 ghost use Rattle.hasher.specs.Pieces.{withByte};
-ghost use Rattle.manifest.specs.Places.{isOrdered};
+ghost use Rattle.manifest.specs.Lookups.{isOrdered};
 ghost use Rattle.manifest.specs.Tables.{headerBytes, axisIn, lengthIn};
 ghost use Rattle.manifest.specs.Progress.{unread, hashedUnder, opened, headed, onward, isComplete};
 ghost use Rattle.manifest.specs.Strides.{Stride};

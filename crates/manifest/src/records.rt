@@ -4,13 +4,14 @@ ghost use mathlib.Core.Bool.{true};
 ghost use Prim.Native.Nat.{_*_, _+_, _≤_, _<_};
 ghost use lib.ListN.{drop};
 ghost use Rattle.answers.specs.Checks.{firstRefusal};
-ghost use Rattle.manifest.specs.Records.{isManifest, recordCount, axisAt, variantAt, filledAt, zeros, risesAt, recordChecks, manifestStatus, recordFor};
-ghost use Rattle.manifest.specs.Places.{isOrdered, Place};
+ghost use Rattle.manifest.specs.Records.{isManifest, recordCount, axisAt, variantAt, filledAt, zeros, risesAt, recordChecks, manifestStatus};
+ghost use Rattle.manifest.specs.Lookups.{isOrdered, recordFor};
+ghost use Rattle.manifest.specs.Places.{Place};
 use answers::Refusal;
 use answers::Status;
 use sponge::DIGEST_BYTES;
 
-// A record: two bytes of axis number, one of variant, and 32 of the digest and the filler behind it.
+// A record: two bytes of axis number, one of variant, and 32 of the digest and the filler after it.
 pub const RECORD_BYTES: usize = 35;
 
 pub const MOST_RECORDS: usize = 512;

@@ -5,9 +5,9 @@ ghost use mathlib.Core.List.{foldl};
 ghost use Prim.Native.Nat.{_<_};
 ghost use lib.ListN.{length};
 ghost use Rattle.manifest.specs.Records.{isManifest};
-ghost use Rattle.manifest.specs.Places.{isOrdered};
+ghost use Rattle.manifest.specs.Lookups.{isOrdered};
 ghost use Rattle.manifest.specs.Tables.{mostTables};
-ghost use Rattle.manifest.specs.Progress.{tallied, settled, byteTaken, fresh, countsSoFar};
+ghost use Rattle.manifest.specs.Progress.{tallied, settled, byteTaken, freshReport, countsSoFar};
 ghost use Rattle.manifest.specs.Strides.{Stride};
 ghost use Rattle.manifest.specs.Progress.{taken as Progress·taken, begun as Progress·begun};
 use crate::current;
@@ -45,9 +45,9 @@ pub struct Summary {
 }
 
 // No table read yet.
-fn fresh(list: &[u8]) -> Report
+fn fresh_report(list: &[u8]) -> Report
     requires { ⌜ isManifest (now list) ≡ true ⌝ }
-    ensures { λ r. ⌜ r ≡ fresh (now (list .entry)) ⌝ }
+    ensures { λ r. ⌜ r ≡ freshReport (now (list .entry)) ⌝ }
 {
     let n = tally::listed(list);
     Report {
@@ -72,7 +72,7 @@ pub fn begun(list: &[u8]) -> Beginning
     if let Status::Done = status {
         return Beginning {
             status: Status::Done,
-            report: fresh(list),
+            report: fresh_report(list),
         };
     }
     Beginning {
@@ -122,7 +122,7 @@ fn stepped(list: &[u8], r: Report, part: &[u8]) -> Report
     settled(list, r.tally, current::onward(list, r.current, part))
 }
 
-// The report after a piece of the stream. Behind the last table that it looks at nothing changes it.
+// The report after a piece of the stream. After the last table that it looks at nothing changes it.
 pub fn taken(list: &[u8], report: Report, piece: &[u8]) -> Report
     ensures { λ r. ⌜ r ≡ Progress·taken (now (list .entry)) report (now (piece .entry)) ⌝ }
 {

@@ -3,11 +3,12 @@ ghost use mathlib.Core.Path.{_≡_};
 ghost use mathlib.Core.Bool.{true};
 ghost use Prim.Native.Nat.{_≤_, _<_};
 ghost use lib.ListN.{length};
+ghost use Rattle.standard.specs.Bits.{digit};
+ghost use Rattle.manifest.specs.Lists.{same};
 ghost use Rattle.manifest.specs.Records.{mostRecords, isManifest, recordCount};
-ghost use Rattle.manifest.specs.Places.{isOrdered};
+ghost use Rattle.manifest.specs.Lookups.{isOrdered};
 ghost use Rattle.manifest.specs.Tables.{mostTables};
-ghost use Rattle.manifest.specs.Counts.{same, listed};
-ghost use Rattle.manifest.specs.Progress.{bit, tallied, matches, withListed, withUnlisted, withTable, awaitedAll};
+ghost use Rattle.manifest.specs.Progress.{tallied, matches, withListed, withUnlisted, withTable, awaitedAll};
 use crate::current::Current;
 use crate::current::axis_in;
 use crate::current::minus;
@@ -29,8 +30,8 @@ pub struct Tally {
 }
 
 // 1 where the condition holds.
-fn bit(b: bool) -> u8
-    ensures { λ r. ⌜ (r ≡ bit b) × (r ≤ 1) ⌝ }
+fn one_if(b: bool) -> u8
+    ensures { λ r. ⌜ (r ≡ digit b) × (r ≤ 1) ⌝ }
 {
     if b { 1 } else { 0 }
 }
@@ -50,10 +51,10 @@ pub fn awaited_all(list: &[u8]) -> [u8; MOST_RECORDS]
     out
 }
 
-// How many axes are listed.
+// How many axes are listed: each record has its own.
 pub fn listed(list: &[u8]) -> u16
     requires { ⌜ isManifest (now list) ≡ true ⌝ }
-    ensures { λ r. ⌜ r ≡ listed (now (list .entry)) ⌝ }
+    ensures { λ r. ⌜ r ≡ recordCount (now (list .entry)) ⌝ }
 {
     (list.len() / RECORD_BYTES) as u16
 }
@@ -105,8 +106,8 @@ fn with_listed(y: Tally, k: usize, agrees: bool) -> Tally
     awaited[k] = 0;
     let untold = minus(y.untold as u32, due as u32) as u16;
     let differs = !agrees;
-    let equal = y.equal + bit(agrees) as u16;
-    let unequal = y.unequal + bit(differs) as u16;
+    let equal = y.equal + one_if(agrees) as u16;
+    let unequal = y.unequal + one_if(differs) as u16;
     Tally {
         listed: y.listed,
         untold: untold,

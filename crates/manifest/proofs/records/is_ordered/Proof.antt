@@ -6,7 +6,7 @@ use native.Mathlib.Omega.{arith}
 use borrow.Author.Count.{below-none, below-more}
 use borrow.Author.Tests.{not-true, not-false}
 use Rattle.manifest.specs.Records.{isManifest, recordCount, risesAt}
-use Rattle.manifest.specs.Places.{isOrdered}
+use Rattle.manifest.specs.Lookups.{isOrdered}
 use Rattle.manifest.proofs.RecordLaws.{everyBelow-all, everyBelow-not}
 use Rattle.manifest.proofs.records.is_ordered.Statement.{statement}
 use Rattle.manifest.proofs.records.is_ordered.Tie as tie

@@ -6,12 +6,12 @@ use Rattle.manifest.proofs.RecordLaws.{passing-manifest}
 use Rattle.manifest.proofs.report.begun.Statement.{statement}
 use Rattle.manifest.proofs.report.begun.Tie as tie
 
-fresh-requires : tie.Need-fresh-requires
-fresh-requires c κs = passing-manifest _ (sym (c .before .before .check .ensures) ∙ c .enum-told .given .1)
+fresh-report-requires : tie.Need-fresh-report-requires
+fresh-report-requires c κs = passing-manifest _ (sym (c .before .before .check .ensures) ∙ c .enum-told .given .1)
 
 returns : tie.Need-returns
 unfolding begun
-returns c = rw (sym (c .before .before .before .check .ensures) ∙ c .before .enum-told .given .1, c .fresh .ensures)
+returns c = rw (sym (c .before .before .before .check .ensures) ∙ c .before .enum-told .given .1, c .fresh-report .ensures)
 
 returns-2 : tie.Need-returns-2
 unfolding begun
@@ -21,4 +21,4 @@ returns-2 c =
 
 pub begun-spec : {M : Type 1} → statement M
 begun-spec =
-    tie.close (tie.spec (λ c κs. search needs) (λ c. search needs) fresh-requires returns (λ c. search needs) (λ c κs. search needs) returns-2)
+    tie.close (tie.spec (λ c κs. search needs) (λ c. search needs) fresh-report-requires returns (λ c. search needs) (λ c κs. search needs) returns-2)

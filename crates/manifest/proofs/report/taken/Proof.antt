@@ -6,7 +6,7 @@ use Prim.Native.Nat.{_-_, _≤_, _<_}
 use native.Mathlib.Omega.{arith}
 use lib.ListN.{length, drop, drop-of-length-le}
 use borrow.Author.Tests.{ltb-true, ltb-false, not-true, not-false}
-use Rattle.manifest.specs.Places.{isOrdered}
+use Rattle.manifest.specs.Lookups.{isOrdered}
 use Rattle.manifest.specs.Tables.{mostTables}
 use Rattle.manifest.specs.Progress.{tallied, byteTaken, taken}
 use Rattle.manifest.specs.Strides.{Stride}
