@@ -18,7 +18,9 @@ use Rattle.manifest.specs.Installations.{Expected, Axes, allAxes, isTher
 
 -- what a report says of a table: it is the one that its axis should hold, it is not, or its axis is not there
 pub data Verdict : Type 0 where
-  equal unequal unlisted : Verdict
+  equal : Verdict
+  unequal : Verdict
+  unlisted : Verdict
 
 -- a table is what is expected: within the limit of a message, and with the expected digest under the expected variant. Under a variant that is not
 -- known nothing has a digest
