@@ -27,14 +27,14 @@ use Rattle.manifest.specs.Installations.{expectedAt, held}
 use Rattle.manifest.specs.Tables.{Table, axisIn, spanOf, isWhole, firstTable, tablesUpTo, mostTables, tablesIn}
 use Rattle.manifest.specs.Counts.{isExpected, countsOf}
 use Rattle.manifest.specs.Lookups.{isOrdered, recordFor, isListed}
-use Rattle.manifest.specs.Progress.{unread, hashedUnder, onward, isComplete, tallied, matches, withTable, settled, byteTaken, taken, freshReport, empty, begun, countsSoFar}
+use Rattle.manifest.specs.Progress.{unread, hashedUnder, tableByte, isComplete, tallied, matches, withTable, settled, byteTaken, pieceTaken, freshReport, empty, begun, countsSoFar}
 use Rattle.manifest.specs.Promises.{reported, countsOver, ReportCounts, CutAnywhere, CountsInPieces, BegunStatus, NothingCounted}
 use Rattle.manifest.proofs.Counting.{countBelow, count-most}
 use Rattle.manifest.proofs.AxisLaws.{listed-records, untold-records}
 use Rattle.manifest.proofs.OrderLaws.{Rising, passing-rises, passing-ordered}
 use Rattle.manifest.proofs.Sums.{each-counts-once, few-tables}
 use Rattle.manifest.proofs.StrideLaws.{reportWith, full-stays}
-use Rattle.manifest.proofs.TableLaws.{nothing-whole, none-whole, contents-left, tables-behind, ends-exactly}
+use Rattle.manifest.proofs.TableLaws.{nothing-whole, none-whole, contents-left, tables-after, ends-exactly}
 use Rattle.manifest.proofs.ReadSoFar.{reading, pastHeader, complete-is-whole, whole-read}
 use Rattle.manifest.proofs.RecordLaws.{manifest-few, passing-manifest}
 use Rattle.manifest.proofs.Verdicts.{verdict}
@@ -58,17 +58,17 @@ unfolding axisIn
 header-axis s = ap bigEndian (take-take 2 6 s (omega arith))
 
 -- a report of nothing takes nothing
-nothing-taken : (list p : List ℕ) → taken list empty p ≡ empty
-unfolding taken
+nothing-taken : (list p : List ℕ) → pieceTaken list empty p ≡ empty
+unfolding pieceTaken
 nothing-taken list p = refl
 
 -- a byte leaves it so that the next is read
 passed-byte : (list : List ℕ) (r : Report) (b : ℕ) → r .passed ≡ true → byteTaken list r b .passed ≡ true
 unfolding byteTaken settled
-passed-byte list r b e = by (ltb (tallied (r .tally)) mostTables) (isComplete (onward list (r .current) b))
+passed-byte list r b e = by (ltb (tallied (r .tally)) mostTables) (isComplete (tableByte list (r .current) b))
   where
     by : (t c : Bool) → cond t
-        (cond c (reportWith true (withTable list (r .tally) (onward list (r .current) b)) unread) (reportWith true (r .tally) (onward list (r .current) b))) r .passed
+        (cond c (reportWith true (withTable list (r .tally) (tableByte list (r .current) b)) unread) (reportWith true (r .tally) (tableByte list (r .current) b))) r .passed
         ≡ true
     by true true = refl
     by true false = refl
@@ -106,7 +106,7 @@ module _ (list : List ℕ) (passes : manifestStatus list ≡ Done) where
     -- it is looked at
     looked-at : byteTaken list (reportOf list ts s) b ≡ settled list (tallyOf list ts) (reading list (s ++ b ∷ []))
     unfolding byteTaken
-    looked-at = rw (tallied-all list ts, lt-ltb (length ts) mostTables h, foldl-append (onward list) unread s (b ∷ []))
+    looked-at = rw (tallied-all list ts, lt-ltb (length ts) mostTables h, foldl-append (tableByte list) unread s (b ∷ []))
 
     -- a byte that ends the table
     last-byte : isWhole s ≡ false → isWhole (s ++ b ∷ []) ≡ true → byteTaken list (reportOf list ts s) b ≡ reportOf list (ts ++ firstTable (s ++ b ∷ []) ∷ []) []
@@ -137,7 +137,7 @@ module _ (list : List ℕ) (passes : manifestStatus list ≡ Done) where
       ∙ read-on x n (ts ++ firstTable next ∷ []) [] (omega (arith, length-append ts (firstTable next ∷ []))) nothing-whole
       ∙ ap (tallyOf list)
       (append-assoc ts (firstTable next ∷ []) (tablesUpTo n x)
-      ∙ ap (λ (us : List Table). ts ++ us) (sym (tables-behind next x n whole (ends-exactly s b short whole)) ∙ ap (tablesUpTo (suc n)) assoc)))
+      ∙ ap (λ (us : List Table). ts ++ us) (sym (tables-after next x n whole (ends-exactly s b short whole)) ∙ ap (tablesUpTo (suc n)) assoc)))
       (λ (inner : isWhole (s ++ b ∷ []) ≡ false).
       ap (λ (r : Report). foldl (byteTaken list) r x .tally) (inner-byte ts s b (omega arith) inner)
       ∙ read-on x (suc n) ts next e inner
@@ -152,11 +152,11 @@ module _ (list : List ℕ) (passes : manifestStatus list ≡ Done) where
   passed-on (b ∷ x) r e = passed-on x (byteTaken list r b) (passed-byte list r b e)
 
   -- each byte of each piece in turn is each byte of the stream
-  joined-bytes : (pieces : List (List ℕ)) (r : Report) → r .passed ≡ true → foldl (taken list) r pieces ≡ foldl (byteTaken list) r (joined pieces)
-  unfolding taken joined
+  joined-bytes : (pieces : List (List ℕ)) (r : Report) → r .passed ≡ true → foldl (pieceTaken list) r pieces ≡ foldl (byteTaken list) r (joined pieces)
+  unfolding pieceTaken joined
   joined-bytes [] r e = refl
   joined-bytes (p ∷ ps) r e =
-      ap (λ (t : Bool). foldl (taken list) (cond t (foldl (byteTaken list) r p) r) ps) {x = r .passed && isOrdered list} {y = true} (rw e (passing-ordered list passes))
+      ap (λ (t : Bool). foldl (pieceTaken list) (cond t (foldl (byteTaken list) r p) r) ps) {x = r .passed && isOrdered list} {y = true} (rw e (passing-ordered list passes))
       ∙ joined-bytes ps (foldl (byteTaken list) r p) (passed-on p r e)
       ∙ sym (foldl-append (byteTaken list) r p (joined ps))
 
@@ -169,7 +169,7 @@ module _ (list : List ℕ) (passes : manifestStatus list ≡ Done) where
   reported-tally : (pieces : List (List ℕ)) → reported list pieces .tally ≡ tallyOf list (tablesIn (joined pieces))
   unfolding reported tablesIn
   reported-tally pieces =
-      ap (λ (r : Report). foldl (taken list) r pieces .tally) from-the-start
+      ap (λ (r : Report). foldl (pieceTaken list) r pieces .tally) from-the-start
       ∙ ap (λ (r : Report). r .tally) (joined-bytes pieces (reportOf list [] []) refl)
       ∙ read-on (joined pieces) mostTables [] [] (omega arith) nothing-whole
 
@@ -205,11 +205,11 @@ cut-anywhere list passes xs ys e =
 -- After a beginning that was refused the report stays that of nothing.
 pub nothing-read : (list : List ℕ) → (manifestStatus list ≡ Done → ⊥) → (pieces : List (List ℕ)) → reported list pieces ≡ empty
 unfolding reported begun
-nothing-read list n pieces = ap (λ (r : Report). foldl (taken list) r pieces) (kept (manifestStatus list) (freshReport list) empty n) ∙ stays pieces
+nothing-read list n pieces = ap (λ (r : Report). foldl (pieceTaken list) r pieces) (kept (manifestStatus list) (freshReport list) empty n) ∙ stays pieces
   where
-    stays : (ps : List (List ℕ)) → foldl (taken list) empty ps ≡ empty
+    stays : (ps : List (List ℕ)) → foldl (pieceTaken list) empty ps ≡ empty
     stays [] = refl
-    stays (p ∷ ps) = ap (λ (r : Report). foldl (taken list) r ps) (nothing-taken list p) ∙ stays ps
+    stays (p ∷ ps) = ap (λ (r : Report). foldl (pieceTaken list) r ps) (nothing-taken list p) ∙ stays ps
 
 -- So nothing is counted.
 pub nothing-counted : NothingCounted

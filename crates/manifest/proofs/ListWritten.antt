@@ -1,4 +1,4 @@
--- The list of an installation: each axis that is there stands behind as many records as there are lower axes, the list passes, and it holds the installation.
+-- The list of an installation: each axis that is there stands after as many records as there are lower axes, the list passes, and it holds the installation.
 -- Assumes nothing.
 use mathlib.Core.Path.{_≡_, refl, sym, ap, subst, _∙_}
 use mathlib.Core.List.{List}
@@ -54,7 +54,7 @@ module _ (axes : Axes) (sound : (axis : ℕ) (e : Expected) → axes axis ≡ so
   below-bytes zero = λ i. omega arith
   below-bytes (suc n) = append-bytes (listBelow n axes) (recordIf n (axes n)) (below-bytes n) (adds-bytes n (axes n) (sound n))
 
-  -- an axis stands behind as many records as there are lower axes
+  -- an axis stands after as many records as there are lower axes
   row-of : (n axis : ℕ) (e : Expected) → axis < n → axes axis ≡ some e → rowAt (listBelow n axes) (countOf axes axis) ≡ recordOf axis e
   row-of zero axis e h is = absurd (not-suc-le-zero h)
   row-of (suc n) axis e h is =

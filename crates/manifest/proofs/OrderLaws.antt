@@ -28,10 +28,10 @@ unfolding risesAt
 rises-first list zero e = refl
 rises-first list (suc k) e = absurd (omega arith)
 
-pub rises-behind : (list : List ℕ) (k : ℕ) → (k ≡ 0 → ⊥) → ltb (axisAt list (k - 1)) (axisAt list k) ≡ risesAt list k
+pub rises-after : (list : List ℕ) (k : ℕ) → (k ≡ 0 → ⊥) → ltb (axisAt list (k - 1)) (axisAt list k) ≡ risesAt list k
 unfolding risesAt
-rises-behind list zero n = absurd (n refl)
-rises-behind list (suc k) n = let e : suc k - 1 ≡ k = omega arith in ap (λ (j : ℕ). ltb (axisAt list j) (axisAt list (suc k))) e
+rises-after list zero n = absurd (n refl)
+rises-after list (suc k) n = let e : suc k - 1 ≡ k = omega arith in ap (λ (j : ℕ). ltb (axisAt list j) (axisAt list (suc k))) e
 
 -- of any two records the later has the higher number
 abbrev pub Rising : List ℕ → Type 0
@@ -142,7 +142,7 @@ module _ (list : List ℕ) (axis : ℕ) (rising : Rising list) where
       (λ (e : m ≤ j). let q : j ≡ m = omega arith in subst (λ (k : ℕ). axisAt list k < axis) (sym q) l)
       (lt-or-le j m)
 
-  -- or none behind it
+  -- or none after it
   pub others-from : (m : ℕ) → axis ≤ axisAt list m → (j : ℕ) → m ≤ j → j < recordCount list → axis ≤ axisAt list j
   others-from m l j i h =
       ⊎-elim

@@ -1,5 +1,5 @@
 -- Need not be believed: in-pieces says what the three calls in a row come to.
--- A report in progress: what each byte of the stream makes of it, for the contracts of begun, taken and counts. Total: a report that no stream leads to has
+-- A report in progress: what each byte of the stream makes of it, for the contracts of a report's calls. Total: a report that no stream leads to has
 -- its next one too.
 -- Assumes nothing.
 use mathlib.Core.Bool.{Bool, true, false, cond, not, _&&_}
@@ -37,23 +37,23 @@ unfoldable pub hashedUnder : List ℕ → ℕ → ℕ → ℕ
 hashedUnder list axis n = cond (isListed list axis && leb n most) (variantAt list (recordFor list axis)) 0
 
 -- its header is there, and the contents are to come
-unfoldable pub opened : List ℕ → List ℕ → Current
-opened list header =
+unfoldable pub openedTable : List ℕ → List ℕ → Current
+openedTable list header =
     record { header = header; got = headerBytes; left = lengthIn header; hasher = started (hashedUnder list (axisIn header) (lengthIn header)) .hasher }
 
 -- a byte of the header
-unfoldable pub headed : List ℕ → Current → ℕ → Current
-headed list c b =
+unfoldable pub headerByte : List ℕ → Current → ℕ → Current
+headerByte list c b =
     cond (ltb (c .got + 1) headerBytes)
     (record { header = set (c .header) (c .got) b; got = c .got + 1; left = c .left; hasher = c .hasher })
-    (opened list (set (c .header) (c .got) b))
+    (openedTable list (set (c .header) (c .got) b))
 
 -- a byte of the contents
 unfoldable pub contentByte : Current → ℕ → Current
 contentByte c b = record { header = c .header; got = c .got; left = c .left - 1; hasher = withByte (c .hasher) b }
 
-unfoldable pub onward : List ℕ → Current → ℕ → Current
-onward list c b = cond (ltb (c .got) headerBytes) (headed list c b) (contentByte c b)
+unfoldable pub tableByte : List ℕ → Current → ℕ → Current
+tableByte list c b = cond (ltb (c .got) headerBytes) (headerByte list c b) (contentByte c b)
 
 -- its last byte was read
 unfoldable pub isComplete : Current → Bool
@@ -103,11 +103,11 @@ settled list y c =
 
 -- a byte of the stream; none is looked at after the last table
 unfoldable pub byteTaken : List ℕ → Report → ℕ → Report
-byteTaken list r b = cond (ltb (tallied (r .tally)) mostTables) (settled list (r .tally) (onward list (r .current) b)) r
+byteTaken list r b = cond (ltb (tallied (r .tally)) mostTables) (settled list (r .tally) (tableByte list (r .current) b)) r
 
 -- each byte of a piece in turn; after a beginning that was refused, and with bytes that are not whole records or do not rise, nothing is read
-unfoldable pub taken : List ℕ → Report → List ℕ → Report
-taken list r piece = cond (r .passed && isOrdered list) (foldl (byteTaken list) r piece) r
+unfoldable pub pieceTaken : List ℕ → Report → List ℕ → Report
+pieceTaken list r piece = cond (r .passed && isOrdered list) (foldl (byteTaken list) r piece) r
 
 -- every axis awaited, by its record
 unfoldable pub awaitedAll : List ℕ → List ℕ

@@ -14,13 +14,13 @@ use Rattle.manifest.specs.Records.{recordCount, axisAt, manifestStatus}
 use Rattle.manifest.specs.Installations.{Axes, IsInstallation, listOf, expectedAt, held}
 use Rattle.manifest.specs.Tables.{mostTables}
 use Rattle.manifest.specs.Counts.{countsOf}
-use Rattle.manifest.specs.Progress.{begun, taken, countsSoFar}
+use Rattle.manifest.specs.Progress.{begun, pieceTaken, countsSoFar}
 
 -- ---- a report counts what is there
 
 -- the calls of a report in a row: it is begun with a manifest and takes each piece of a stream in turn
 unfoldable pub reported : List ℕ → List (List ℕ) → Report
-reported list pieces = foldl (taken list) (begun list .report) pieces
+reported list pieces = foldl (pieceTaken list) (begun list .report) pieces
 
 -- the counts that it has come to
 unfoldable pub countsOver : List ℕ → List (List ℕ) → Summary

@@ -30,11 +30,11 @@ fn feed_some(list: &[u8], report: Report) -> Fed {
     let mut buffer = io::large_buffer();
     let got = libc::read(STDIN_FILENO, &mut buffer);
     let n = io::count(got, &buffer);
-    let next = manifest::taken(list, report, &buffer[..n]);
-    let counts = manifest::counts(next);
+    let next = manifest::update(list, report, &buffer[..n]);
+    let summary = manifest::summary_of(next);
     Fed {
         report: next,
-        more: 0 < got && counts.tables < MOST_TABLES,
+        more: 0 < got && summary.tables < MOST_TABLES,
         failed: got < 0,
     }
 }
@@ -72,16 +72,16 @@ fn show_fed(fed: Fed) {
     if fed.failed {
         complain();
     } else {
-        show_summary(manifest::counts(fed.report));
+        show_summary(manifest::summary_of(fed.report));
     }
 }
 
 // The report of the tables in the input.
 fn report_on(list: &[u8]) {
-    let begun = manifest::begun(list);
-    let status = begun.status;
+    let started = manifest::start(list);
+    let status = started.status;
     match status {
-        Status::Done => show_fed(feed_all(list, begun.report)),
+        Status::Done => show_fed(feed_all(list, started.report)),
         Status::Refused(r) => show_refusal(r),
     }
 }

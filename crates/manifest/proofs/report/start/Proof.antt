@@ -1,10 +1,10 @@
--- `manifest::report::begun` meets its contract. Assumes nothing.
+-- `manifest::report::start` meets its contract. Assumes nothing.
 use mathlib.Core.Path.{sym, _∙_}
 use borrow.Author.Needs.{needs}
 use Rattle.manifest.specs.Progress.{begun}
 use Rattle.manifest.proofs.RecordLaws.{passing-manifest}
-use Rattle.manifest.proofs.report.begun.Statement.{statement}
-use Rattle.manifest.proofs.report.begun.Tie as tie
+use Rattle.manifest.proofs.report.start.Statement.{statement}
+use Rattle.manifest.proofs.report.start.Tie as tie
 
 fresh-report-requires : tie.Need-fresh-report-requires
 fresh-report-requires c κs = passing-manifest _ (sym (c .before .before .check .ensures) ∙ c .enum-told .given .1)
@@ -19,6 +19,6 @@ returns-2 c =
     let e = sym (c .before .before .before .check .ensures) ∙ c .before .enum-told2 .given .1 in
     rw (e, c .unread .ensures, c .before .enum-told2 .given .1)
 
-pub begun-spec : {M : Type 1} → statement M
-begun-spec =
+pub start-spec : {M : Type 1} → statement M
+start-spec =
     tie.close (tie.spec (λ c κs. search needs) (λ c. search needs) fresh-report-requires returns (λ c. search needs) (λ c κs. search needs) returns-2)
