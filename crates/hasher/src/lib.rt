@@ -7,8 +7,7 @@ ghost use lib.ListN.{length, take, drop, getD, replicate};
 ghost use Rattle.standard.specs.Bits.{high-first, bitsOf, bitsIn};
 ghost use Rattle.standard.specs.Sponge.{stateIn};
 ghost use Rattle.standard.specs.Chain.{messageBits, endState};
-ghost use Rattle.standard.specs.Messages.{bytes, givenBits};
-ghost use Rattle.standard.specs.Messages as given-as;
+ghost use Rattle.standard.specs.Messages.{bytes, partial, givenBits};
 ghost use Rattle.standard.specs.Variants.{variant, known};
 ghost use Rattle.answers.specs.declared.Status.the-variants.{Done};
 ghost use Rattle.answers.specs.Checks.{firstRefusal};
@@ -278,7 +277,7 @@ pub fn update(h: Hasher, piece: &[u8]) -> Advanced
 
 // A piece whose last byte contributes `bits` bits: refusals 2, 3, 15, 16, 4.
 pub fn update_bits(h: Hasher, piece: &[u8], bits: u32) -> Advanced
-    ensures { λ r. ⌜ r ≡ updated h (given-as.bits (now (piece .entry)) bits) ⌝ }
+    ensures { λ r. ⌜ r ≡ updated h (partial (now (piece .entry)) bits) ⌝ }
 {
     update_with(h, piece, Ending::Bits(bits))
 }
@@ -477,8 +476,8 @@ pub fn whole(variant: u32, message: &[u8], wanted: Wanted, out: &mut [u8]) -> St
 
 // A whole message whose last byte contributes `bits` bits: refusals 1, 15, 4, 5.
 pub fn whole_bits(variant: u32, message: &[u8], bits: u32, wanted: Wanted, out: &mut [u8]) -> Status
-    ensures { λ r. ⌜ (r ≡ wholeStatus variant (given-as.bits (now (message .entry)) bits) wanted (length (now (out .entry))))
-        × (now (out .exit) ≡ wholeInto variant (given-as.bits (now (message .entry)) bits) wanted (now (out .entry))) ⌝ }
+    ensures { λ r. ⌜ (r ≡ wholeStatus variant (partial (now (message .entry)) bits) wanted (length (now (out .entry))))
+        × (now (out .exit) ≡ wholeInto variant (partial (now (message .entry)) bits) wanted (now (out .entry))) ⌝ }
 {
     whole_with(variant, message, Ending::Bits(bits), wanted, out)
 }

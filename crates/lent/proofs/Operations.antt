@@ -30,7 +30,7 @@ abbrev pub pieceBits : Beside 2
 pieceBits = bytes 1 tt and number w32 and none
 
 abbrev pub updatingBits : Hasher × pieceBits .Value → Advanced
-updatingBits h = updated (h .0) (given.bits (h .1 .0) (h .1 .1 .0))
+updatingBits h = updated (h .0) (given.partial (h .1 .0) (h .1 .1 .0))
 
 abbrev pub finishing : Hasher × none {n = 1} .Value → Advanced
 finishing h = finished (h .0)

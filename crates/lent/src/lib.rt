@@ -1,8 +1,7 @@
 // The running hash that a caller lends and finds advanced, and the cursor that carries a lent segment list.
 ghost use mathlib.Core.Path.{_≡_};
 ghost use lib.ListN.{length};
-ghost use Rattle.standard.specs.Messages.{bytes};
-ghost use Rattle.standard.specs.Messages as given-as;
+ghost use Rattle.standard.specs.Messages.{bytes, partial};
 ghost use Rattle.hasher.specs.Running.{startedOver, updated, finished};
 ghost use Rattle.hasher.specs.Reading.{readStatus, readInto};
 ghost use Rattle.hasher.specs.declared.Wanted.the-variants.{Digest, EndState};
@@ -33,8 +32,8 @@ pub fn update(h: &mut Hasher, piece: &[u8]) -> Status
 
 // A piece whose last byte contributes `bits` bits: refusals 2, 3, 15, 16, 4.
 pub fn update_bits(h: &mut Hasher, piece: &[u8], bits: u32) -> Status
-    ensures { λ r. ⌜ (r ≡ updated (now (h .entry)) (given-as.bits (now (piece .entry)) bits) .status)
-        × (now (h .exit) ≡ updated (now (h .entry)) (given-as.bits (now (piece .entry)) bits) .hasher) ⌝ }
+    ensures { λ r. ⌜ (r ≡ updated (now (h .entry)) (partial (now (piece .entry)) bits) .status)
+        × (now (h .exit) ≡ updated (now (h .entry)) (partial (now (piece .entry)) bits) .hasher) ⌝ }
 {
     let a = hasher::update_bits(*h, piece, bits);
     *h = a.hasher;

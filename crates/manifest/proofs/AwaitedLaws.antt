@@ -9,10 +9,11 @@ use lib.Dec.{ltb}
 use lib.ListN.{getD, replicate, getD-replicate}
 use borrow.Author.Tests.{lt-ltb, le-ltb}
 use Rattle.arrays.proofs.Upto.{Upto}
+use Rattle.standard.specs.Bits.{digit}
 use Rattle.standard.proofs.Tab.{tab-self, tab-cong}
 use Rattle.standard.proofs.Tests.{lt-or-le}
 use Rattle.manifest.specs.Records.{recordCount}
-use Rattle.manifest.specs.Progress.{bit, awaitedAll}
+use Rattle.manifest.specs.Progress.{awaitedAll}
 
 -- after k records
 abbrev pub Awaited : ℕ → List ℕ → Type 0
@@ -22,8 +23,8 @@ pub all-awaited : (list : List ℕ) (n : ℕ) → n ≡ recordCount list → (ou
 unfolding awaitedAll
 all-awaited list n e out u =
     sym (tab-self 512 out 0 (u .len))
-    ∙ tab-cong 512 (λ k. getD out k 0) (λ k. bit (ltb k (recordCount list)))
+    ∙ tab-cong 512 (λ k. getD out k 0) (λ k. digit (ltb k (recordCount list)))
     (λ k h. ⊎-elim
-    (λ l. u .done k (omega arith) ∙ ap bit (sym (lt-ltb k (recordCount list) l)))
-    (λ l. u .rest k (omega arith) ∙ getD-replicate 512 k 0 0 h ∙ ap bit (sym (le-ltb k (recordCount list) l)))
+    (λ l. u .done k (omega arith) ∙ ap digit (sym (lt-ltb k (recordCount list) l)))
+    (λ l. u .rest k (omega arith) ∙ getD-replicate 512 k 0 0 h ∙ ap digit (sym (le-ltb k (recordCount list) l)))
     (lt-or-le k (recordCount list)))

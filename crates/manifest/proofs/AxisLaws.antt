@@ -1,32 +1,129 @@
--- The axes of a manifest are those of its records, and where the numbers rise each is there once.
+-- What a manifest holds of an axis, and its axes counted: where the numbers rise, those that it holds are as many as the records, whatever is asked of them besides.
 -- Assumes nothing.
-use mathlib.Core.Path.{_≡_, ap, _∙_}
-use mathlib.Core.Bool.{true, not, _&&_}
+use mathlib.Core.Path.{_≡_, refl, sym, ap, ap₂, _∙_}
+use mathlib.Core.Bool.{Bool, true, false, not, _&&_}
 use mathlib.Core.List.{List}
-use Prim.Native.Nat.{ℕ}
-use lib.Dec.{eqb, ltb}
-use Rattle.standard.proofs.Tab.{length-tab}
-use Rattle.manifest.specs.Records.{recordCount, axisAt, axesOf, recordFor, isListed}
-use Rattle.manifest.specs.Tables.{tablesIn}
-use Rattle.manifest.specs.Counts.{howMany, isTold, listed, untold}
-use Rattle.manifest.specs.Progress.{bit}
-use Rattle.manifest.proofs.Counting.{and-yes, countBelow, count-tab, count-same, count-only}
-use Rattle.manifest.proofs.OrderLaws.{Rising, record-is}
+use mathlib.Core.Logic.{⊎-elim}
+use mathlib.Core.Option.{Option, none, some, Option·map}
+use Prim.Native.Nat.{ℕ, zero, suc, _+_, _≤_, _<_}
+use native.Mathlib.Nat.{not-suc-le-zero}
+use native.Mathlib.Omega.{arith}
+use lib.Dec.{eqb}
+use borrow.Author.Tests.{ltb-true, ltb-false}
+use Rattle.answers.specs.Numbers.{Bytes}
+use Rattle.standard.specs.Bits.{digit}
+use Rattle.standard.proofs.Tests.{true-not-false, either, lt-or-le}
+use Rattle.manifest.specs.Lists.{howMany}
+use Rattle.manifest.specs.Records.{recordCount, axisAt}
+use Rattle.manifest.specs.Installations.{Expected, axisNumbers, allAxes, isThere, axisCount, expectedAt, held}
+use Rattle.manifest.specs.Tables.{Table}
+use Rattle.manifest.specs.Counts.{isTold, untold}
+use Rattle.manifest.specs.Lookups.{recordFor, isListed}
+use Rattle.manifest.specs.Places.{Place}
+use Rattle.manifest.proofs.Counting.{and-yes, countBelow, count-below, count-suc, count-same}
+use Rattle.manifest.proofs.RecordLaws.{first-found, first-none}
+use Rattle.manifest.proofs.OrderLaws.{Rising, record-listed, listed-record, others-from}
+use Rattle.manifest.proofs.RecordBytes.{axis-below}
 
-module _ (list : List ℕ) where
-  pub listed-records : listed list ≡ recordCount list
-  unfolding listed axesOf
-  listed-records = length-tab (recordCount list) (axisAt list)
+-- what is held of an axis: what its record says, or nothing
+module _ (list : List ℕ) (axis : ℕ) where
+  pub held-there : isListed list axis ≡ true → held list axis ≡ some (expectedAt list (recordFor list axis))
+  unfolding held isListed recordFor
+  held-there e =
+      ap (Option·map (expectedAt list)) (first-found (recordCount list) (λ k. eqb (axisAt list k) axis) (ltb-true (recordFor list axis) (recordCount list) e))
 
-  pub untold-records : (stream : List ℕ) → untold list stream ≡ countBelow (λ k. not (isTold (tablesIn stream) (axisAt list k))) (recordCount list)
-  unfolding untold axesOf
-  untold-records stream = count-tab (λ axis. not (isTold (tablesIn stream) axis)) (recordCount list) (axisAt list)
+  pub held-none : isListed list axis ≡ false → held list axis ≡ none
+  unfolding held isListed recordFor
+  held-none e =
+      ap (Option·map (expectedAt list)) (first-none (recordCount list) (λ k. eqb (axisAt list k) axis) (ltb-false (recordFor list axis) (recordCount list) e))
 
-  -- An axis that is listed stands in the row of axes once, and any other not at all.
-  pub axes-once : Rising list → (axis : ℕ) → howMany (eqb axis) (axesOf list) ≡ bit (isListed list axis)
-  unfolding axesOf isListed
-  axes-once rising axis =
-      count-tab (eqb axis) (recordCount list) (axisAt list)
-      ∙ count-same (λ k. eqb axis (axisAt list k)) (λ k. true && eqb k (recordFor list axis)) (recordCount list) (record-is list axis rising)
-      ∙ count-only (λ k. true) (recordFor list axis) (recordCount list)
-      ∙ ap bit (and-yes (ltb (recordFor list axis) (recordCount list)))
+module _ (list : List ℕ) (rising : Rising list) where
+  -- ---- places
+
+  -- the place of the next number is one further where this number is listed
+  pub place-next : (axis k : ℕ) → Place list (suc axis) k → isListed list axis ≡ true → k ≡ recordFor list axis + 1
+  place-next axis k p e =
+      let r = listed-record list axis e in
+      let j : ℕ = recordFor list axis in
+      ⊎-elim
+      (λ (l : j < k). ⊎-elim
+      (λ (m : j + 1 < k). absurd (omega (arith, p .lower (j + 1) m, rising j (j + 1) (omega arith) (omega (arith, p .within)), r .1)))
+      (λ (m : k ≤ j + 1). omega arith)
+      (lt-or-le (j + 1) k))
+      (λ (l : k ≤ j). absurd (omega (arith, p .others j l (r .0), r .1)))
+      (lt-or-le j k)
+
+  pub place-own : (axis : ℕ) → isListed list axis ≡ true → Place list axis (recordFor list axis)
+  place-own axis e =
+      let r = listed-record list axis e in
+      let j : ℕ = recordFor list axis in
+      record {
+        within = omega (arith, r .0);
+        lower = λ i l. omega (arith, rising i j l (r .0), r .1);
+        others = others-from list axis rising j (omega (arith, r .1));
+      }
+
+  -- and the same where it is not
+  pub place-same : (axis k : ℕ) → Place list (suc axis) k → isListed list axis ≡ false → Place list axis k
+  place-same axis k p e =
+      record {
+        within = p .within;
+        lower = λ j l. ⊎-elim
+            (λ (m : axisAt list j < axis). m)
+            (λ (m : axis ≤ axisAt list j). absurd (unlisted j (omega (arith, p .within)) (omega (arith, m, p .lower j l))))
+            (lt-or-le (axisAt list j) axis);
+        others = λ j l h. omega (arith, p .others j l h);
+      }
+    where
+      unlisted : (j : ℕ) → j < recordCount list → axisAt list j ≡ axis → ⊥
+      unlisted j h q = true-not-false (sym (record-listed list j h) ∙ ap (isListed list) q ∙ e)
+
+  -- ---- the axes that are held, counted
+
+  module _ (q : ℕ → Bool) where
+    -- an axis that is held and of which q holds
+    abbrev heldWith : ℕ → Bool
+    heldWith axis = isThere (held list axis) && q axis
+
+    -- those below a number are the records before its place
+    axes-below : (axis k : ℕ) → Place list axis k → countBelow heldWith axis ≡ countBelow (λ j. q (axisAt list j)) k
+    axes-below zero zero p = refl
+    axes-below zero (suc k) p = absurd (not-suc-le-zero (p .lower 0 (omega arith)))
+    axes-below (suc axis) k p =
+        ⊎-elim
+        (λ (e : isListed list axis ≡ true).
+        let r : ℕ = recordFor list axis in
+        let next : suc r ≡ k = omega (arith, place-next axis k p e) in
+        let here : heldWith axis ≡ q (axisAt list r) = ap (λ (o : Option Expected). isThere o && q axis) (held-there list axis e) ∙ ap q (sym (listed-record list axis e .1)) in
+        count-suc heldWith axis
+        ∙ ap₂ _+_ (axes-below axis r (place-own axis e)) (ap digit here)
+        ∙ sym (count-suc (λ j. q (axisAt list j)) r)
+        ∙ ap (countBelow (λ j. q (axisAt list j))) next)
+        (λ (e : isListed list axis ≡ false).
+        let here : heldWith axis ≡ false = ap (λ (o : Option Expected). isThere o && q axis) (held-none list axis e) in
+        count-suc heldWith axis
+        ∙ ap₂ _+_ (axes-below axis k (place-same axis k p e)) (ap digit here)
+        ∙ omega arith)
+        (either (isListed list axis))
+
+  module _ (hb : Bytes list) where
+    -- after the last record
+    pub place-last : Place list axisNumbers (recordCount list)
+    place-last = record { within = omega arith; lower = λ j h. axis-below list j h hb; others = λ j h l. absurd (omega arith) }
+
+    -- of all axis numbers, as many are held with a property as records have one with it
+    axes-counted : (q : ℕ → Bool) → howMany (λ axis. isThere (held list axis) && q axis) allAxes ≡ countBelow (λ j. q (axisAt list j)) (recordCount list)
+    unfolding allAxes
+    axes-counted q = axes-below q axisNumbers (recordCount list) place-last
+
+    -- Each record has an axis of its own.
+    pub listed-records : axisCount (held list) ≡ recordCount list
+    unfolding axisCount allAxes
+    listed-records =
+        count-same (λ axis. isThere (held list axis)) (λ axis. isThere (held list axis) && true) axisNumbers (λ axis _. sym (and-yes (isThere (held list axis))))
+        ∙ axes-below (λ axis. true) axisNumbers (recordCount list) place-last
+        ∙ count-below (recordCount list)
+
+    pub untold-records : (ts : List Table) → untold (held list) ts ≡ countBelow (λ k. not (isTold ts (axisAt list k))) (recordCount list)
+    unfolding untold
+    untold-records ts = axes-counted (λ axis. not (isTold ts axis))

@@ -9,7 +9,7 @@ use native.Mathlib.Omega.{arith}
 use lib.ListN.{length, drop, getD, drop-of-length-le}
 use lib.Seq.{drop-cons}
 use borrow.Author.Tests.{eq-eqb, ne-eqb}
-use Rattle.manifest.specs.Counts.{same}
+use Rattle.manifest.specs.Lists.{same}
 
 module _ (a b : List ℕ) (l : length a ≡ length b) (i : ℕ) where
   pub same-stopped : i < length a → (getD a i 0 ≡ getD b i 0 → ⊥) → same (drop i a) (drop i b) ≡ false

@@ -10,11 +10,11 @@ use native.Mathlib.Omega.{arith}
 use lib.Dec.{eqb, ltb}
 use lib.ListN.{length}
 use borrow.Author.Tests.{lt-ltb, le-ltb, eq-eqb, ne-eqb}
+use Rattle.standard.specs.Bits.{digit}
 use Rattle.standard.specs.Grid.{tab}
-use Rattle.standard.proofs.Tab.{tab-snoc}
+use Rattle.standard.proofs.Tab.{tab-snoc, length-tab}
 use Rattle.standard.proofs.Tests.{lt-or-le}
-use Rattle.manifest.specs.Counts.{howMany}
-use Rattle.manifest.specs.Progress.{bit}
+use Rattle.manifest.specs.Lists.{howMany}
 
 -- ---- conditions
 
@@ -31,38 +31,38 @@ pub and-assoc : (a b c : Bool) → (a && (b && c)) ≡ (a && b && c)
 and-assoc true b c = refl
 and-assoc false b c = refl
 
-pub bit-split : (a b : Bool) → bit (a && b) + bit (a && not b) ≡ bit a
-bit-split true true = refl
-bit-split true false = refl
-bit-split false b = refl
+pub digit-split : (a b : Bool) → digit (a && b) + digit (a && not b) ≡ digit a
+digit-split true true = refl
+digit-split true false = refl
+digit-split false b = refl
 
-pub bit-one : (b : Bool) → bit b ≤ 1
-bit-one true = omega arith
-bit-one false = omega arith
+pub digit-one : (b : Bool) → digit b ≤ 1
+digit-one true = omega arith
+digit-one false = omega arith
 
 -- one more where a condition holds
-pub add-bit : (b : Bool) (n : ℕ) → cond b (suc n) n ≡ bit b + n
-add-bit true n = omega arith
-add-bit false n = omega arith
+pub add-digit : (b : Bool) (n : ℕ) → cond b (suc n) n ≡ digit b + n
+add-digit true n = omega arith
+add-digit false n = omega arith
 
 -- ---- any list
 
 module _ {A : Type 0} where
   -- one thing before the others
-  pub count-cons : (p : A → Bool) (x : A) (xs : List A) → howMany p (x ∷ xs) ≡ bit (p x) + howMany p xs
-  count-cons p x xs = add-bit (p x) (howMany p xs)
+  pub count-cons : (p : A → Bool) (x : A) (xs : List A) → howMany p (x ∷ xs) ≡ digit (p x) + howMany p xs
+  count-cons p x xs = add-digit (p x) (howMany p xs)
 
   -- two lists
   pub count-append : (p : A → Bool) (xs ys : List A) → howMany p (xs ++ ys) ≡ howMany p xs + howMany p ys
   count-append p [] ys = omega arith
   count-append p (x ∷ xs) ys = omega (arith, count-cons p x (xs ++ ys), count-cons p x xs, count-append p xs ys)
 
-  -- one thing behind the others
-  pub count-snoc : (p : A → Bool) (xs : List A) (x : A) → howMany p (xs ++ x ∷ []) ≡ howMany p xs + bit (p x)
+  -- one thing after the others
+  pub count-snoc : (p : A → Bool) (xs : List A) (x : A) → howMany p (xs ++ x ∷ []) ≡ howMany p xs + digit (p x)
   count-snoc p xs x = omega (arith, count-append p xs (x ∷ []), count-cons p x [])
 
   -- each thing has one of three properties
-  pub count-three : (p q r : A → Bool) → ((x : A) → bit (p x) + bit (q x) + bit (r x) ≡ 1) → (xs : List A)
+  pub count-three : (p q r : A → Bool) → ((x : A) → digit (p x) + digit (q x) + digit (r x) ≡ 1) → (xs : List A)
       → howMany p xs + howMany q xs + howMany r xs ≡ length xs
   count-three p q r one [] = refl
   count-three p q r one (x ∷ xs) = omega (arith, count-cons p x xs, count-cons q x xs, count-cons r x xs, one x, count-three p q r one xs)
@@ -71,12 +71,16 @@ module _ {A : Type 0} where
   pub count-split : (p q : A → Bool) (xs : List A) → howMany (λ x. p x && q x) xs + howMany (λ x. p x && not (q x)) xs ≡ howMany p xs
   count-split p q [] = refl
   count-split p q (x ∷ xs) =
-      omega (arith, count-cons (λ y. p y && q y) x xs, count-cons (λ y. p y && not (q y)) x xs, count-cons p x xs, bit-split (p x) (q x), count-split p q xs)
+      omega (arith, count-cons (λ y. p y && q y) x xs, count-cons (λ y. p y && not (q y)) x xs, count-cons p x xs, digit-split (p x) (q x), count-split p q xs)
+
+  -- no more than without it
+  pub count-part : (p q : A → Bool) (xs : List A) → howMany (λ x. p x && not (q x)) xs ≤ howMany p xs
+  count-part p q xs = omega (arith, count-split p q xs)
 
   -- no more than all
   pub count-most : (p : A → Bool) (xs : List A) → howMany p xs ≤ length xs
   count-most p [] = omega arith
-  count-most p (x ∷ xs) = omega (arith, count-cons p x xs, bit-one (p x), count-most p xs)
+  count-most p (x ∷ xs) = omega (arith, count-cons p x xs, digit-one (p x), count-most p xs)
 
   -- all, where all have the property
   pub count-all : (xs : List A) → howMany (λ x. true) xs ≡ length xs
@@ -89,18 +93,12 @@ module _ {A : Type 0} where
 abbrev pub countBelow : (ℕ → Bool) → ℕ → ℕ
 countBelow p n = howMany p (tab n (λ k. k))
 
--- what f gives for each of them
-pub count-tab : {A : Type 0} (p : A → Bool) (n : ℕ) (f : ℕ → A) → howMany p (tab n f) ≡ countBelow (λ k. p (f k)) n
-count-tab p zero f = refl
-count-tab p (suc n) f =
-    ap (howMany p) (tab-snoc n f)
-    ∙ count-snoc p (tab n f) (f n)
-    ∙ ap (λ (c : ℕ). c + bit (p (f n))) (count-tab p n f)
-    ∙ sym (count-snoc (λ k. p (f k)) (tab n (λ k. k)) n)
-    ∙ sym (ap (howMany (λ k. p (f k))) (tab-snoc n (λ k. k)))
+-- all of them
+pub count-below : (n : ℕ) → countBelow (λ k. true) n ≡ n
+count-below n = count-all (tab n (λ k. k)) ∙ length-tab n (λ k. k)
 
 -- one number more
-pub count-suc : (p : ℕ → Bool) (n : ℕ) → countBelow p (suc n) ≡ countBelow p n + bit (p n)
+pub count-suc : (p : ℕ → Bool) (n : ℕ) → countBelow p (suc n) ≡ countBelow p n + digit (p n)
 count-suc p n = ap (howMany p) (tab-snoc n (λ k. k)) ∙ count-snoc p (tab n (λ k. k)) n
 
 -- below a higher number as many or more, and more where a number between has the property
@@ -110,18 +108,18 @@ count-mono p m (suc n) h =
     ⊎-elim (λ (e : m ≡ suc n). rw e (omega arith)) (λ (l : m < suc n). omega (arith, count-suc p n, count-mono p m n (omega arith))) (eq-or-lt-of-le h)
 
 pub count-more : (p : ℕ → Bool) (m n : ℕ) → m < n → p m ≡ true → countBelow p m < countBelow p n
-count-more p m n h e = omega (arith, count-suc p m, ap bit e, count-mono p (suc m) n h)
+count-more p m n h e = omega (arith, count-suc p m, ap digit e, count-mono p (suc m) n h)
 
 -- properties that agree below n
 pub count-same : (p q : ℕ → Bool) (n : ℕ) → ((k : ℕ) → k < n → p k ≡ q k) → countBelow p n ≡ countBelow q n
 count-same p q zero h = refl
 count-same p q (suc n) h =
     count-suc p n
-    ∙ ap₂ _+_ (count-same p q n (λ k l. h k (omega arith))) (ap bit (h n (omega arith)))
+    ∙ ap₂ _+_ (count-same p q n (λ k l. h k (omega arith))) (ap digit (h n (omega arith)))
     ∙ sym (count-suc q n)
 
 -- the number n of them
-without-turn : (p : ℕ → Bool) (j n : ℕ) → bit (p n && not (eqb n j)) + bit (ltb j (suc n) && p j) ≡ bit (p n) + bit (ltb j n && p j)
+without-turn : (p : ℕ → Bool) (j n : ℕ) → digit (p n && not (eqb n j)) + digit (ltb j (suc n) && p j) ≡ digit (p n) + digit (ltb j n && p j)
 without-turn p j n =
     ⊎-elim
     (λ l. rw (ne-eqb n j (λ e. omega arith), lt-ltb j (suc n) (omega arith), lt-ltb j n l, and-yes))
@@ -133,11 +131,7 @@ without-turn p j n =
     (lt-or-le j n)
 
 -- all but j: one less, if j is below n and has the property
-pub count-without : (p : ℕ → Bool) (j n : ℕ) → countBelow (λ k. p k && not (eqb k j)) n + bit (ltb j n && p j) ≡ countBelow p n
+pub count-without : (p : ℕ → Bool) (j n : ℕ) → countBelow (λ k. p k && not (eqb k j)) n + digit (ltb j n && p j) ≡ countBelow p n
 count-without p j zero = rw (le-ltb j 0 (omega arith))
 count-without p j (suc n) =
     omega (arith, count-suc (λ k. p k && not (eqb k j)) n, count-suc p n, count-without p j n, without-turn p j n)
-
--- K alone: one, if it is below n and has the property
-pub count-only : (p : ℕ → Bool) (K n : ℕ) → countBelow (λ k. p k && eqb k K) n ≡ bit (ltb K n && p K)
-count-only p K n = omega (arith, count-split p (λ k. eqb k K) (tab n (λ k. k)), count-without p K n)

@@ -1,6 +1,7 @@
--- For every manifest that passes and every cutting of a stream into pieces, the counts of the report are those defined from the manifest's bytes and the stream's.
+-- For every manifest that passes and every cutting of a stream into pieces, the counts of the report are those of the installation that the manifest holds and of the
+-- stream's bytes.
 -- Assumes nothing.
-use mathlib.Core.Path.{_≡_, refl, sym, ap, _∙_}
+use mathlib.Core.Path.{_≡_, refl, sym, ap, subst, _∙_}
 use mathlib.Core.Bool.{Bool, true, false, cond, _&&_}
 use mathlib.Core.List.{List, [], _∷_, _++_, foldl, foldl-append, append-assoc, append-nil}
 use mathlib.Core.Logic.{⊎-elim}
@@ -13,29 +14,43 @@ use borrow.Author.Tests.{lt-ltb}
 use Rattle.answers.specs.declared.Status.the-variants.{Done}
 use Rattle.answers.specs.Numbers.{bigEndian}
 use Rattle.answers.proofs.Statuses.{kept}
+use Rattle.standard.specs.Grid.{tab}
+use Rattle.standard.proofs.Tab.{length-tab}
 use Rattle.standard.proofs.Tests.{either}
 use Rattle.hasher.specs.Pieces.{joined, withByte}
 use Rattle.hasher.specs.Running.{started}
 use Rattle.manifest.specs.declared.tally.Tally.{Tally}
 use Rattle.manifest.specs.declared.report.Report.{Report}
-use Rattle.manifest.specs.Records.{manifestStatus, recordFor, isListed}
-use Rattle.manifest.specs.Places.{isOrdered}
+use Rattle.manifest.specs.declared.report.Summary.{Summary}
+use Rattle.manifest.specs.Records.{recordCount, manifestStatus}
+use Rattle.manifest.specs.Installations.{expectedAt, held}
 use Rattle.manifest.specs.Tables.{Table, axisIn, spanOf, isWhole, firstTable, tablesUpTo, mostTables, tablesIn}
-use Rattle.manifest.specs.Counts.{agrees, tables, equal, unequal, unlisted, countsOf}
-use Rattle.manifest.specs.Progress.{unread, hashedUnder, onward, isComplete, tallied, matches, withTable, settled, byteTaken, taken, fresh, empty, begun, countsSoFar, reported}
-use Rattle.manifest.proofs.AxisLaws.{untold-records}
+use Rattle.manifest.specs.Counts.{isExpected, countsOf}
+use Rattle.manifest.specs.Lookups.{isOrdered, recordFor, isListed}
+use Rattle.manifest.specs.Progress.{unread, hashedUnder, tableByte, isComplete, tallied, matches, withTable, settled, byteTaken, pieceTaken, freshReport, empty, begun, countsSoFar}
+use Rattle.manifest.specs.Promises.{reported, countsOver, ReportCounts, CutAnywhere, CountsInPieces, BegunStatus, NothingCounted}
+use Rattle.manifest.proofs.Counting.{countBelow, count-most}
+use Rattle.manifest.proofs.AxisLaws.{listed-records, untold-records}
 use Rattle.manifest.proofs.OrderLaws.{Rising, passing-rises, passing-ordered}
-use Rattle.manifest.proofs.Sums.{told-add-up, tables-at-most, untold-at-most}
+use Rattle.manifest.proofs.Sums.{each-counts-once, few-tables}
 use Rattle.manifest.proofs.StrideLaws.{reportWith, full-stays}
-use Rattle.manifest.proofs.TableLaws.{nothing-whole, none-whole, contents-left, tables-behind, ends-exactly}
+use Rattle.manifest.proofs.TableLaws.{nothing-whole, none-whole, contents-left, tables-after, ends-exactly}
 use Rattle.manifest.proofs.ReadSoFar.{reading, pastHeader, complete-is-whole, whole-read}
 use Rattle.manifest.proofs.RecordLaws.{manifest-few, passing-manifest}
 use Rattle.manifest.proofs.Verdicts.{verdict}
-use Rattle.manifest.proofs.TallyOf.{tallyOf, tallied-all, unlisted-told, listed-told, none-told}
+use Rattle.manifest.proofs.TallyOf.{awaits, tallyOf, tallied-all, unlisted-told, listed-told, none-told}
 
 -- the report of a row of tables, and of a next one of which these bytes were read
 abbrev reportOf : List ℕ → List Table → List ℕ → Report
 reportOf list ts s = reportWith true (tallyOf list ts) (reading list s)
+
+-- the counts of a tally
+abbrev countsIn : Tally → Summary
+countsIn y = record { listed = y .listed; tables = tallied y; equal = y .equal; unequal = y .unequal; untold = y .untold; unlisted = y .unlisted }
+
+-- no more records await a table than there are
+fewer-await : (list : List ℕ) (ts : List Table) → countBelow (awaits list ts) (recordCount list) ≤ recordCount list
+fewer-await list ts = subst (λ (n : ℕ). countBelow (awaits list ts) (recordCount list) ≤ n) (length-tab (recordCount list) (λ k. k)) (count-most (awaits list ts) (tab (recordCount list) (λ k. k)))
 
 -- the axis that a header names
 header-axis : (s : List ℕ) → axisIn (take 6 s) ≡ axisIn s
@@ -43,17 +58,17 @@ unfolding axisIn
 header-axis s = ap bigEndian (take-take 2 6 s (omega arith))
 
 -- a report of nothing takes nothing
-nothing-taken : (list p : List ℕ) → taken list empty p ≡ empty
-unfolding taken
+nothing-taken : (list p : List ℕ) → pieceTaken list empty p ≡ empty
+unfolding pieceTaken
 nothing-taken list p = refl
 
 -- a byte leaves it so that the next is read
 passed-byte : (list : List ℕ) (r : Report) (b : ℕ) → r .passed ≡ true → byteTaken list r b .passed ≡ true
 unfolding byteTaken settled
-passed-byte list r b e = by (ltb (tallied (r .tally)) mostTables) (isComplete (onward list (r .current) b))
+passed-byte list r b e = by (ltb (tallied (r .tally)) mostTables) (isComplete (tableByte list (r .current) b))
   where
     by : (t c : Bool) → cond t
-        (cond c (reportWith true (withTable list (r .tally) (onward list (r .current) b)) unread) (reportWith true (r .tally) (onward list (r .current) b))) r .passed
+        (cond c (reportWith true (withTable list (r .tally) (tableByte list (r .current) b)) unread) (reportWith true (r .tally) (tableByte list (r .current) b))) r .passed
         ≡ true
     by true true = refl
     by true false = refl
@@ -68,12 +83,12 @@ module _ (list : List ℕ) (passes : manifestStatus list ≡ Done) where
   module _ (ts : List Table) (s : List ℕ) (whole : isWhole s ≡ true) (ends : length s ≡ spanOf s) where
     -- the running hash gives the verdict on the table
     judged : isListed list (axisIn s) ≡ true
-        → matches list (recordFor list (axisIn s)) (pastHeader list s .hasher) ≡ agrees list (recordFor list (axisIn s)) (firstTable s .contents)
+        → matches list (recordFor list (axisIn s)) (pastHeader list s .hasher) ≡ isExpected (expectedAt list (recordFor list (axisIn s))) (firstTable s .contents)
     judged is =
         let c = contents-left s ends in
         ap (λ (n : ℕ). matches list (recordFor list (axisIn s)) (foldl withByte (started (hashedUnder list (axisIn s) n) .hasher) (drop 6 s))) (sym (c .0))
         ∙ verdict list passes (axisIn s) is (drop 6 s)
-        ∙ ap (agrees list (recordFor list (axisIn s))) (sym (c .1))
+        ∙ ap (isExpected (expectedAt list (recordFor list (axisIn s)))) (sym (c .1))
 
     -- the table goes into the tally
     table-told : withTable list (tallyOf list ts) (reading list s) ≡ tallyOf list (ts ++ firstTable s ∷ [])
@@ -91,7 +106,7 @@ module _ (list : List ℕ) (passes : manifestStatus list ≡ Done) where
     -- it is looked at
     looked-at : byteTaken list (reportOf list ts s) b ≡ settled list (tallyOf list ts) (reading list (s ++ b ∷ []))
     unfolding byteTaken
-    looked-at = rw (tallied-all list ts, lt-ltb (length ts) mostTables h, foldl-append (onward list) unread s (b ∷ []))
+    looked-at = rw (tallied-all list ts, lt-ltb (length ts) mostTables h, foldl-append (tableByte list) unread s (b ∷ []))
 
     -- a byte that ends the table
     last-byte : isWhole s ≡ false → isWhole (s ++ b ∷ []) ≡ true → byteTaken list (reportOf list ts s) b ≡ reportOf list (ts ++ firstTable (s ++ b ∷ []) ∷ []) []
@@ -122,7 +137,7 @@ module _ (list : List ℕ) (passes : manifestStatus list ≡ Done) where
       ∙ read-on x n (ts ++ firstTable next ∷ []) [] (omega (arith, length-append ts (firstTable next ∷ []))) nothing-whole
       ∙ ap (tallyOf list)
       (append-assoc ts (firstTable next ∷ []) (tablesUpTo n x)
-      ∙ ap (λ (us : List Table). ts ++ us) (sym (tables-behind next x n whole (ends-exactly s b short whole)) ∙ ap (tablesUpTo (suc n)) assoc)))
+      ∙ ap (λ (us : List Table). ts ++ us) (sym (tables-after next x n whole (ends-exactly s b short whole)) ∙ ap (tablesUpTo (suc n)) assoc)))
       (λ (inner : isWhole (s ++ b ∷ []) ≡ false).
       ap (λ (r : Report). foldl (byteTaken list) r x .tally) (inner-byte ts s b (omega arith) inner)
       ∙ read-on x (suc n) ts next e inner
@@ -137,58 +152,71 @@ module _ (list : List ℕ) (passes : manifestStatus list ≡ Done) where
   passed-on (b ∷ x) r e = passed-on x (byteTaken list r b) (passed-byte list r b e)
 
   -- each byte of each piece in turn is each byte of the stream
-  joined-bytes : (pieces : List (List ℕ)) (r : Report) → r .passed ≡ true → foldl (taken list) r pieces ≡ foldl (byteTaken list) r (joined pieces)
-  unfolding taken joined
+  joined-bytes : (pieces : List (List ℕ)) (r : Report) → r .passed ≡ true → foldl (pieceTaken list) r pieces ≡ foldl (byteTaken list) r (joined pieces)
+  unfolding pieceTaken joined
   joined-bytes [] r e = refl
   joined-bytes (p ∷ ps) r e =
-      ap (λ (t : Bool). foldl (taken list) (cond t (foldl (byteTaken list) r p) r) ps) {x = r .passed && isOrdered list} {y = true} (rw e (passing-ordered list passes))
+      ap (λ (t : Bool). foldl (pieceTaken list) (cond t (foldl (byteTaken list) r p) r) ps) {x = r .passed && isOrdered list} {y = true} (rw e (passing-ordered list passes))
       ∙ joined-bytes ps (foldl (byteTaken list) r p) (passed-on p r e)
       ∙ sym (foldl-append (byteTaken list) r p (joined ps))
 
   -- the beginning is the report of no tables
   from-the-start : begun list .report ≡ reportOf list [] []
-  unfolding begun fresh
+  unfolding begun freshReport
   from-the-start = rw passes (ap (λ (y : Tally). reportWith true y unread) (none-told list))
 
   -- the tally that the pieces lead to
   reported-tally : (pieces : List (List ℕ)) → reported list pieces .tally ≡ tallyOf list (tablesIn (joined pieces))
   unfolding reported tablesIn
   reported-tally pieces =
-      ap (λ (r : Report). foldl (taken list) r pieces .tally) from-the-start
+      ap (λ (r : Report). foldl (pieceTaken list) r pieces .tally) from-the-start
       ∙ ap (λ (r : Report). r .tally) (joined-bytes pieces (reportOf list [] []) refl)
       ∙ read-on (joined pieces) mostTables [] [] (omega arith) nothing-whole
 
-  -- For every manifest that passes and every list of pieces: a report that is begun with the manifest and given each piece in turn comes to the
-  -- counts that are defined from the manifest and the joined pieces.
-  pub in-pieces : (pieces : List (List ℕ)) → countsSoFar (reported list pieces) ≡ countsOf list (joined pieces)
-  unfolding countsSoFar countsOf tallyOf tables equal unequal unlisted
-  in-pieces pieces = rw (reported-tally pieces, ← told-add-up list (joined pieces), untold-records list (joined pieces))
+  -- and the counts, from that tally
+  counts-tally : (pieces : List (List ℕ)) → countsOver list pieces ≡ countsIn (tallyOf list (tablesIn (joined pieces)))
+  unfolding countsOver countsSoFar
+  counts-tally pieces = ap countsIn (reported-tally pieces)
 
-  -- So of the counts that a caller finds: equal, unequal and unlisted tables are all that were looked at, those are no more than 65,535, and no more
-  -- axes are untold than are listed.
-  pub counts-in-pieces : (pieces : List (List ℕ))
-      → (countsSoFar (reported list pieces) .equal + countsSoFar (reported list pieces) .unequal + countsSoFar (reported list pieces) .unlisted
-      ≡ countsSoFar (reported list pieces) .tables)
-      × (countsSoFar (reported list pieces) .tables ≤ mostTables)
-      × (countsSoFar (reported list pieces) .untold ≤ countsSoFar (reported list pieces) .listed)
-  unfolding countsOf
-  counts-in-pieces pieces =
-      rw (in-pieces pieces) (told-add-up list (joined pieces), tables-at-most (joined pieces), untold-at-most list (joined pieces))
+-- For every manifest that passes and every stream, cut into pieces anywhere: a report that is begun with the manifest and takes each piece in turn comes to
+-- the counts that are defined from the installation that the manifest holds and the bytes of the stream.
+pub in-pieces : ReportCounts
+unfolding countsOf tallyOf
+in-pieces list hb passes pieces =
+    let ts = tablesIn (joined pieces) in
+    let r = rising list passes in
+    counts-tally list passes pieces
+    ∙ rw (each-counts-once (held list) ts, listed-records list r hb, untold-records list r hb ts)
 
-  -- Where the stream is cut makes no difference.
-  pub cut-anywhere : (xs ys : List (List ℕ)) → joined xs ≡ joined ys → countsSoFar (reported list xs) ≡ countsSoFar (reported list ys)
-  cut-anywhere xs ys e = in-pieces xs ∙ ap (countsOf list) e ∙ sym (in-pieces ys)
+-- Of the counts that a caller finds: equal, unequal and unlisted tables are all that were looked at, those are no more than 65,535, and no more axes are
+-- untold than are listed.
+pub counts-in-pieces : CountsInPieces
+unfolding tallyOf
+counts-in-pieces list passes pieces =
+    let ts = tablesIn (joined pieces) in
+    rw (counts-tally list passes pieces)
+    (refl, omega (arith, tallied-all list ts, few-tables (joined pieces)), fewer-await list ts)
 
--- After a beginning that was refused nothing is counted: the report stays that of nothing.
-pub nothing-counted : (list : List ℕ) → (manifestStatus list ≡ Done → ⊥) → (pieces : List (List ℕ)) → reported list pieces ≡ empty
+-- Where the stream is cut makes no difference.
+pub cut-anywhere : CutAnywhere
+cut-anywhere list passes xs ys e =
+    counts-tally list passes xs ∙ ap (λ (stream : List ℕ). countsIn (tallyOf list (tablesIn stream))) e ∙ sym (counts-tally list passes ys)
+
+-- After a beginning that was refused the report stays that of nothing.
+pub nothing-read : (list : List ℕ) → (manifestStatus list ≡ Done → ⊥) → (pieces : List (List ℕ)) → reported list pieces ≡ empty
 unfolding reported begun
-nothing-counted list n pieces = ap (λ (r : Report). foldl (taken list) r pieces) (kept (manifestStatus list) (fresh list) empty n) ∙ stays pieces
+nothing-read list n pieces = ap (λ (r : Report). foldl (pieceTaken list) r pieces) (kept (manifestStatus list) (freshReport list) empty n) ∙ stays pieces
   where
-    stays : (ps : List (List ℕ)) → foldl (taken list) empty ps ≡ empty
+    stays : (ps : List (List ℕ)) → foldl (pieceTaken list) empty ps ≡ empty
     stays [] = refl
-    stays (p ∷ ps) = ap (λ (r : Report). foldl (taken list) r ps) (nothing-taken list p) ∙ stays ps
+    stays (p ∷ ps) = ap (λ (r : Report). foldl (pieceTaken list) r ps) (nothing-taken list p) ∙ stays ps
+
+-- So nothing is counted.
+pub nothing-counted : NothingCounted
+unfolding countsOver countsSoFar
+nothing-counted list n pieces = ap countsSoFar (nothing-read list n pieces)
 
 -- A report can be begun with exactly the manifests that pass.
-pub begun-status : (list : List ℕ) → begun list .status ≡ manifestStatus list
+pub begun-status : BegunStatus
 unfolding begun
 begun-status list = refl

@@ -15,7 +15,7 @@ use Rattle.answers.specs.declared.Status.the-variants.{Done, Refused}
 use Rattle.answers.specs.Numbers.{Bytes, bigEndian, inBytes}
 use Rattle.standard.specs.Variants.{variant}
 use Rattle.standard.proofs.Tests.{either, lt-or-le, bound-below}
-use Rattle.manifest.specs.Records.{isManifest, recordCount, axisAt, digestAt, fillerAt, risesAt, recordChecks, manifestStatus, recordFor, isListed}
+use Rattle.manifest.specs.Records.{isManifest, recordCount, axisAt, digestAt, fillerAt, risesAt, recordChecks, manifestStatus}
 use Rattle.manifest.specs.Installations.{Expected, Axes, IsInstallation, recordOf, listOf, held}
 use Rattle.manifest.proofs.OneList.{passes-exactly, held-nothing}
 
@@ -26,6 +26,10 @@ seven = record { variant = 1; digest = replicate 10 7 }
 
 abbrev other : Expected
 other = record { variant = 6; digest = replicate 11 255 }
+
+-- of a variant that is not known
+abbrev unknown : Expected
+unknown = record { variant = 12; digest = [] }
 
 abbrev two : Axes
 two axis = cond (eqb axis 7) (some seven) (cond (eqb axis 258) (some other) none)
@@ -55,7 +59,7 @@ neither axis a b (suc zero) h e = eqb-false axis 258 b (sym e)
 neither axis a b (suc (suc k)) h e = absurd (omega arith)
 
 rising-holds : held rising ≡ two
-unfolding held isListed recordFor digestAt bigEndian variant
+unfolding held digestAt bigEndian variant
 rising-holds =
     fun-ext
     (λ axis. ⊎-elim
@@ -87,7 +91,11 @@ pub filler-first : manifestStatus (recordOf 7 seven ++ recordOf 7 (record { vari
 unfolding manifestStatus isManifest recordChecks risesAt fillerAt recordOf inBytes bigEndian variant
 filler-first = refl
 
--- but one that does not rise comes before a wrong one behind it
-pub earlier-first : manifestStatus (recordOf 7 seven ++ recordOf 7 seven ++ recordOf 8 (record { variant = 11; digest = [] })) ≡ Refused NotRising
+-- but one that does not rise comes before a wrong record after it; that record alone, of a variant that is not known, is refused with 13
+pub earlier-first : manifestStatus (recordOf 7 seven ++ recordOf 7 seven ++ recordOf 8 unknown) ≡ Refused NotRising
 unfolding manifestStatus isManifest recordChecks risesAt fillerAt recordOf inBytes bigEndian variant
 earlier-first = refl
+
+pub unknown-refused : manifestStatus (recordOf 8 unknown) ≡ Refused BadRecord
+unfolding manifestStatus isManifest recordChecks risesAt fillerAt recordOf inBytes bigEndian variant
+unknown-refused = refl

@@ -3,6 +3,7 @@ pub mod Counting
 pub mod RecordLaws
 pub mod OrderLaws
 pub mod RecordBytes
+pub mod AxisLaws
 pub mod ListWritten
 pub mod OneList
 pub mod KnownLists
@@ -10,7 +11,6 @@ pub mod CompareLaws
 pub mod AwaitedLaws
 pub mod StrideLaws
 pub mod Sums
-pub mod AxisLaws
 pub mod TableLaws
 pub mod ReadSoFar
 pub mod Verdicts

@@ -1,4 +1,4 @@
--- The list of an installation: each axis that is there stands behind as many records as there are lower axes, the list passes, and it holds the installation.
+-- The list of an installation: each axis that is there stands after as many records as there are lower axes, the list passes, and it holds the installation.
 -- Assumes nothing.
 use mathlib.Core.Path.{_≡_, refl, sym, ap, subst, _∙_}
 use mathlib.Core.List.{List}
@@ -13,14 +13,16 @@ use Rattle.answers.specs.declared.Status.the-variants.{Done}
 use Rattle.answers.specs.Numbers.{Bytes}
 use Rattle.answers.proofs.ByteLaws.{append-bytes}
 use Rattle.answers.proofs.Rows.{passed-all, each-done}
+use Rattle.standard.specs.Bits.{digit}
 use Rattle.standard.specs.Variants.{known}
 use Rattle.standard.proofs.Tests.{lt-or-le}
-use Rattle.manifest.specs.Records.{isManifest, recordCount, recordChecks, manifestStatus, recordFor}
-use Rattle.manifest.specs.Progress.{bit}
+use Rattle.manifest.specs.Records.{isManifest, recordCount, recordChecks, manifestStatus}
+use Rattle.manifest.specs.Lookups.{recordFor}
 use Rattle.manifest.specs.Installations.{Expected, Axes, isThere, IsSound, recordOf, recordIf, listBelow, expectedAt, held}
 use Rattle.manifest.proofs.Counting.{countBelow, count-suc, count-mono, count-more}
 use Rattle.manifest.proofs.RecordLaws.{found-listed, none-listed}
 use Rattle.manifest.proofs.OrderLaws.{Rising, rises-each, record-none, record-only}
+use Rattle.manifest.proofs.AxisLaws.{held-there, held-none}
 use Rattle.manifest.proofs.RecordBytes.{rowAt, Says, row-before, row-last, row-says, record-length, record-bytes}
 
 -- how many axes below n are there
@@ -33,7 +35,7 @@ pub record There (o : Option Expected) : Type 0 where
   pub is : o ≡ some expected
 
 -- the bytes that an axis adds
-adds-length : (axis : ℕ) (o : Option Expected) → ((e : Expected) → o ≡ some e → IsSound e) → length (recordIf axis o) ≡ 35 * bit (isThere o)
+adds-length : (axis : ℕ) (o : Option Expected) → ((e : Expected) → o ≡ some e → IsSound e) → length (recordIf axis o) ≡ 35 * digit (isThere o)
 adds-length axis none s = refl
 adds-length axis (some e) s = record-length axis e (s e refl)
 
@@ -52,7 +54,7 @@ module _ (axes : Axes) (sound : (axis : ℕ) (e : Expected) → axes axis ≡ so
   below-bytes zero = λ i. omega arith
   below-bytes (suc n) = append-bytes (listBelow n axes) (recordIf n (axes n)) (below-bytes n) (adds-bytes n (axes n) (sound n))
 
-  -- an axis stands behind as many records as there are lower axes
+  -- an axis stands after as many records as there are lower axes
   row-of : (n axis : ℕ) (e : Expected) → axis < n → axes axis ≡ some e → rowAt (listBelow n axes) (countOf axes axis) ≡ recordOf axis e
   row-of zero axis e h is = absurd (not-suc-le-zero h)
   row-of (suc n) axis e h is =
@@ -83,9 +85,9 @@ module _ (axes : Axes) (sound : (axis : ℕ) (e : Expected) → axes axis ≡ so
       (lt-or-le k (countOf axes n))
     where
       last : countOf axes n ≤ k → (o : Option Expected) → axes n ≡ o → RecordOf (suc n) k
-      last l none q = absurd (omega (arith, count-suc (λ axis. isThere (axes axis)) n, ap (λ (o : Option Expected). bit (isThere o)) q))
+      last l none q = absurd (omega (arith, count-suc (λ axis. isThere (axes axis)) n, ap (λ (o : Option Expected). digit (isThere o)) q))
       last l (some e) q =
-          record { axis = n; below = omega arith; place = omega (arith, count-suc (λ axis. isThere (axes axis)) n, ap (λ (o : Option Expected). bit (isThere o)) q); there = record { expected = e; is = q } }
+          record { axis = n; below = omega arith; place = omega (arith, count-suc (λ axis. isThere (axes axis)) n, ap (λ (o : Option Expected). digit (isThere o)) q); there = record { expected = e; is = q } }
 
   -- ---- the records of the axes below n
 
@@ -135,12 +137,12 @@ module _ (axes : Axes) (sound : (axis : ℕ) (e : Expected) → axes axis ≡ so
 
     -- and holds what the axes below n should hold
     pub list-holds : (axis : ℕ) → axis < n → held (listBelow n axes) axis ≡ axes axis
-    unfolding held
     list-holds axis h = by (axes axis) refl
       where
         by : (o : Option Expected) → axes axis ≡ o → held (listBelow n axes) axis ≡ o
         by none q =
-            rw (none-listed list axis (recordCount list)
+            held-none list axis
+            (none-listed list axis (recordCount list)
             (sym (record-none list axis
             (λ k l e. let w = line k l in
             Option·none-ne-some (w .there .expected) (sym q ∙ ap axes (sym e ∙ line-says k l .axis-is) ∙ w .there .is))))
@@ -149,13 +151,15 @@ module _ (axes : Axes) (sound : (axis : ℕ) (e : Expected) → axes axis ≡ so
             let s = says axis e h q in
             let here : countOf axes axis < recordCount list = omega (arith, count-is, count-more (λ a. isThere (axes a)) axis n h (ap isThere q)) in
             let only : countOf axes axis ≡ recordFor list axis = record-only list axis list-rises (countOf axes axis) here (s .axis-is) in
-            rw (found-listed list axis (countOf axes axis) only here) (ap (λ (k : ℕ). some (expectedAt list k)) (sym only) ∙ ap some (s .expected-is))
+            held-there list axis (found-listed list axis (countOf axes axis) only here)
+            ∙ ap (λ (k : ℕ). some (expectedAt list k)) (sym only)
+            ∙ ap some (s .expected-is)
 
     -- and nothing of any other
     pub list-none : (axis : ℕ) → n ≤ axis → held (listBelow n axes) axis ≡ none
-    unfolding held
     list-none axis h =
-        rw (none-listed list axis (recordCount list)
+        held-none list axis
+        (none-listed list axis (recordCount list)
         (sym (record-none list axis
         (λ k l e. omega (arith, e, line-says k l .axis-is, line k l .below))))
         (omega arith))

@@ -15,8 +15,9 @@ use Rattle.answers.specs.Checks.{unless, each}
 use Rattle.answers.proofs.Rows.{passing-says, row-both, done-each}
 use Rattle.standard.specs.Variants.{known}
 use Rattle.standard.proofs.Tests.{and-true, either, lt-or-le}
-use Rattle.manifest.specs.Records.{isManifest, recordCount, axisAt, variantAt, fillerAt, zeros, risesAt, recordChecks, manifestStatus, recordFor, isListed}
-use Rattle.manifest.specs.Places.{everyBelow, isOrdered, Place}
+use Rattle.manifest.specs.Records.{isManifest, recordCount, axisAt, variantAt, fillerAt, zeros, risesAt, recordChecks, manifestStatus}
+use Rattle.manifest.specs.Lookups.{everyBelow, isOrdered, recordFor, isListed}
+use Rattle.manifest.specs.Places.{Place}
 use Rattle.manifest.proofs.RecordLaws.{passing-manifest, everyBelow-at, everyBelow-all, least-at, least-none, least-holds, least-first}
 
 -- ---- rising numbers
@@ -27,10 +28,10 @@ unfolding risesAt
 rises-first list zero e = refl
 rises-first list (suc k) e = absurd (omega arith)
 
-pub rises-behind : (list : List ℕ) (k : ℕ) → (k ≡ 0 → ⊥) → ltb (axisAt list (k - 1)) (axisAt list k) ≡ risesAt list k
+pub rises-after : (list : List ℕ) (k : ℕ) → (k ≡ 0 → ⊥) → ltb (axisAt list (k - 1)) (axisAt list k) ≡ risesAt list k
 unfolding risesAt
-rises-behind list zero n = absurd (n refl)
-rises-behind list (suc k) n = let e : suc k - 1 ≡ k = omega arith in ap (λ (j : ℕ). ltb (axisAt list j) (axisAt list (suc k))) e
+rises-after list zero n = absurd (n refl)
+rises-after list (suc k) n = let e : suc k - 1 ≡ k = omega arith in ap (λ (j : ℕ). ltb (axisAt list j) (axisAt list (suc k))) e
 
 -- of any two records the later has the higher number
 abbrev pub Rising : List ℕ → Type 0
@@ -141,7 +142,7 @@ module _ (list : List ℕ) (axis : ℕ) (rising : Rising list) where
       (λ (e : m ≤ j). let q : j ≡ m = omega arith in subst (λ (k : ℕ). axisAt list k < axis) (sym q) l)
       (lt-or-le j m)
 
-  -- or none behind it
+  -- or none after it
   pub others-from : (m : ℕ) → axis ≤ axisAt list m → (j : ℕ) → m ≤ j → j < recordCount list → axis ≤ axisAt list j
   others-from m l j i h =
       ⊎-elim

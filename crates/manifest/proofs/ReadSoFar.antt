@@ -14,13 +14,13 @@ use Rattle.hasher.specs.Running.{started}
 use Rattle.hasher.specs.Pieces.{withByte}
 use Rattle.manifest.specs.declared.current.Current.{Current}
 use Rattle.manifest.specs.Tables.{axisIn, lengthIn, spanOf, isWhole}
-use Rattle.manifest.specs.Progress.{unread, hashedUnder, opened, headed, onward, isComplete}
-use Rattle.manifest.proofs.StrideLaws.{further, onward-bytes}
+use Rattle.manifest.specs.Progress.{unread, hashedUnder, openedTable, headerByte, tableByte, isComplete}
+use Rattle.manifest.proofs.StrideLaws.{further, advance-bytes}
 use Rattle.manifest.proofs.TableLaws.{whole-long}
 
 -- the table being read, after each of these bytes in turn
 abbrev pub reading : List ℕ → List ℕ → Current
-reading list s = foldl (onward list) unread s
+reading list s = foldl (tableByte list) unread s
 
 -- the one of which these bytes were read, where they reach past the header
 abbrev pub pastHeader : List ℕ → List ℕ → Current
@@ -43,7 +43,7 @@ none-left a b =
 module _ (list : List ℕ) where
   -- a header cut short, or the whole of it
   read-so-far : (s : List ℕ) → ((length s < 6) × (isComplete (reading list s) ≡ false)) ⊎ ((6 ≤ length s) × (reading list s ≡ pastHeader list s))
-  unfolding isComplete onward headed opened axisIn lengthIn
+  unfolding isComplete tableByte headerByte openedTable axisIn lengthIn
   read-so-far [] = inl (omega arith, refl)
   read-so-far (a ∷ []) = inl (omega arith, refl)
   read-so-far (a ∷ b ∷ []) = inl (omega arith, refl)
@@ -52,8 +52,8 @@ module _ (list : List ℕ) where
   read-so-far (a ∷ b ∷ c ∷ d ∷ e ∷ []) = inl (omega arith, refl)
   read-so-far (a ∷ b ∷ c ∷ d ∷ e ∷ f ∷ m) =
       let header : List ℕ = a ∷ b ∷ c ∷ d ∷ e ∷ f ∷ [] in
-      let c : Current = opened list header in
-      inr (omega arith, onward-bytes list m c (omega arith) ∙ ap (λ (n : ℕ). further c n (foldl withByte (c .hasher) m)) (omega arith))
+      let c : Current = openedTable list header in
+      inr (omega arith, advance-bytes list m c (omega arith) ∙ ap (λ (n : ℕ). further c n (foldl withByte (c .hasher) m)) (omega arith))
 
   -- the table is over where the bytes are a whole one
   pub complete-is-whole : (s : List ℕ) → isComplete (reading list s) ≡ isWhole s

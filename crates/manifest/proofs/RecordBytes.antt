@@ -31,9 +31,9 @@ row-parts list o h =
     ∙ ap (λ (rest : List ℕ). take 2 (drop o list) ++ take 33 rest) (drop-drop 2 o list ∙ drop-cons list (o + 2) 0 (omega arith))
     ∙ ap (λ (i : ℕ). take 2 (drop o list) ++ getD list (o + 2) 0 ∷ take 32 (drop i list)) next
 
--- the rest, behind the first three
-behind-three : (p : List ℕ) (x : ℕ) (q : List ℕ) → length p ≡ 2 → drop 3 (p ++ x ∷ q) ≡ q
-behind-three p x q l =
+-- the rest, after the first three
+after-three : (p : List ℕ) (x : ℕ) (q : List ℕ) → length p ≡ 2 → drop 3 (p ++ x ∷ q) ≡ q
+after-three p x q l =
     sym (drop-drop 1 2 (p ++ x ∷ q)) ∙ ap (drop 1) (drop-at p (x ∷ q) 2 l)
 
 -- zeros, so many as there are
@@ -129,8 +129,8 @@ module _ (axis : ℕ) (e : Expected) (s : IsSound e) where
       ap (λ (i : ℕ). getD list i 0) (omega arith) ∙ sym (getD-drop (35 * k) list 2 0) ∙ sym (getD-take 35 (drop (35 * k) list) 2 0 (omega arith))
       ∙ ap (λ (row : List ℕ). getD row 2 0) is ∙ getD-at (inBytes 2 axis) (e .variant) (e .digest ++ zs) 0 2 two in
       let filling : filledAt list k ≡ e .digest ++ zs =
-      sym (behind-three (take 2 (drop (35 * k) list)) (variantAt list k) (filledAt list k) (front-two list k h))
-      ∙ ap (drop 3) (sym (row-split list k h) ∙ is) ∙ behind-three (inBytes 2 axis) (e .variant) (e .digest ++ zs) two in
+      sym (after-three (take 2 (drop (35 * k) list)) (variantAt list k) (filledAt list k) (front-two list k h))
+      ∙ ap (drop 3) (sym (row-split list k h) ∙ is) ∙ after-three (inBytes 2 axis) (e .variant) (e .digest ++ zs) two in
       let size : length (e .digest) ≡ digestBytes (variantAt list k) = s .long ∙ ap digestBytes (sym number) in
       record {
         axis-is =

@@ -4,6 +4,7 @@ use mathlib.Core.Path.{_≡_, refl, ap, _∙_}
 use mathlib.Core.Bool.{Bool, true, false, _&&_}
 use mathlib.Core.List.{List}
 use mathlib.Core.Logic.{⊎-elim}
+use mathlib.Core.Option.{none, some, Option·map}
 use Prim.Native.Nat.{ℕ, zero, suc, _+_, _*_, _%_, _≤_, _<_}
 use native.Mathlib.Nat.{le-of-suc-le-suc, not-suc-le-zero}
 use native.Mathlib.Numerals.{add-one}
@@ -15,8 +16,9 @@ use borrow.Author.Tests.{leb-true, eq-eqb, ne-eqb, lt-ltb, le-ltb}
 use Rattle.answers.specs.declared.Status.the-variants.{Done}
 use Rattle.answers.proofs.Rows.{passing-says}
 use Rattle.standard.proofs.Tests.{and-true, either}
-use Rattle.manifest.specs.Records.{isManifest, recordCount, filledAt, zeros, manifestChecks, manifestStatus, leastBelow, recordFor, isListed}
-use Rattle.manifest.specs.Places.{everyBelow}
+use Rattle.manifest.specs.Lists.{firstBelow}
+use Rattle.manifest.specs.Records.{isManifest, recordCount, filledAt, zeros, manifestChecks, manifestStatus}
+use Rattle.manifest.specs.Lookups.{everyBelow, leastBelow, recordFor, isListed}
 use Rattle.manifest.proofs.Counting.{and-no}
 
 -- a manifest has no more than 512 records
@@ -64,15 +66,15 @@ everyBelow-not (suc n) p (suc k) h e = ap (λ (b : Bool). p 0 && b) (everyBelow-
 
 -- the test holds of k and of none before it
 pub least-at : (n : ℕ) (p : ℕ → Bool) (k : ℕ) → k < n → ((j : ℕ) → j < k → p j ≡ false) → p k ≡ true → leastBelow n p ≡ k
-least-at zero p k h none e = absurd (omega arith)
-least-at (suc n) p zero h none e = rw e
-least-at (suc n) p (suc k) h none e =
-    rw (none 0 (omega arith)) (ap suc (least-at n (λ (j : ℕ). p (suc j)) k (omega arith) (λ j l. none (suc j) (omega arith)) e))
+least-at zero p k h not e = absurd (omega arith)
+least-at (suc n) p zero h not e = rw e
+least-at (suc n) p (suc k) h not e =
+    rw (not 0 (omega arith)) (ap suc (least-at n (λ (j : ℕ). p (suc j)) k (omega arith) (λ j l. not (suc j) (omega arith)) e))
 
 -- it holds of none
 pub least-none : (n : ℕ) (p : ℕ → Bool) → ((j : ℕ) → j < n → p j ≡ false) → leastBelow n p ≡ n
-least-none zero p none = refl
-least-none (suc n) p none = rw (none 0 (omega arith)) (ap suc (least-none n (λ (j : ℕ). p (suc j)) (λ j l. none (suc j) (omega arith))))
+least-none zero p not = refl
+least-none (suc n) p not = rw (not 0 (omega arith)) (ap suc (least-none n (λ (j : ℕ). p (suc j)) (λ j l. not (suc j) (omega arith))))
 
 -- it holds of that one
 pub least-holds : (n : ℕ) (p : ℕ → Bool) → leastBelow n p < n → p (leastBelow n p) ≡ true
@@ -88,6 +90,23 @@ least-first (suc n) p (suc k) h e =
     ⊎-elim
     (λ (t : p 0 ≡ true). rw t (omega arith))
     (λ (t : p 0 ≡ false). rw t (omega (arith, least-first n (λ j. p (suc j)) k (le-of-suc-le-suc h) e)))
+    (either (p 0))
+
+-- the first number that has a property is the least one, where one has it
+pub first-found : (n : ℕ) (p : ℕ → Bool) → leastBelow n p < n → firstBelow n p ≡ some (leastBelow n p)
+first-found zero p h = absurd (not-suc-le-zero h)
+first-found (suc n) p h =
+    ⊎-elim
+    (λ (e : p 0 ≡ true). rw e)
+    (λ (e : p 0 ≡ false). rw e (ap (Option·map suc) (first-found n (λ k. p (suc k)) (le-of-suc-le-suc (rw e at h)))))
+    (either (p 0))
+
+pub first-none : (n : ℕ) (p : ℕ → Bool) → n ≤ leastBelow n p → firstBelow n p ≡ none
+first-none zero p h = refl
+first-none (suc n) p h =
+    ⊎-elim
+    (λ (e : p 0 ≡ true). absurd (not-suc-le-zero (rw e at h)))
+    (λ (e : p 0 ≡ false). rw e (ap (Option·map suc) (first-none n (λ k. p (suc k)) (le-of-suc-le-suc (rw e at h)))))
     (either (p 0))
 
 -- whether there is one, as the code asks it

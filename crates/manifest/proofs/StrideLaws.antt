@@ -16,7 +16,7 @@ use Rattle.manifest.specs.declared.tally.Tally.{Tally}
 use Rattle.manifest.specs.declared.current.Current.{Current}
 use Rattle.manifest.specs.declared.report.Report.{Report}
 use Rattle.manifest.specs.Tables.{mostTables}
-use Rattle.manifest.specs.Progress.{headed, grown, onward, isComplete, tallied, settled, byteTaken}
+use Rattle.manifest.specs.Progress.{headerByte, contentByte, tableByte, isComplete, tallied, settled, byteTaken}
 use Rattle.manifest.specs.Strides.{Stride}
 
 -- the table that is being read, with so much left and this running hash
@@ -36,46 +36,46 @@ reportWith p y c = record { passed = p; tally = y; current = c }
 
 module _ (list : List ℕ) where
   -- a byte of the header
-  pub onward-header : (c : Current) (part : List ℕ) → Stride c (length part) → c .got < 6 → foldl (onward list) c part ≡ headed list c (getD part 0 0)
-  unfolding onward
-  onward-header c [] s l = absurd (omega (arith, s .header l))
-  onward-header c (b ∷ []) s l = rw (lt-ltb (c .got) 6 l)
-  onward-header c (b ∷ d ∷ part) s l = absurd (omega (arith, s .header l))
+  pub advance-header : (c : Current) (part : List ℕ) → Stride c (length part) → c .got < 6 → foldl (tableByte list) c part ≡ headerByte list c (getD part 0 0)
+  unfolding tableByte
+  advance-header c [] s l = absurd (omega (arith, s .header l))
+  advance-header c (b ∷ []) s l = rw (lt-ltb (c .got) 6 l)
+  advance-header c (b ∷ d ∷ part) s l = absurd (omega (arith, s .header l))
 
   -- bytes of the contents, hashed one by one
-  pub onward-bytes : (part : List ℕ) (c : Current) → 6 ≤ c .got → foldl (onward list) c part ≡ further c (c .left - length part) (foldl withByte (c .hasher) part)
-  unfolding onward grown
-  onward-bytes [] c h = let e : c .left ≡ c .left - 0 = omega arith in ap (λ (n : ℕ). further c n (c .hasher)) e
-  onward-bytes (b ∷ part) c h =
+  pub advance-bytes : (part : List ℕ) (c : Current) → 6 ≤ c .got → foldl (tableByte list) c part ≡ further c (c .left - length part) (foldl withByte (c .hasher) part)
+  unfolding tableByte contentByte
+  advance-bytes [] c h = let e : c .left ≡ c .left - 0 = omega arith in ap (λ (n : ℕ). further c n (c .hasher)) e
+  advance-bytes (b ∷ part) c h =
       let e : c .left - 1 - length part ≡ c .left - suc (length part) = omega arith in
       rw (le-ltb (c .got) 6 h)
-      (onward-bytes part (grown c b) h ∙ ap (λ (n : ℕ). further c n (foldl withByte (c .hasher) (b ∷ part))) e)
+      (advance-bytes part (contentByte c b) h ∙ ap (λ (n : ℕ). further c n (foldl withByte (c .hasher) (b ∷ part))) e)
 
   module _ (y : Tally) (few : tallied y < mostTables) where
     -- one byte
-    one-byte : (p : Bool) (c : Current) (b : ℕ) → byteTaken list (reportWith p y c) b ≡ settled list y (onward list c b)
+    one-byte : (p : Bool) (c : Current) (b : ℕ) → byteTaken list (reportWith p y c) b ≡ settled list y (tableByte list c b)
     unfolding byteTaken
     one-byte p c b = rw (lt-ltb (tallied y) mostTables few)
 
     -- a byte inside the contents ends no table
     inside-byte : (p : Bool) (c : Current) (b : ℕ) → 6 ≤ c .got → 1 < c .left
-        → byteTaken list (reportWith p y c) b ≡ reportWith true y (grown c b)
-    unfolding settled onward isComplete grown
+        → byteTaken list (reportWith p y c) b ≡ reportWith true y (contentByte c b)
+    unfolding settled tableByte isComplete contentByte
     inside-byte p c b h l = one-byte p c b ∙ rw (le-ltb (c .got) 6 h, le-leb 6 (c .got) h, ne-eqb (c .left - 1) 0 (λ e. omega arith))
 
     -- so bytes of the contents end one by their last alone
     inside : (part : List ℕ) (p : Bool) (c : Current) (b : ℕ) → 6 ≤ c .got → suc (length part) ≤ c .left
-        → foldl (byteTaken list) (reportWith p y c) (b ∷ part) ≡ settled list y (foldl (onward list) c (b ∷ part))
-    unfolding onward grown
+        → foldl (byteTaken list) (reportWith p y c) (b ∷ part) ≡ settled list y (foldl (tableByte list) c (b ∷ part))
+    unfolding tableByte contentByte
     inside [] p c b h l = one-byte p c b
     inside (d ∷ part) p c b h l =
         ap (λ (r : Report). foldl (byteTaken list) r (d ∷ part)) (inside-byte p c b h (omega arith))
-        ∙ inside part true (grown c b) d h (omega arith)
-        ∙ ap (λ (e : Current). settled list y (foldl (onward list) e (d ∷ part))) {x = grown c b} {y = onward list c b} (rw (le-ltb (c .got) 6 h))
+        ∙ inside part true (contentByte c b) d h (omega arith)
+        ∙ ap (λ (e : Current). settled list y (foldl (tableByte list) e (d ∷ part))) {x = contentByte c b} {y = tableByte list c b} (rw (le-ltb (c .got) 6 h))
 
     -- a stride
     pub stride-settled : (p : Bool) (c : Current) (part : List ℕ) → Stride c (length part)
-        → foldl (byteTaken list) (reportWith p y c) part ≡ settled list y (foldl (onward list) c part)
+        → foldl (byteTaken list) (reportWith p y c) part ≡ settled list y (foldl (tableByte list) c part)
     stride-settled p c [] s = absurd (omega (arith, s .some))
     stride-settled p c (b ∷ []) s = one-byte p c b
     stride-settled p c (b ∷ d ∷ part) s =
@@ -85,7 +85,7 @@ module _ (list : List ℕ) where
         contents (inl l) = absurd (omega (arith, s .header l))
         contents (inr h) = h
 
-  -- behind the last table nothing changes
+  -- after the last table nothing changes
   full-byte : (r : Report) → mostTables ≤ tallied (r .tally) → (b : ℕ) → byteTaken list r b ≡ r
   unfolding byteTaken
   full-byte r h b = rw (le-ltb (tallied (r .tally)) mostTables h)

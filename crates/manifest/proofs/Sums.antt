@@ -1,19 +1,22 @@
--- What the counts of a report say of one another, for every manifest and every stream; and two rows of bytes that are the same are equal.
+-- What the counts of a report say of one another, for every map from axis numbers and every stream; and two rows of bytes that are the same are equal.
 -- Assumes nothing.
 use mathlib.Core.Path.{_≡_, refl, ap₂}
-use mathlib.Core.Bool.{Bool, true, false, cond, not, false≢true, _&&_}
+use mathlib.Core.Bool.{Bool, true, false, cond, false≢true}
 use mathlib.Core.List.{List, [], _∷_}
 use Prim.Native.Nat.{ℕ, zero, suc, _+_, _≤_}
 use native.Mathlib.Omega.{arith}
 use lib.Dec.{eqb}
 use lib.ListN.{length, drop}
 use borrow.Author.Tests.{eqb-true, eq-eqb}
+use Rattle.standard.specs.Bits.{digit}
+use Rattle.standard.specs.Variants.{known}
 use Rattle.standard.proofs.Tests.{and-true}
-use Rattle.manifest.specs.Records.{axesOf, recordFor, isListed}
-use Rattle.manifest.specs.Tables.{Table, isWhole, firstTable, spanOf, tablesUpTo, tablesIn, mostTables}
-use Rattle.manifest.specs.Counts.{same, agrees, isEqual, isUnequal, isUnlisted, isTold, listed, tables, equal, unequal, untold, unlisted, howMany}
-use Rattle.manifest.specs.Progress.{bit}
-use Rattle.manifest.proofs.Counting.{count-three, count-most}
+use Rattle.manifest.specs.Lists.{same}
+use Rattle.manifest.specs.Installations.{Expected, Axes, isThere, allAxes, axisCount}
+use Rattle.manifest.specs.Tables.{Table, isWhole, firstTable, spanOf, tablesUpTo, mostTables, tablesIn}
+use Rattle.manifest.specs.Counts.{Verdict, equal, unequal, unlisted, isExpected, verdictOf, sameVerdict, judged, isTold, untold, countsOf}
+use Rattle.manifest.specs.Promises.{ToldAddUp, UntoldAtMost, TablesAtMost}
+use Rattle.manifest.proofs.Counting.{count-three, count-part}
 
 -- ---- two rows of bytes
 
@@ -31,23 +34,28 @@ same-refl (a ∷ x) = rw (eq-eqb a a refl, same-refl x)
 
 -- ---- the tables that are told
 
--- listed and agreeing, listed and not agreeing, and not listed
-one-of-three : (l a : Bool) → bit (l && a) + bit (l && not a) + bit (not l) ≡ 1
-one-of-three true true = refl
-one-of-three true false = refl
-one-of-three false a = refl
+-- a verdict is one of three
+one-of-three : (v : Verdict) → digit (sameVerdict equal v) + digit (sameVerdict unequal v) + digit (sameVerdict unlisted v) ≡ 1
+one-of-three equal = refl
+one-of-three unequal = refl
+one-of-three unlisted = refl
 
 -- every table counts once
-pub each-counts-once : (list : List ℕ) (ts : List Table) → howMany (isEqual list) ts + howMany (isUnequal list) ts + howMany (isUnlisted list) ts ≡ length ts
-unfolding isEqual isUnequal isUnlisted
-each-counts-once list =
-    count-three (isEqual list) (isUnequal list) (isUnlisted list)
-    (λ t. one-of-three (isListed list (t .axis)) (agrees list (recordFor list (t .axis)) (t .contents)))
+pub each-counts-once : (axes : Axes) (ts : List Table) → judged equal axes ts + judged unequal axes ts + judged unlisted axes ts ≡ length ts
+unfolding judged
+each-counts-once axes =
+    count-three (λ t. sameVerdict equal (verdictOf axes t)) (λ t. sameVerdict unequal (verdictOf axes t)) (λ t. sameVerdict unlisted (verdictOf axes t))
+    (λ t. one-of-three (verdictOf axes t))
+
+-- No table is what is expected under a variant that is not known.
+pub unknown-expects-none : (e : Expected) (contents : List ℕ) → known (e .variant) ≡ false → isExpected e contents ≡ false
+unfolding isExpected
+unknown-expects-none e contents u = rw u
 
 -- Equal, unequal and unlisted tables are all the tables.
-pub told-add-up : (list stream : List ℕ) → equal list stream + unequal list stream + unlisted list stream ≡ tables stream
-unfolding equal unequal unlisted tables
-told-add-up list stream = each-counts-once list (tablesIn stream)
+pub told-add-up : ToldAddUp
+unfolding countsOf
+told-add-up axes stream = each-counts-once axes (tablesIn stream)
 
 one-more : (b : Bool) (t : Table) (ts : List Table) (n : ℕ) → length ts ≤ n → length (cond b (t ∷ ts) []) ≤ suc n
 one-more true t ts n h = omega arith
@@ -58,11 +66,15 @@ up-to zero stream = omega arith
 up-to (suc n) stream = one-more (isWhole stream) (firstTable stream) (tablesUpTo n (drop (spanOf stream) stream)) n (up-to n (drop (spanOf stream) stream))
 
 -- No more tables count than a report looks at.
-pub tables-at-most : (stream : List ℕ) → tables stream ≤ mostTables
-unfolding tables tablesIn
-tables-at-most stream = up-to mostTables stream
+pub few-tables : (stream : List ℕ) → length (tablesIn stream) ≤ mostTables
+unfolding tablesIn
+few-tables stream = up-to mostTables stream
+
+pub tables-at-most : TablesAtMost
+unfolding countsOf
+tables-at-most axes stream = few-tables stream
 
 -- No more axes are untold than are listed.
-pub untold-at-most : (list stream : List ℕ) → untold list stream ≤ listed list
-unfolding untold listed
-untold-at-most list stream = count-most (λ axis. not (isTold (tablesIn stream) axis)) (axesOf list)
+pub untold-at-most : UntoldAtMost
+unfolding countsOf untold axisCount
+untold-at-most axes stream = count-part (λ axis. isThere (axes axis)) (isTold (tablesIn stream)) allAxes

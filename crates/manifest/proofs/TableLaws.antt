@@ -32,14 +32,14 @@ pub none-whole : (n : ℕ) (s : List ℕ) → isWhole s ≡ false → tablesUpTo
 none-whole zero s w = refl
 none-whole (suc n) s w = rw w
 
--- one that ends with the stream has all that is behind the header
+-- one that ends with the stream has all that is after the header
 pub contents-left : (s : List ℕ) → length s ≡ spanOf s → (length (drop 6 s) ≡ lengthIn s) × (firstTable s .contents ≡ drop 6 s)
 unfolding firstTable
 contents-left s e =
     let l : length (drop 6 s) ≡ lengthIn s = length-drop 6 s ∙ omega arith in
     (l, take-all (lengthIn s) (drop 6 s) (omega arith))
 
--- ---- more bytes behind
+-- ---- more bytes after it
 
 module _ (s x : List ℕ) where
   -- what the header says is the same
@@ -66,8 +66,8 @@ module _ (s x : List ℕ) where
       le-leb (spanOf (s ++ x)) (length (s ++ x)) (omega (arith, length-in-append (omega arith), length-append s x))
 
   -- a stream that begins with exactly one table
-  pub tables-behind : (n : ℕ) → isWhole s ≡ true → length s ≡ spanOf s → tablesUpTo (suc n) (s ++ x) ≡ firstTable s ∷ tablesUpTo n x
-  tables-behind n w e =
+  pub tables-after : (n : ℕ) → isWhole s ≡ true → length s ≡ spanOf s → tablesUpTo (suc n) (s ++ x) ≡ firstTable s ∷ tablesUpTo n x
+  tables-after n w e =
       let more : length s ≡ spanOf (s ++ x) = omega (arith, length-in-append (omega arith)) in
       rw (whole-append w, first-append w, drop-at s x (spanOf (s ++ x)) more)
 

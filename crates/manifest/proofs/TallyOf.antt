@@ -1,26 +1,31 @@
 -- The tally of a row of tables, and that one more table makes of it the tally of the longer row.
 -- Assumes nothing.
 use mathlib.Core.Path.{_≡_, refl, sym, ap, ap₂, _∙_}
-use mathlib.Core.Bool.{Bool, true, false, not, _&&_}
+use mathlib.Core.Bool.{Bool, true, false, cond, not, _&&_}
 use mathlib.Core.List.{List, [], _∷_, _++_}
 use mathlib.Core.Logic.{⊎-elim}
+use mathlib.Core.Option.{Option}
 use Prim.Native.Nat.{ℕ, zero, suc, _+_, _-_, _≤_, _<_}
 use native.Mathlib.Omega.{arith}
 use lib.Dec.{eqb, ltb}
 use lib.ListN.{length, getD, set}
 use borrow.Author.Tests.{lt-ltb, ltb-true, ltb-false, eq-eqb, ne-eqb}
+use Rattle.standard.specs.Bits.{digit}
 use Rattle.standard.specs.Grid.{tab}
-use Rattle.standard.proofs.Tab.{length-tab, getD-tab, tab-cong}
+use Rattle.standard.proofs.Tab.{getD-tab, tab-cong}
 use Rattle.standard.proofs.Tests.{either}
 use Rattle.manifest.specs.declared.tally.Tally.{Tally}
-use Rattle.manifest.specs.Records.{recordCount, axisAt, recordFor, isListed}
+use Rattle.manifest.specs.Lists.{howMany}
+use Rattle.manifest.specs.Records.{recordCount, axisAt}
+use Rattle.manifest.specs.Installations.{Axes, Expected, expectedAt, held}
 use Rattle.manifest.specs.Tables.{Table}
-use Rattle.manifest.specs.Counts.{howMany, agrees, isEqual, isUnequal, isUnlisted, isTold, listed}
-use Rattle.manifest.specs.Progress.{bit, tallied, withListed, withUnlisted, awaitedAll, fresh}
-use Rattle.manifest.proofs.Counting.{and-yes, and-no, countBelow, count-snoc, count-all, count-same, count-without}
+use Rattle.manifest.specs.Counts.{Verdict, equal, unequal, unlisted, isExpected, verdictBy, verdictOf, sameVerdict, judged, isTold}
+use Rattle.manifest.specs.Lookups.{recordFor, isListed}
+use Rattle.manifest.specs.Progress.{tallied, withListed, withUnlisted, awaitedAll, freshReport}
+use Rattle.manifest.proofs.Counting.{and-yes, and-no, countBelow, count-below, count-snoc, count-same, count-without}
 use Rattle.manifest.proofs.Sums.{each-counts-once}
 use Rattle.manifest.proofs.OrderLaws.{Rising, record-is}
-use Rattle.manifest.proofs.AxisLaws.{listed-records}
+use Rattle.manifest.proofs.AxisLaws.{held-there, held-none}
 
 -- no table of record k's axis has come
 abbrev pub awaits : List ℕ → List Table → ℕ → Bool
@@ -28,28 +33,28 @@ awaits list ts k = not (isTold ts (axisAt list k))
 
 -- the same as the report keeps it
 abbrev pub awaitedBy : List ℕ → (ℕ → Bool) → List ℕ
-awaitedBy list p = tab 512 (λ k. bit (ltb k (recordCount list) && p k))
+awaitedBy list p = tab 512 (λ k. digit (ltb k (recordCount list) && p k))
 
 -- the tally of a row of tables
 unfoldable pub tallyOf : List ℕ → List Table → Tally
 tallyOf list ts =
     record {
-      listed = listed list;
+      listed = recordCount list;
       untold = countBelow (awaits list ts) (recordCount list);
-      equal = howMany (isEqual list) ts;
-      unequal = howMany (isUnequal list) ts;
-      unlisted = howMany (isUnlisted list) ts;
+      equal = judged equal (held list) ts;
+      unequal = judged unequal (held list) ts;
+      unlisted = judged unlisted (held list) ts;
       awaited = awaitedBy list (awaits list ts);
     }
 
 -- it tells as many tables as there are
 pub tallied-all : (list : List ℕ) (ts : List Table) → tallied (tallyOf list ts) ≡ length ts
 unfolding tallyOf
-tallied-all list ts = each-counts-once list ts
+tallied-all list ts = each-counts-once (held list) ts
 
 -- its parts, for one manifest
 abbrev parts : List ℕ → ℕ → ℕ → ℕ → ℕ → List ℕ → Tally
-parts list u e n x a = record { listed = listed list; untold = u; equal = e; unequal = n; unlisted = x; awaited = a }
+parts list u e n x a = record { listed = recordCount list; untold = u; equal = e; unequal = n; unlisted = x; awaited = a }
 
 -- equal parts, equal tallies
 parts-same : (list : List ℕ) {u u′ e e′ n n′ x x′ : ℕ} {a a′ : List ℕ} → u ≡ u′ → e ≡ e′ → n ≡ n′ → x ≡ x′ → a ≡ a′
@@ -60,15 +65,15 @@ parts-same list pu pe pn px pa = rw (pu, pe, pn, px, pa)
 
 -- what agrees on a record is kept alike
 kept-alike : (list : List ℕ) (p q : ℕ → Bool) (k : ℕ) → (k < recordCount list → p k ≡ q k)
-    → bit (ltb k (recordCount list) && p k) ≡ bit (ltb k (recordCount list) && q k)
+    → digit (ltb k (recordCount list) && p k) ≡ digit (ltb k (recordCount list) && q k)
 kept-alike list p q k h =
     ⊎-elim
-    (λ e. ap (λ (b : Bool). bit (ltb k (recordCount list) && b)) (h (ltb-true k (recordCount list) e)))
+    (λ e. ap (λ (b : Bool). digit (ltb k (recordCount list) && b)) (h (ltb-true k (recordCount list) e)))
     (λ e. rw e)
     (either (ltb k (recordCount list)))
 
 -- none of so many and perhaps one
-told-more : (n : ℕ) (b : Bool) → not (ltb 0 (n + bit b)) ≡ (not (ltb 0 n) && not b)
+told-more : (n : ℕ) (b : Bool) → not (ltb 0 (n + digit b)) ≡ (not (ltb 0 n) && not b)
 told-more n true = rw (lt-ltb 0 (n + 1) (omega arith), and-no)
 told-more n false = let e : n + 0 ≡ n = omega arith in rw (e, and-yes)
 
@@ -84,6 +89,30 @@ set-tab : {A : Type 0} (n : ℕ) (f g : ℕ → A) (i : ℕ) (a : A) → g i ≡
 set-tab zero f g i a e h = refl
 set-tab (suc n) f g zero a e h = ap₂ _∷_ (sym e) (tab-cong n (λ k. f (suc k)) (λ k. g (suc k)) (λ k l. sym (h (suc k) (λ q. omega arith))))
 set-tab (suc n) f g (suc i) a e h = ap₂ _∷_ (sym (h 0 (λ q. omega arith))) (set-tab n (λ k. f (suc k)) (λ k. g (suc k)) i a e (λ k m. h (suc k) (λ q. m (omega arith))))
+
+-- ---- verdicts
+
+-- one table more
+judged-snoc : (v : Verdict) (axes : Axes) (ts : List Table) (t : Table) → judged v axes (ts ++ t ∷ []) ≡ judged v axes ts + digit (sameVerdict v (verdictOf axes t))
+unfolding judged
+judged-snoc v axes ts t = count-snoc (λ u. sameVerdict v (verdictOf axes u)) ts t
+
+-- of this verdict, or of none of the others
+judged-more : (v : Verdict) (axes : Axes) (ts : List Table) (t : Table) {w : Verdict} → verdictOf axes t ≡ w → judged v axes (ts ++ t ∷ []) ≡ judged v axes ts + digit (sameVerdict v w)
+judged-more v axes ts t e = judged-snoc v axes ts t ∙ ap (λ (w : Verdict). judged v axes ts + digit (sameVerdict v w)) e
+
+-- expected or not
+is-equal : (b : Bool) → sameVerdict equal (cond b equal unequal) ≡ b
+is-equal true = refl
+is-equal false = refl
+
+is-unequal : (b : Bool) → sameVerdict unequal (cond b equal unequal) ≡ not b
+is-unequal true = refl
+is-unequal false = refl
+
+not-unlisted : (b : Bool) → sameVerdict unlisted (cond b equal unequal) ≡ false
+not-unlisted true = refl
+not-unlisted false = refl
 
 -- ---- a table more
 
@@ -109,16 +138,20 @@ module _ (list : List ℕ) (rising : Rising list) (ts : List Table) (t : Table) 
     unfolding isListed
     as-before i h = awaits-other i h (λ e. omega (arith, ltb-false k (recordCount list) not-listed))
 
+    on-no-axis : verdictOf (held list) t ≡ unlisted
+    unfolding verdictOf
+    on-no-axis = ap (λ (o : Option Expected). verdictBy o (t .contents)) (held-none list (t .axis) not-listed)
+
     -- The tally of the tables and this one: one more unlisted.
     pub unlisted-told : withUnlisted (tallyOf list ts) ≡ tallyOf list (ts ++ t ∷ [])
-    unfolding tallyOf withUnlisted isEqual isUnequal isUnlisted
+    unfolding tallyOf withUnlisted
     unlisted-told =
         sym
         (parts-same list
         (count-same (awaits list (ts ++ t ∷ [])) (awaits list ts) (recordCount list) as-before)
-        (count-snoc (isEqual list) ts t ∙ rw not-listed (omega arith))
-        (count-snoc (isUnequal list) ts t ∙ rw not-listed (omega arith))
-        (count-snoc (isUnlisted list) ts t ∙ rw not-listed)
+        (judged-more equal (held list) ts t on-no-axis ∙ omega arith)
+        (judged-more unequal (held list) ts t on-no-axis ∙ omega arith)
+        (judged-more unlisted (held list) ts t on-no-axis)
         (tab-cong 512 _ _ (λ i _. kept-alike list (awaits list (ts ++ t ∷ [])) (awaits list ts) i (as-before i))))
 
   -- ---- of a listed axis
@@ -135,32 +168,40 @@ module _ (list : List ℕ) (rising : Rising list) (ts : List Table) (t : Table) 
     -- the untold axes are one less if it was awaited
     one-less : countBelow (awaits list ts) (recordCount list) - getD (awaitedBy list (awaits list ts)) (recordFor list (t .axis)) 0 ≡ countBelow (awaits list (ts ++ t ∷ [])) (recordCount list)
     one-less =
-        let told = getD-tab 512 (λ i. bit (ltb i (recordCount list) && awaits list ts i)) k 0 (omega (arith, here)) in
+        let told = getD-tab 512 (λ i. digit (ltb i (recordCount list) && awaits list ts i)) k 0 (omega (arith, here)) in
         let fewer = count-same (awaits list (ts ++ t ∷ [])) (λ i. awaits list ts i && not (eqb i k)) (recordCount list) awaits-snoc in
         omega (arith, told, fewer, count-without (awaits list ts) k (recordCount list))
 
     -- and it is taken out of what is awaited
     struck : set (awaitedBy list (awaits list ts)) (recordFor list (t .axis)) 0 ≡ awaitedBy list (awaits list (ts ++ t ∷ []))
     struck =
-        let gone : bit (ltb k (recordCount list) && awaits list (ts ++ t ∷ []) k) ≡ 0 = rw (awaits-no-more, and-no) in
+        let gone : digit (ltb k (recordCount list) && awaits list (ts ++ t ∷ []) k) ≡ 0 = rw (awaits-no-more, and-no) in
         set-tab 512 _ _ k 0 gone (λ i n. kept-alike list (awaits list (ts ++ t ∷ [])) (awaits list ts) i (λ h. awaits-other i h n))
 
+    -- whether it is what its record expects
+    abbrev agrees : Bool
+    agrees = isExpected (expectedAt list (recordFor list (t .axis))) (t .contents)
+
+    on-its-axis : verdictOf (held list) t ≡ cond agrees equal unequal
+    unfolding verdictOf
+    on-its-axis = ap (λ (o : Option Expected). verdictBy o (t .contents)) (held-there list (t .axis) is)
+
     -- The tally of the tables and this one: one more equal or unequal.
-    pub listed-told : withListed (tallyOf list ts) (recordFor list (t .axis)) (agrees list (recordFor list (t .axis)) (t .contents)) ≡ tallyOf list (ts ++ t ∷ [])
-    unfolding tallyOf withListed isEqual isUnequal isUnlisted
+    pub listed-told : withListed (tallyOf list ts) (recordFor list (t .axis)) (isExpected (expectedAt list (recordFor list (t .axis))) (t .contents)) ≡ tallyOf list (ts ++ t ∷ [])
+    unfolding tallyOf withListed
     listed-told =
         parts-same list
         one-less
-        (sym (count-snoc (isEqual list) ts t ∙ rw is))
-        (sym (count-snoc (isUnequal list) ts t ∙ rw is))
-        (sym (count-snoc (isUnlisted list) ts t ∙ rw is (omega arith)))
+        (sym (judged-more equal (held list) ts t on-its-axis ∙ ap (λ (b : Bool). judged equal (held list) ts + digit b) (is-equal agrees)))
+        (sym (judged-more unequal (held list) ts t on-its-axis ∙ ap (λ (b : Bool). judged unequal (held list) ts + digit b) (is-unequal agrees)))
+        (sym (judged-more unlisted (held list) ts t on-its-axis ∙ ap (λ (b : Bool). judged unlisted (held list) ts + digit b) (not-unlisted agrees) ∙ omega arith))
         struck
 
 -- no table yet
-pub none-told : (list : List ℕ) → fresh list .tally ≡ tallyOf list []
-unfolding tallyOf fresh awaitedAll isTold
+pub none-told : (list : List ℕ) → freshReport list .tally ≡ tallyOf list []
+unfolding tallyOf freshReport awaitedAll isTold judged
 none-told list =
     parts-same list
-    (listed-records list ∙ sym (length-tab (recordCount list) (λ k. k)) ∙ sym (count-all (tab (recordCount list) (λ k. k))))
+    (sym (count-below (recordCount list)))
     refl refl refl
-    (tab-cong 512 _ _ (λ k _. ap bit (sym (and-yes (ltb k (recordCount list))))))
+    (tab-cong 512 _ _ (λ k _. ap digit (sym (and-yes (ltb k (recordCount list))))))

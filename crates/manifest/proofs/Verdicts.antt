@@ -1,4 +1,4 @@
--- The verdict on a listed table: a running hash that took its contents byte by byte matches the record of its axis exactly where the table agrees with it.
+-- The verdict on a listed table: a running hash that took its contents byte by byte matches the record of its axis exactly where the table is what that record expects.
 -- Assumes nothing.
 use mathlib.Core.Path.{_≡_, refl, sym, ap, ap₂, _∙_}
 use mathlib.Core.Bool.{Bool, true, false, _&&_}
@@ -11,6 +11,7 @@ use lib.ListN.{length, drop, replicate, length-drop, take-append-drop}
 use lib.Seq.{length-take-le}
 use borrow.Author.Tests.{le-leb, lt-leb, ltb-true, eqb-true}
 use Rattle.standard.specs.Chain.{byteBits, digestOf, endState}
+use Rattle.standard.specs.Messages.{bytes}
 use Rattle.standard.specs.Variants.{variant, known}
 use Rattle.standard.proofs.Tests.{and-true, lt-or-le}
 use Rattle.standard.proofs.Variants.{bounds}
@@ -26,10 +27,13 @@ use Rattle.hasher.specs.Pieces.{withByte}
 use Rattle.hasher.proofs.ByteByByte.{byte-by-byte}
 use Rattle.hasher.proofs.Next.{onward-none}
 use Rattle.hasher.proofs.Calls.{start-unknown, start-done, update-done, finish-done, result-length}
-use Rattle.hasher.proofs.Message.{taken, fresh-sized, fresh-open, fresh-whole, fresh-kept, none-kept, taken-open, end-status, end-into, whole-done}
+use Rattle.hasher.proofs.Message.{taken, fresh-sized, fresh-open, fresh-whole, fresh-kept, none-kept, few-bits, reached-open, end-status, end-into, whole-done}
 use Rattle.hasher.proofs.Demand2.{whole-digest}
-use Rattle.manifest.specs.Records.{recordCount, variantAt, filledAt, digestBytes, digestAt, fillerAt, zeros, manifestStatus, recordFor, isListed}
-use Rattle.manifest.specs.Counts.{same, agrees}
+use Rattle.manifest.specs.Lists.{same}
+use Rattle.manifest.specs.Records.{recordCount, variantAt, filledAt, digestBytes, digestAt, fillerAt, zeros, manifestStatus}
+use Rattle.manifest.specs.Installations.{expectedAt}
+use Rattle.manifest.specs.Counts.{isExpected}
+use Rattle.manifest.specs.Lookups.{recordFor, isListed}
 use Rattle.manifest.specs.Progress.{hashedUnder, matches}
 use Rattle.manifest.proofs.Counting.{and-yes, and-assoc}
 use Rattle.manifest.proofs.RecordLaws.{filled-length}
@@ -46,7 +50,7 @@ module _ (v : ℕ) (k : known v ≡ true) where
   contents-taken (b ∷ m) few =
       ap (λ (u : Advanced). foldl withByte (u .hasher) (b ∷ m)) (start-done v k)
       ∙ byte-by-byte (fresh v) (fresh-sized v k) b m (λ _. omega (arith, few))
-      ∙ ap (λ (u : Advanced). u .hasher) (update-done (fresh v) (fresh-open v k) (b ∷ m) (fresh-whole v k) (omega (arith, few)))
+      ∙ ap (λ (u : Advanced). u .hasher) (update-done (fresh v) (bytes (b ∷ m)) (fresh-open v k) refl (fresh-whole v k) (omega (arith, few-bits (b ∷ m) few)))
 
 -- one of variant 0 takes nothing
 blank-stays : (m : List ℕ) → foldl withByte (blank 0) m ≡ blank 0
@@ -62,7 +66,7 @@ none-matches : (list : List ℕ) (k : ℕ) → matches list k (blank 0) ≡ fals
 unfolding matches finished readStatus wellFormed
 none-matches list k = refl
 
--- ---- the digest in 32 bytes, zeros behind it
+-- ---- the digest in 32 bytes, zeros after it
 
 -- rows compared part by part
 same-append : (a b c d : List ℕ) → length a ≡ length c → same (a ++ b) (c ++ d) ≡ (same a c && same b d)
@@ -100,7 +104,7 @@ module _ (list : List ℕ) (passes : manifestStatus list ≡ Done) (k : ℕ) (he
   room : digestBytes v ≤ 32
   room = omega (arith, bounds v named .digest-most)
 
-  -- so many bytes with zeros behind them are the record's 32 where they are its digest
+  -- so many bytes with zeros after them are the record's 32 where they are its digest
   digest-alone : (d : List ℕ) → length d ≡ digestBytes v → same (d ++ drop (digestBytes v) (replicate 32 0)) (filledAt list k) ≡ same d (digestAt list k)
   unfolding digestAt fillerAt
   digest-alone d l =
@@ -119,11 +123,11 @@ module _ (list : List ℕ) (passes : manifestStatus list ≡ Done) (k : ℕ) (he
   hashed-matches : (m : List ℕ) → length m ≤ most → matches list k (taken v m) ≡ same (digestOf (variant v) (byteBits m)) (digestAt list k)
   unfolding matches digestOf
   hashed-matches m few =
-      let end : finished (taken v m) .hasher ≡ ended (taken v m) = ap (λ (a : Advanced). a .hasher) (finish-done (taken v m) (taken-open v named m few)) in
+      let end : finished (taken v m) .hasher ≡ ended (taken v m) = ap (λ (a : Advanced). a .hasher) (finish-done (taken v m) (reached-open v named (byteBits m) (few-bits m few))) in
       ap (λ (h : Hasher). whenDone (readStatus h Digest 32) (same (readInto h Digest (replicate 32 0)) (filledAt list k)) false) end
       ∙ ap₂ (λ (s : Status) (x : List ℕ). whenDone s (same x (filledAt list k)) false)
-      (end-status v named m few Digest 32 ∙ whole-done v named m few Digest (replicate 32 0) room .0)
-      (end-into v named m few Digest (replicate 32 0) ∙ whole-digest v named m few (replicate 32 0) room)
+      (end-status v named (bytes m) refl (few-bits m few) Digest 32 ∙ whole-done v named (bytes m) refl (few-bits m few) Digest (replicate 32 0) room .0)
+      (end-into v named (bytes m) refl (few-bits m few) Digest (replicate 32 0) ∙ whole-digest v named (bytes m) refl (few-bits m few) (replicate 32 0) room)
       ∙ digest-alone (digestOf (variant v) (byteBits m)) (result-length (variant v) Digest (endState (variant v) (byteBits m)))
 
 -- ---- a listed table
@@ -136,12 +140,13 @@ module _ (list : List ℕ) (passes : manifestStatus list ≡ Done) (axis : ℕ) 
   unfolding isListed
   here = ltb-true (recordFor list axis) (recordCount list) is
 
-  -- The running hash under the variant of the axis's record, after every byte of the contents, matches that record exactly where the table
-  -- agrees with it; past the limit neither.
-  pub verdict : matches list (recordFor list axis) (foldl withByte (started (hashedUnder list axis (length m)) .hasher) m) ≡ agrees list (recordFor list axis) m
-  unfolding hashedUnder agrees
+  -- The running hash under the variant of the axis's record, after every byte of the contents, matches that record exactly where the table is
+  -- what it expects; past the limit neither.
+  pub verdict : matches list (recordFor list axis) (foldl withByte (started (hashedUnder list axis (length m)) .hasher) m) ≡ isExpected (expectedAt list (recordFor list axis)) m
+  unfolding hashedUnder isExpected
   verdict =
+      let n = named list passes k here in
       ⊎-elim
-      (λ l. rw (lt-leb (length m) most l, is, none-taken m) (none-matches list k))
-      (λ l. rw (le-leb (length m) most l, is, contents-taken (variantAt list k) (named list passes k here) m l) (hashed-matches list passes k here m l))
+      (λ l. rw (lt-leb (length m) most l, is, n, none-taken m) (none-matches list k))
+      (λ l. rw (le-leb (length m) most l, is, n, contents-taken (variantAt list k) n m l) (hashed-matches list passes k here m l))
       (lt-or-le most (length m))

@@ -1,80 +1,76 @@
--- The six counts of a report (document 02, Q-1 and Q-5), from the bytes of a manifest and the bytes of a stream of tables.
+-- The six counts of a report (document 02, Q-1 and Q-5), from an installation and the bytes of a stream of tables.
 -- Assumes nothing.
 use mathlib.Core.Bool.{Bool, true, false, cond, not, _&&_}
-use mathlib.Core.List.{List, [], _∷_}
-use Prim.Native.Nat.{ℕ, suc}
+use mathlib.Core.List.{List}
+use mathlib.Core.Option.{Option, none, some}
+use Prim.Native.Nat.{ℕ}
 use lib.Dec.{eqb, ltb, leb}
 use lib.ListN.{length}
 use Rattle.answers.specs.Outputs.{most}
 use Rattle.standard.specs.Chain.{byteBits, digestOf}
-use Rattle.standard.specs.Variants.{variant}
+use Rattle.standard.specs.Variants.{variant, known}
 use Rattle.manifest.specs.declared.report.Summary.{Summary}
-use Rattle.manifest.specs.Records.{variantAt, digestAt, axesOf, recordFor, isListed}
+use Rattle.manifest.specs.Lists.{howMany, same}
 use Rattle.manifest.specs.Tables.{Table, tablesIn}
+use Rattle.manifest.specs.Installations.{Expected, Axes, allAxes, isThere, axisCount}
 
--- how many things of a list have a property
-abbrev pub howMany : {A : Type 0} → (A → Bool) → List A → ℕ
-howMany p [] = 0
-howMany p (x ∷ xs) = cond (p x) (suc (howMany p xs)) (howMany p xs)
+-- ---- one table
 
--- two rows of bytes are the same
-abbrev pub same : List ℕ → List ℕ → Bool
-same [] [] = true
-same [] (y ∷ ys) = false
-same (x ∷ xs) [] = false
-same (x ∷ xs) (y ∷ ys) = eqb x y && same xs ys
+-- what a report says of a table: it is the one that its axis should hold, it is not, or its axis is not there
+pub data Verdict : Type 0 where
+  equal : Verdict
+  unequal : Verdict
+  unlisted : Verdict
 
--- a table is within the limit of a message, and its digest under the variant of record k is the one of that record
-unfoldable pub agrees : List ℕ → ℕ → List ℕ → Bool
-agrees list k contents = leb (length contents) most && same (digestOf (variant (variantAt list k)) (byteBits contents)) (digestAt list k)
+-- a table is what is expected: within the limit of a message, and with the expected digest under the expected variant. Under a variant that is not
+-- known nothing has a digest
+unfoldable pub isExpected : Expected → List ℕ → Bool
+isExpected e contents =
+    known (e .variant) && leb (length contents) most && same (digestOf (variant (e .variant)) (byteBits contents)) (e .digest)
 
--- a table of a listed axis agrees with the record of that axis, or does not; a table of no listed axis
-unfoldable pub isEqual : List ℕ → Table → Bool
-isEqual list t = isListed list (t .axis) && agrees list (recordFor list (t .axis)) (t .contents)
+-- the verdict on a table, by what is expected of its axis
+abbrev pub verdictBy : Option Expected → List ℕ → Verdict
+verdictBy none contents = unlisted
+verdictBy (some e) contents = cond (isExpected e contents) equal unequal
 
-unfoldable pub isUnequal : List ℕ → Table → Bool
-isUnequal list t = isListed list (t .axis) && not (agrees list (recordFor list (t .axis)) (t .contents))
+unfoldable pub verdictOf : Axes → Table → Verdict
+verdictOf axes t = verdictBy (axes (t .axis)) (t .contents)
 
-unfoldable pub isUnlisted : List ℕ → Table → Bool
-isUnlisted list t = not (isListed list (t .axis))
+-- two verdicts are the same
+abbrev pub sameVerdict : Verdict → Verdict → Bool
+sameVerdict equal equal = true
+sameVerdict equal unequal = false
+sameVerdict equal unlisted = false
+sameVerdict unequal equal = false
+sameVerdict unequal unequal = true
+sameVerdict unequal unlisted = false
+sameVerdict unlisted equal = false
+sameVerdict unlisted unequal = false
+sameVerdict unlisted unlisted = true
+
+-- ---- a row of tables
+
+-- how many of them have a verdict
+unfoldable pub judged : Verdict → Axes → List Table → ℕ
+judged v axes ts = howMany (λ t. sameVerdict v (verdictOf axes t)) ts
 
 -- an axis has a table
 unfoldable pub isTold : List Table → ℕ → Bool
 isTold ts axis = ltb 0 (howMany (λ (t : Table). eqb (t .axis) axis) ts)
 
--- ---- the counts
+-- how many axes are there of which no table came
+unfoldable pub untold : Axes → List Table → ℕ
+untold axes ts = howMany (λ axis. isThere (axes axis) && not (isTold ts axis)) allAxes
 
--- how many axes there are
-unfoldable pub listed : List ℕ → ℕ
-listed list = length (axesOf list)
+-- ---- the six counts
 
--- tables that came whole, as far as a report looks
-unfoldable pub tables : List ℕ → ℕ
-tables stream = length (tablesIn stream)
-
--- tables of a listed axis that agree with its record, and those that do not
-unfoldable pub equal : List ℕ → List ℕ → ℕ
-equal list stream = howMany (isEqual list) (tablesIn stream)
-
-unfoldable pub unequal : List ℕ → List ℕ → ℕ
-unequal list stream = howMany (isUnequal list) (tablesIn stream)
-
--- the axes of which no table came
-unfoldable pub untold : List ℕ → List ℕ → ℕ
-untold list stream = howMany (λ axis. not (isTold (tablesIn stream) axis)) (axesOf list)
-
--- tables whose axis has no record
-unfoldable pub unlisted : List ℕ → List ℕ → ℕ
-unlisted list stream = howMany (isUnlisted list) (tablesIn stream)
-
--- all six
-unfoldable pub countsOf : List ℕ → List ℕ → Summary
-countsOf list stream =
+unfoldable pub countsOf : Axes → List ℕ → Summary
+countsOf axes stream =
     record {
-      listed = listed list;
-      tables = tables stream;
-      equal = equal list stream;
-      unequal = unequal list stream;
-      untold = untold list stream;
-      unlisted = unlisted list stream;
+      listed = axisCount axes;
+      tables = length (tablesIn stream);
+      equal = judged equal axes (tablesIn stream);
+      unequal = judged unequal axes (tablesIn stream);
+      untold = untold axes (tablesIn stream);
+      unlisted = judged unlisted axes (tablesIn stream);
     }

@@ -1,17 +1,18 @@
 -- Installations (document 02, Q-5: rig): which table each axis should hold, the manifest that says so, and what a manifest holds.
 -- Assumes nothing.
 use mathlib.Core.Path.{_≡_}
-use mathlib.Core.Bool.{Bool, true, false, cond}
+use mathlib.Core.Bool.{Bool, true, false}
 use mathlib.Core.List.{List, [], _∷_, _++_}
-use mathlib.Core.Option.{Option, none, some}
+use mathlib.Core.Option.{Option, none, some, Option·map}
 use Prim.Native.Nat.{ℕ, zero, suc, _-_, _≤_}
+use lib.Dec.{eqb}
 use lib.ListN.{length, replicate}
 use Rattle.answers.specs.Numbers.{Bytes, inBytes}
 use Rattle.standard.specs.Grid.{tab}
 use Rattle.standard.specs.Variants.{known}
 use Rattle.sponge.specs.Layout.{digestRoom}
-use Rattle.manifest.specs.Records.{mostRecords, variantAt, digestBytes, digestAt, recordFor, isListed}
-use Rattle.manifest.specs.Counts.{howMany}
+use Rattle.manifest.specs.Lists.{howMany, firstBelow}
+use Rattle.manifest.specs.Records.{mostRecords, recordCount, axisAt, variantAt, digestBytes, digestAt}
 
 -- what the table of an axis should be: one that has this digest under this variant
 pub record Expected : Type 0 where
@@ -26,6 +27,10 @@ Axes = ℕ → Option Expected
 abbrev pub axisNumbers : ℕ
 axisNumbers = 65536
 
+-- every axis number, once
+unfoldable pub allAxes : List ℕ
+allAxes = tab axisNumbers (λ axis. axis)
+
 -- an axis is there
 abbrev pub isThere : Option Expected → Bool
 isThere none = false
@@ -33,7 +38,7 @@ isThere (some e) = true
 
 -- how many axes a map has
 unfoldable pub axisCount : Axes → ℕ
-axisCount axes = howMany (λ axis. isThere (axes axis)) (tab axisNumbers (λ axis. axis))
+axisCount axes = howMany (λ axis. isThere (axes axis)) allAxes
 
 -- a variant that is known, and as many bytes as its digests have
 pub record IsSound (e : Expected) : Type 0 where
@@ -73,6 +78,6 @@ listOf axes = listBelow axisNumbers axes
 abbrev pub expectedAt : List ℕ → ℕ → Expected
 expectedAt list k = record { variant = variantAt list k; digest = digestAt list k }
 
--- what a manifest holds of an axis: what its record says, and nothing where it has none
+-- what a manifest holds of an axis: what the first record with its number says, and nothing where none has it
 unfoldable pub held : List ℕ → Axes
-held list axis = cond (isListed list axis) (some (expectedAt list (recordFor list axis))) none
+held list axis = Option·map (expectedAt list) (firstBelow (recordCount list) (λ k. eqb (axisAt list k) axis))

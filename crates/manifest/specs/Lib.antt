@@ -1,8 +1,11 @@
 -- The definitions that the contracts and the theorems of this crate cite.
+pub mod Lists
 pub mod Records
-pub mod Places
+pub mod Installations
 pub mod Tables
 pub mod Counts
+pub mod Lookups
+pub mod Places
 pub mod Progress
 pub mod Strides
-pub mod Installations
+pub mod Promises

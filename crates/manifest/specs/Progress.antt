@@ -1,5 +1,6 @@
--- A report in progress: what each byte of the stream makes of it, for the contracts. What a report comes to is defined in Counts, from the bytes alone, and
--- the theorem in-pieces shows that the two agree. Total: a report that no stream leads to has its next one too.
+-- Need not be believed: in-pieces says what the three calls in a row come to.
+-- A report in progress: what each byte of the stream makes of it, for the contracts of a report's calls. Total: a report that no stream leads to has
+-- its next one too.
 -- Assumes nothing.
 use mathlib.Core.Bool.{Bool, true, false, cond, not, _&&_}
 use mathlib.Core.List.{List, foldl}
@@ -7,6 +8,7 @@ use Prim.Native.Nat.{ℕ, _+_, _-_}
 use lib.Dec.{eqb, ltb, leb}
 use lib.ListN.{replicate, getD, set}
 use Rattle.answers.specs.Outputs.{whenDone, most}
+use Rattle.standard.specs.Bits.{digit}
 use Rattle.standard.specs.Grid.{tab}
 use Rattle.sponge.specs.Layout.{digestRoom}
 use Rattle.hasher.specs.declared.Hasher.{Hasher}
@@ -19,10 +21,10 @@ use Rattle.manifest.specs.declared.current.Current.{Current}
 use Rattle.manifest.specs.declared.report.Report.{Report}
 use Rattle.manifest.specs.declared.report.Beginning.{Beginning}
 use Rattle.manifest.specs.declared.report.Summary.{Summary}
-use Rattle.manifest.specs.Records.{mostRecords, recordCount, variantAt, filledAt, manifestStatus, recordFor, isListed}
-use Rattle.manifest.specs.Places.{isOrdered}
+use Rattle.manifest.specs.Lists.{same}
+use Rattle.manifest.specs.Records.{mostRecords, recordCount, variantAt, filledAt, manifestStatus}
 use Rattle.manifest.specs.Tables.{headerBytes, axisIn, lengthIn, mostTables}
-use Rattle.manifest.specs.Counts.{same, listed}
+use Rattle.manifest.specs.Lookups.{isOrdered, recordFor, isListed}
 
 -- ---- the table that is being read
 
@@ -35,23 +37,23 @@ unfoldable pub hashedUnder : List ℕ → ℕ → ℕ → ℕ
 hashedUnder list axis n = cond (isListed list axis && leb n most) (variantAt list (recordFor list axis)) 0
 
 -- its header is there, and the contents are to come
-unfoldable pub opened : List ℕ → List ℕ → Current
-opened list header =
+unfoldable pub openedTable : List ℕ → List ℕ → Current
+openedTable list header =
     record { header = header; got = headerBytes; left = lengthIn header; hasher = started (hashedUnder list (axisIn header) (lengthIn header)) .hasher }
 
 -- a byte of the header
-unfoldable pub headed : List ℕ → Current → ℕ → Current
-headed list c b =
+unfoldable pub headerByte : List ℕ → Current → ℕ → Current
+headerByte list c b =
     cond (ltb (c .got + 1) headerBytes)
     (record { header = set (c .header) (c .got) b; got = c .got + 1; left = c .left; hasher = c .hasher })
-    (opened list (set (c .header) (c .got) b))
+    (openedTable list (set (c .header) (c .got) b))
 
 -- a byte of the contents
-unfoldable pub grown : Current → ℕ → Current
-grown c b = record { header = c .header; got = c .got; left = c .left - 1; hasher = withByte (c .hasher) b }
+unfoldable pub contentByte : Current → ℕ → Current
+contentByte c b = record { header = c .header; got = c .got; left = c .left - 1; hasher = withByte (c .hasher) b }
 
-unfoldable pub onward : List ℕ → Current → ℕ → Current
-onward list c b = cond (ltb (c .got) headerBytes) (headed list c b) (grown c b)
+unfoldable pub tableByte : List ℕ → Current → ℕ → Current
+tableByte list c b = cond (ltb (c .got) headerBytes) (headerByte list c b) (contentByte c b)
 
 -- its last byte was read
 unfoldable pub isComplete : Current → Bool
@@ -59,15 +61,11 @@ isComplete c = leb headerBytes (c .got) && eqb (c .left) 0
 
 -- ---- the tally of the tables read
 
--- 1 where the condition holds
-abbrev pub bit : Bool → ℕ
-bit b = cond b 1 0
-
 -- the tables told so far
 abbrev pub tallied : Tally → ℕ
 tallied y = y .equal + y .unequal + y .unlisted
 
--- a running hash can be closed and read, and its digest with zeros behind it is what record k holds
+-- a running hash can be closed and read, and its digest with zeros after it is what record k holds
 unfoldable pub matches : List ℕ → ℕ → Hasher → Bool
 matches list k h =
     whenDone (readStatus (finished h .hasher) Digest digestRoom) (same (readInto (finished h .hasher) Digest (replicate digestRoom 0)) (filledAt list k)) false
@@ -78,8 +76,8 @@ withListed y k agrees =
     record {
       listed = y .listed;
       untold = y .untold - getD (y .awaited) k 0;
-      equal = y .equal + bit agrees;
-      unequal = y .unequal + bit (not agrees);
+      equal = y .equal + digit agrees;
+      unequal = y .unequal + digit (not agrees);
       unlisted = y .unlisted;
       awaited = set (y .awaited) k 0;
     }
@@ -103,24 +101,24 @@ unfoldable pub settled : List ℕ → Tally → Current → Report
 settled list y c =
     cond (isComplete c) (record { passed = true; tally = withTable list y c; current = unread }) (record { passed = true; tally = y; current = c })
 
--- a byte of the stream; none is looked at behind the last table
+-- a byte of the stream; none is looked at after the last table
 unfoldable pub byteTaken : List ℕ → Report → ℕ → Report
-byteTaken list r b = cond (ltb (tallied (r .tally)) mostTables) (settled list (r .tally) (onward list (r .current) b)) r
+byteTaken list r b = cond (ltb (tallied (r .tally)) mostTables) (settled list (r .tally) (tableByte list (r .current) b)) r
 
 -- each byte of a piece in turn; after a beginning that was refused, and with bytes that are not whole records or do not rise, nothing is read
-unfoldable pub taken : List ℕ → Report → List ℕ → Report
-taken list r piece = cond (r .passed && isOrdered list) (foldl (byteTaken list) r piece) r
+unfoldable pub pieceTaken : List ℕ → Report → List ℕ → Report
+pieceTaken list r piece = cond (r .passed && isOrdered list) (foldl (byteTaken list) r piece) r
 
 -- every axis awaited, by its record
 unfoldable pub awaitedAll : List ℕ → List ℕ
-awaitedAll list = tab mostRecords (λ k. bit (ltb k (recordCount list)))
+awaitedAll list = tab mostRecords (λ k. digit (ltb k (recordCount list)))
 
 -- no table read yet
-unfoldable pub fresh : List ℕ → Report
-fresh list =
+unfoldable pub freshReport : List ℕ → Report
+freshReport list =
     record {
       passed = true;
-      tally = record { listed = listed list; untold = listed list; equal = 0; unequal = 0; unlisted = 0; awaited = awaitedAll list };
+      tally = record { listed = recordCount list; untold = recordCount list; equal = 0; unequal = 0; unlisted = 0; awaited = awaitedAll list };
       current = unread;
     }
 
@@ -130,7 +128,7 @@ empty =
     record { passed = false; tally = record { listed = 0; untold = 0; equal = 0; unequal = 0; unlisted = 0; awaited = replicate mostRecords 0 }; current = unread }
 
 unfoldable pub begun : List ℕ → Beginning
-begun list = record { status = manifestStatus list; report = whenDone (manifestStatus list) (fresh list) empty }
+begun list = record { status = manifestStatus list; report = whenDone (manifestStatus list) (freshReport list) empty }
 
 -- ---- the counts
 
@@ -145,7 +143,3 @@ countsSoFar r =
       untold = r .tally .untold;
       unlisted = r .tally .unlisted;
     }
-
--- a report from its beginning, with every piece in turn
-unfoldable pub reported : List ℕ → List (List ℕ) → Report
-reported list pieces = foldl (taken list) (begun list .report) pieces

@@ -1,6 +1,6 @@
 -- A manifest (document 02, Q-1 and Q-5: rig list): records of 35 bytes that rise by axis number, each an axis number, a variant and the digest of that axis's table.
 -- Assumes nothing.
-use mathlib.Core.Bool.{Bool, true, cond, _&&_}
+use mathlib.Core.Bool.{Bool, true, _&&_}
 use mathlib.Core.List.{List, [], _∷_}
 use Prim.Native.Nat.{ℕ, zero, suc, _+_, _*_, _/_, _%_}
 use lib.Dec.{eqb, ltb, leb}
@@ -9,7 +9,6 @@ use Rattle.answers.specs.declared.Refusal.the-variants.{BadManifest, BadRecord,
 use Rattle.answers.specs.declared.Status.{Status}
 use Rattle.answers.specs.Checks.{Check, unless, firstRefusal, each}
 use Rattle.answers.specs.Numbers.{bigEndian}
-use Rattle.standard.specs.Grid.{tab}
 use Rattle.standard.specs.Variants.{variant, known}
 use Rattle.sponge.specs.Layout.{digestRoom}
 
@@ -28,7 +27,7 @@ isManifest list = eqb (length list % recordBytes) 0 && leb (length list) (mostRe
 abbrev pub recordCount : List ℕ → ℕ
 recordCount list = length list / recordBytes
 
--- record k: two bytes of axis number, one of variant, and room for a digest, with the filler behind it
+-- record k: two bytes of axis number, one of variant, and room for a digest, with the filler after it
 abbrev pub axisAt : List ℕ → ℕ → ℕ
 axisAt list k = bigEndian (take 2 (drop (recordBytes * k) list))
 
@@ -71,22 +70,3 @@ manifestChecks list = unless (isManifest list) BadManifest ∷ each (recordCount
 -- its answer
 unfoldable pub manifestStatus : List ℕ → Status
 manifestStatus list = firstRefusal (manifestChecks list)
-
--- ---- the axes
-
--- the axis of each record; in a manifest that passes no axis is there twice
-unfoldable pub axesOf : List ℕ → List ℕ
-axesOf list = tab (recordCount list) (axisAt list)
-
--- the least number below n of which p holds, and n where it holds of none
-abbrev pub leastBelow : ℕ → (ℕ → Bool) → ℕ
-leastBelow zero p = 0
-leastBelow (suc n) p = cond (p 0) 0 (suc (leastBelow n (λ k. p (suc k))))
-
--- the record of an axis, which has its number; the record count where there is none. In a manifest that passes no second record has it.
-unfoldable pub recordFor : List ℕ → ℕ → ℕ
-recordFor list axis = leastBelow (recordCount list) (λ k. eqb (axisAt list k) axis)
-
--- an axis has a record
-unfoldable pub isListed : List ℕ → ℕ → Bool
-isListed list axis = ltb (recordFor list axis) (recordCount list)

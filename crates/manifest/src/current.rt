@@ -6,9 +6,9 @@ ghost use Prim.Native.Nat.{_+_, _-_, _*_, _≤_, _<_};
 ghost use lib.ListN.{length};
 ghost use Rattle.answers.specs.Outputs.{mostBits};
 ghost use Rattle.hasher.specs.Pieces.{withByte};
-ghost use Rattle.manifest.specs.Places.{isOrdered};
+ghost use Rattle.manifest.specs.Lookups.{isOrdered};
 ghost use Rattle.manifest.specs.Tables.{headerBytes, axisIn, lengthIn};
-ghost use Rattle.manifest.specs.Progress.{unread, hashedUnder, opened, headed, onward, isComplete};
+ghost use Rattle.manifest.specs.Progress.{unread, hashedUnder, openedTable, headerByte, tableByte, isComplete};
 ghost use Rattle.manifest.specs.Strides.{Stride};
 use crate::records;
 use crate::records::RECORD_BYTES;
@@ -43,18 +43,18 @@ pub fn unread() -> Current
 }
 
 // The variant under which a table of n bytes is hashed: 0, under which nothing is, where it need not be.
-fn hashed_under(list: &[u8], axis: u16, n: u32) -> u32
-    requires { ⌜ isOrdered (now list) ≡ true ⌝ }
-    ensures { λ r. ⌜ r ≡ hashedUnder (now (list .entry)) axis n ⌝ }
+fn hashed_under(manifest: &[u8], axis: u16, n: u32) -> u32
+    requires { ⌜ isOrdered (now manifest) ≡ true ⌝ }
+    ensures { λ r. ⌜ r ≡ hashedUnder (now (manifest .entry)) axis n ⌝ }
 {
-    let k = records::record_for(list, axis);
-    if list.len() / RECORD_BYTES <= k {
+    let k = records::record_for(manifest, axis);
+    if manifest.len() / RECORD_BYTES <= k {
         return 0;
     }
     if MOST < n as usize {
         return 0;
     }
-    records::variant_at(list, k) as u32
+    records::variant_at(manifest, k) as u32
 }
 
 pub fn axis_in(header: [u8; HEADER_BYTES]) -> u16
@@ -70,13 +70,13 @@ fn length_in(header: [u8; HEADER_BYTES]) -> u32
 }
 
 // The header is there, and the contents are to come.
-fn opened(list: &[u8], header: [u8; HEADER_BYTES]) -> Current
-    requires { ⌜ isOrdered (now list) ≡ true ⌝ }
-    ensures { λ r. ⌜ r ≡ opened (now (list .entry)) header ⌝ }
+fn open_table(manifest: &[u8], header: [u8; HEADER_BYTES]) -> Current
+    requires { ⌜ isOrdered (now manifest) ≡ true ⌝ }
+    ensures { λ r. ⌜ r ≡ openedTable (now (manifest .entry)) header ⌝ }
 {
     let n = length_in(header);
-    let begun = hasher::start(hashed_under(list, axis_in(header), n));
-    let h = begun.hasher;
+    let started = hasher::start(hashed_under(manifest, axis_in(header), n));
+    let h = started.hasher;
     Current {
         header: header,
         got: HEADER_BYTES as u8,
@@ -86,10 +86,10 @@ fn opened(list: &[u8], header: [u8; HEADER_BYTES]) -> Current
 }
 
 // One byte more of the header.
-fn headed(list: &[u8], c: Current, b: u8) -> Current
-    requires { ⌜ isOrdered (now list) ≡ true ⌝ }
+fn header_byte(manifest: &[u8], c: Current, b: u8) -> Current
+    requires { ⌜ isOrdered (now manifest) ≡ true ⌝ }
     requires { ⌜ c .got < headerBytes ⌝ }
-    ensures { λ r. ⌜ r ≡ headed (now (list .entry)) c b ⌝ }
+    ensures { λ r. ⌜ r ≡ headerByte (now (manifest .entry)) c b ⌝ }
 {
     let mut header = c.header;
     header[c.got as usize] = b;
@@ -102,7 +102,7 @@ fn headed(list: &[u8], c: Current, b: u8) -> Current
             hasher: h,
         };
     }
-    opened(list, header)
+    open_table(manifest, header)
 }
 
 fn least(a: usize, b: usize) -> usize
@@ -155,13 +155,13 @@ fn with_bytes(h: Hasher, part: &[u8]) -> Hasher
 }
 
 // A stride more of the table.
-pub fn onward(list: &[u8], c: Current, part: &[u8]) -> Current
-    requires { ⌜ isOrdered (now list) ≡ true ⌝ }
+pub fn advance(manifest: &[u8], c: Current, part: &[u8]) -> Current
+    requires { ⌜ isOrdered (now manifest) ≡ true ⌝ }
     requires { ⌜ Stride c (length (now part)) ⌝ }
-    ensures { λ r. ⌜ r ≡ foldl (onward (now (list .entry))) c (now (part .entry)) ⌝ }
+    ensures { λ r. ⌜ r ≡ foldl (tableByte (now (manifest .entry))) c (now (part .entry)) ⌝ }
 {
     if (c.got as usize) < HEADER_BYTES {
-        return headed(list, c, part[0]);
+        return header_byte(manifest, c, part[0]);
     }
     let header = c.header;
     let h = with_bytes(c.hasher, part);

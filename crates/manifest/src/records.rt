@@ -4,45 +4,46 @@ ghost use mathlib.Core.Bool.{true};
 ghost use Prim.Native.Nat.{_*_, _+_, _≤_, _<_};
 ghost use lib.ListN.{drop};
 ghost use Rattle.answers.specs.Checks.{firstRefusal};
-ghost use Rattle.manifest.specs.Records.{isManifest, recordCount, axisAt, variantAt, filledAt, zeros, risesAt, recordChecks, manifestStatus, recordFor};
-ghost use Rattle.manifest.specs.Places.{isOrdered, Place};
+ghost use Rattle.manifest.specs.Records.{isManifest, recordCount, axisAt, variantAt, filledAt, zeros, risesAt, recordChecks, manifestStatus};
+ghost use Rattle.manifest.specs.Lookups.{isOrdered, recordFor};
+ghost use Rattle.manifest.specs.Places.{Place};
 use answers::Refusal;
 use answers::Status;
 use sponge::DIGEST_BYTES;
 
-// A record: two bytes of axis number, one of variant, and 32 of the digest and the filler behind it.
+// A record: two bytes of axis number, one of variant, and 32 of the digest and the filler after it.
 pub const RECORD_BYTES: usize = 35;
 
 pub const MOST_RECORDS: usize = 512;
 
 // Whole records, and no more than 512 of them.
-fn is_manifest(list: &[u8]) -> bool
-    ensures { λ r. ⌜ r ≡ isManifest (now (list .entry)) ⌝ }
+fn is_manifest(manifest: &[u8]) -> bool
+    ensures { λ r. ⌜ r ≡ isManifest (now (manifest .entry)) ⌝ }
 {
-    list.len() % RECORD_BYTES == 0 && list.len() <= MOST_RECORDS * RECORD_BYTES
+    manifest.len() % RECORD_BYTES == 0 && manifest.len() <= MOST_RECORDS * RECORD_BYTES
 }
 
-fn axis_at(list: &[u8], k: usize) -> u16
-    requires { ⌜ k < recordCount (now list) ⌝ }
-    ensures { λ r. ⌜ r ≡ axisAt (now (list .entry)) k ⌝ }
+fn axis_at(manifest: &[u8], k: usize) -> u16
+    requires { ⌜ k < recordCount (now manifest) ⌝ }
+    ensures { λ r. ⌜ r ≡ axisAt (now (manifest .entry)) k ⌝ }
 {
-    answers::u16_at(list, RECORD_BYTES * k)
+    answers::u16_at(manifest, RECORD_BYTES * k)
 }
 
-pub fn variant_at(list: &[u8], k: usize) -> u8
-    requires { ⌜ k < recordCount (now list) ⌝ }
-    ensures { λ r. ⌜ r ≡ variantAt (now (list .entry)) k ⌝ }
+pub fn variant_at(manifest: &[u8], k: usize) -> u8
+    requires { ⌜ k < recordCount (now manifest) ⌝ }
+    ensures { λ r. ⌜ r ≡ variantAt (now (manifest .entry)) k ⌝ }
 {
-    list[RECORD_BYTES * k + 2]
+    manifest[RECORD_BYTES * k + 2]
 }
 
 // The digest of record k and its filler, where they lie in the manifest.
-pub fn filled_at<'a>(list: &'a [u8], k: usize) -> &'a [u8]
-    requires { ⌜ k < recordCount (now list) ⌝ }
-    ensures { λ r. ⌜ now r ≡ filledAt (now (list .entry)) k ⌝ }
+pub fn filled_at<'a>(manifest: &'a [u8], k: usize) -> &'a [u8]
+    requires { ⌜ k < recordCount (now manifest) ⌝ }
+    ensures { λ r. ⌜ now r ≡ filledAt (now (manifest .entry)) k ⌝ }
 {
     let a = RECORD_BYTES * k + 3;
-    &list[a..a + DIGEST_BYTES]
+    &manifest[a..a + DIGEST_BYTES]
 }
 
 // Whether every byte from `from` on is zero.
@@ -60,45 +61,45 @@ fn zero_from(bytes: &[u8], from: usize) -> bool
 }
 
 // Whether the axis number of record k is above the one before it.
-fn rises_at(list: &[u8], k: usize) -> bool
-    requires { ⌜ k < recordCount (now list) ⌝ }
-    ensures { λ r. ⌜ r ≡ risesAt (now (list .entry)) k ⌝ }
+fn rises_at(manifest: &[u8], k: usize) -> bool
+    requires { ⌜ k < recordCount (now manifest) ⌝ }
+    ensures { λ r. ⌜ r ≡ risesAt (now (manifest .entry)) k ⌝ }
 {
     if k == 0 {
         return true;
     }
-    axis_at(list, k - 1) < axis_at(list, k)
+    axis_at(manifest, k - 1) < axis_at(manifest, k)
 }
 
 // Refusals 13 and 14 of one record.
-fn check_record(list: &[u8], k: usize) -> Status
-    requires { ⌜ k < recordCount (now list) ⌝ }
-    ensures { λ r. ⌜ r ≡ firstRefusal (recordChecks (now (list .entry)) k) ⌝ }
+fn check_record(manifest: &[u8], k: usize) -> Status
+    requires { ⌜ k < recordCount (now manifest) ⌝ }
+    ensures { λ r. ⌜ r ≡ firstRefusal (recordChecks (now (manifest .entry)) k) ⌝ }
 {
-    let v = variant_at(list, k);
+    let v = variant_at(manifest, k);
     if !sponge::sizes::is_known(v as u32) {
         return Status::Refused(Refusal::BadRecord);
     }
-    if !zero_from(filled_at(list, k), sponge::sizes::digest_bytes(v)) {
+    if !zero_from(filled_at(manifest, k), sponge::sizes::digest_bytes(v)) {
         return Status::Refused(Refusal::BadRecord);
     }
-    if !rises_at(list, k) {
+    if !rises_at(manifest, k) {
         return Status::Refused(Refusal::NotRising);
     }
     Status::Done
 }
 
 // Whether a report can be made of it: refusals 12, 13, 14.
-pub fn check(list: &[u8]) -> Status
-    ensures { λ r. ⌜ r ≡ manifestStatus (now (list .entry)) ⌝ }
+pub fn check(manifest: &[u8]) -> Status
+    ensures { λ r. ⌜ r ≡ manifestStatus (now (manifest .entry)) ⌝ }
 {
-    if !is_manifest(list) {
+    if !is_manifest(manifest) {
         return Status::Refused(Refusal::BadManifest);
     }
-    let n = list.len() / RECORD_BYTES;
+    let n = manifest.len() / RECORD_BYTES;
     let mut k = 0;
     while k < n {
-        let s = check_record(list, k);
+        let s = check_record(manifest, k);
         if let Status::Done = s {
             k += 1;
         } else {
@@ -109,16 +110,16 @@ pub fn check(list: &[u8]) -> Status
 }
 
 // Whether an axis can be looked up in it: a manifest whose axis numbers rise.
-pub fn is_ordered(list: &[u8]) -> bool
-    ensures { λ r. ⌜ r ≡ isOrdered (now (list .entry)) ⌝ }
+pub fn is_ordered(manifest: &[u8]) -> bool
+    ensures { λ r. ⌜ r ≡ isOrdered (now (manifest .entry)) ⌝ }
 {
-    if !is_manifest(list) {
+    if !is_manifest(manifest) {
         return false;
     }
-    let n = list.len() / RECORD_BYTES;
+    let n = manifest.len() / RECORD_BYTES;
     let mut k = 0;
     while k < n {
-        if !rises_at(list, k) {
+        if !rises_at(manifest, k) {
             return false;
         }
         k += 1;
@@ -127,15 +128,15 @@ pub fn is_ordered(list: &[u8]) -> bool
 }
 
 // Where an axis stands, or would stand: by bisection, since the numbers rise.
-fn place_of(list: &[u8], axis: u16) -> usize
-    requires { ⌜ isOrdered (now list) ≡ true ⌝ }
-    ensures { λ r. ⌜ Place (now (list .entry)) axis r ⌝ }
+fn place_of(manifest: &[u8], axis: u16) -> usize
+    requires { ⌜ isOrdered (now manifest) ≡ true ⌝ }
+    ensures { λ r. ⌜ Place (now (manifest .entry)) axis r ⌝ }
 {
     let mut low = 0;
-    let mut high = list.len() / RECORD_BYTES;
+    let mut high = manifest.len() / RECORD_BYTES;
     while low < high {
         let middle = low + (high - low) / 2;
-        if axis_at(list, middle) < axis {
+        if axis_at(manifest, middle) < axis {
             low = middle + 1;
         } else {
             high = middle;
@@ -145,16 +146,16 @@ fn place_of(list: &[u8], axis: u16) -> usize
 }
 
 // The record of an axis; the record count where there is none.
-pub fn record_for(list: &[u8], axis: u16) -> usize
-    requires { ⌜ isOrdered (now list) ≡ true ⌝ }
-    ensures { λ r. ⌜ (r ≡ recordFor (now (list .entry)) axis) × (r ≤ recordCount (now (list .entry))) ⌝ }
+pub fn record_for(manifest: &[u8], axis: u16) -> usize
+    requires { ⌜ isOrdered (now manifest) ≡ true ⌝ }
+    ensures { λ r. ⌜ (r ≡ recordFor (now (manifest .entry)) axis) × (r ≤ recordCount (now (manifest .entry))) ⌝ }
 {
-    let n = list.len() / RECORD_BYTES;
-    let k = place_of(list, axis);
+    let n = manifest.len() / RECORD_BYTES;
+    let k = place_of(manifest, axis);
     if n <= k {
         return n;
     }
-    if axis_at(list, k) == axis {
+    if axis_at(manifest, k) == axis {
         return k;
     }
     n

@@ -5,11 +5,10 @@ ghost use mathlib.Core.List.{foldl};
 ghost use Prim.Native.Nat.{_<_};
 ghost use lib.ListN.{length};
 ghost use Rattle.manifest.specs.Records.{isManifest};
-ghost use Rattle.manifest.specs.Places.{isOrdered};
+ghost use Rattle.manifest.specs.Lookups.{isOrdered};
 ghost use Rattle.manifest.specs.Tables.{mostTables};
-ghost use Rattle.manifest.specs.Progress.{tallied, settled, byteTaken, fresh, countsSoFar};
+ghost use Rattle.manifest.specs.Progress.{tallied, settled, byteTaken, pieceTaken, freshReport, begun, countsSoFar};
 ghost use Rattle.manifest.specs.Strides.{Stride};
-ghost use Rattle.manifest.specs.Progress.{taken as Progress·taken, begun as Progress·begun};
 use crate::current;
 use crate::current::Current;
 use crate::records;
@@ -45,11 +44,11 @@ pub struct Summary {
 }
 
 // No table read yet.
-fn fresh(list: &[u8]) -> Report
-    requires { ⌜ isManifest (now list) ≡ true ⌝ }
-    ensures { λ r. ⌜ r ≡ fresh (now (list .entry)) ⌝ }
+fn fresh_report(manifest: &[u8]) -> Report
+    requires { ⌜ isManifest (now manifest) ≡ true ⌝ }
+    ensures { λ r. ⌜ r ≡ freshReport (now (manifest .entry)) ⌝ }
 {
-    let n = tally::listed(list);
+    let n = tally::listed(manifest);
     Report {
         passed: true,
         tally: Tally {
@@ -58,21 +57,21 @@ fn fresh(list: &[u8]) -> Report
             equal: 0,
             unequal: 0,
             unlisted: 0,
-            awaited: tally::awaited_all(list),
+            awaited: tally::awaited_all(manifest),
         },
         current: current::unread(),
     }
 }
 
 // A report with no table read yet: refusals 12, 13, 14.
-pub fn begun(list: &[u8]) -> Beginning
-    ensures { λ r. ⌜ r ≡ Progress·begun (now (list .entry)) ⌝ }
+pub fn start(manifest: &[u8]) -> Beginning
+    ensures { λ r. ⌜ r ≡ begun (now (manifest .entry)) ⌝ }
 {
-    let status = records::check(list);
+    let status = records::check(manifest);
     if let Status::Done = status {
         return Beginning {
             status: Status::Done,
-            report: fresh(list),
+            report: fresh_report(manifest),
         };
     }
     Beginning {
@@ -93,15 +92,15 @@ pub fn begun(list: &[u8]) -> Beginning
 }
 
 // A table that is complete goes into the tally.
-fn settled(list: &[u8], y: Tally, c: Current) -> Report
-    requires { ⌜ isOrdered (now list) ≡ true ⌝ }
+fn settle(manifest: &[u8], y: Tally, c: Current) -> Report
+    requires { ⌜ isOrdered (now manifest) ≡ true ⌝ }
     requires { ⌜ tallied y < mostTables ⌝ }
-    ensures { λ r. ⌜ r ≡ settled (now (list .entry)) y c ⌝ }
+    ensures { λ r. ⌜ r ≡ settled (now (manifest .entry)) y c ⌝ }
 {
     if current::is_complete(c) {
         return Report {
             passed: true,
-            tally: tally::with_table(list, y, c),
+            tally: tally::with_table(manifest, y, c),
             current: current::unread(),
         };
     }
@@ -113,31 +112,35 @@ fn settled(list: &[u8], y: Tally, c: Current) -> Report
 }
 
 // Some bytes of the stream, of which only the last can end a table.
-fn stepped(list: &[u8], r: Report, part: &[u8]) -> Report
-    requires { ⌜ isOrdered (now list) ≡ true ⌝ }
+fn stepped(manifest: &[u8], r: Report, part: &[u8]) -> Report
+    requires { ⌜ isOrdered (now manifest) ≡ true ⌝ }
     requires { ⌜ tallied (r .tally) < mostTables ⌝ }
     requires { ⌜ Stride (r .current) (length (now part)) ⌝ }
-    ensures { λ s. ⌜ s ≡ foldl (byteTaken (now (list .entry))) r (now (part .entry)) ⌝ }
+    ensures { λ s. ⌜ s ≡ foldl (byteTaken (now (manifest .entry))) r (now (part .entry)) ⌝ }
 {
-    settled(list, r.tally, current::onward(list, r.current, part))
+    settle(
+        manifest,
+        r.tally,
+        current::advance(manifest, r.current, part),
+    )
 }
 
-// The report after a piece of the stream. Behind the last table that it looks at nothing changes it.
-pub fn taken(list: &[u8], report: Report, piece: &[u8]) -> Report
-    ensures { λ r. ⌜ r ≡ Progress·taken (now (list .entry)) report (now (piece .entry)) ⌝ }
+// The report after a piece of the stream. After the last table that it looks at nothing changes it.
+pub fn update(manifest: &[u8], report: Report, piece: &[u8]) -> Report
+    ensures { λ r. ⌜ r ≡ pieceTaken (now (manifest .entry)) report (now (piece .entry)) ⌝ }
 {
     let mut latest = report;
     if !report.passed {
         return latest;
     }
     // Without an order no axis can be looked up.
-    if !records::is_ordered(list) {
+    if !records::is_ordered(manifest) {
         return latest;
     }
     let mut i = 0;
     while i < piece.len() && tally::tallied(latest.tally) < MOST_TABLES {
         let n = current::stride(latest.current, piece.len() - i);
-        let next = stepped(list, latest, &piece[i..i + n]);
+        let next = stepped(manifest, latest, &piece[i..i + n]);
         latest = next;
         i += n;
     }
@@ -145,7 +148,7 @@ pub fn taken(list: &[u8], report: Report, piece: &[u8]) -> Report
 }
 
 // The counts that a report has come to.
-pub fn counts(report: Report) -> Summary
+pub fn summary_of(report: Report) -> Summary
     ensures { λ r. ⌜ r ≡ countsSoFar report ⌝ }
 {
     let y = report.tally;

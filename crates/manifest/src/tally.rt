@@ -3,11 +3,12 @@ ghost use mathlib.Core.Path.{_≡_};
 ghost use mathlib.Core.Bool.{true};
 ghost use Prim.Native.Nat.{_≤_, _<_};
 ghost use lib.ListN.{length};
+ghost use Rattle.standard.specs.Bits.{digit};
+ghost use Rattle.manifest.specs.Lists.{same};
 ghost use Rattle.manifest.specs.Records.{mostRecords, isManifest, recordCount};
-ghost use Rattle.manifest.specs.Places.{isOrdered};
+ghost use Rattle.manifest.specs.Lookups.{isOrdered};
 ghost use Rattle.manifest.specs.Tables.{mostTables};
-ghost use Rattle.manifest.specs.Counts.{same, listed};
-ghost use Rattle.manifest.specs.Progress.{bit, tallied, matches, withListed, withUnlisted, withTable, awaitedAll};
+ghost use Rattle.manifest.specs.Progress.{tallied, matches, withListed, withUnlisted, withTable, awaitedAll};
 use crate::current::Current;
 use crate::current::axis_in;
 use crate::current::minus;
@@ -29,18 +30,18 @@ pub struct Tally {
 }
 
 // 1 where the condition holds.
-fn bit(b: bool) -> u8
-    ensures { λ r. ⌜ (r ≡ bit b) × (r ≤ 1) ⌝ }
+fn one_if(b: bool) -> u8
+    ensures { λ r. ⌜ (r ≡ digit b) × (r ≤ 1) ⌝ }
 {
     if b { 1 } else { 0 }
 }
 
 // At the beginning every axis is awaited, by its record.
-pub fn awaited_all(list: &[u8]) -> [u8; MOST_RECORDS]
-    requires { ⌜ isManifest (now list) ≡ true ⌝ }
-    ensures { λ r. ⌜ r ≡ awaitedAll (now (list .entry)) ⌝ }
+pub fn awaited_all(manifest: &[u8]) -> [u8; MOST_RECORDS]
+    requires { ⌜ isManifest (now manifest) ≡ true ⌝ }
+    ensures { λ r. ⌜ r ≡ awaitedAll (now (manifest .entry)) ⌝ }
 {
-    let n = list.len() / RECORD_BYTES;
+    let n = manifest.len() / RECORD_BYTES;
     let mut out = [0u8; MOST_RECORDS];
     let mut k = 0;
     while k < n {
@@ -50,12 +51,12 @@ pub fn awaited_all(list: &[u8]) -> [u8; MOST_RECORDS]
     out
 }
 
-// How many axes are listed.
-pub fn listed(list: &[u8]) -> u16
-    requires { ⌜ isManifest (now list) ≡ true ⌝ }
-    ensures { λ r. ⌜ r ≡ listed (now (list .entry)) ⌝ }
+// How many axes are listed: each record has its own.
+pub fn listed(manifest: &[u8]) -> u16
+    requires { ⌜ isManifest (now manifest) ≡ true ⌝ }
+    ensures { λ r. ⌜ r ≡ recordCount (now (manifest .entry)) ⌝ }
 {
-    (list.len() / RECORD_BYTES) as u16
+    (manifest.len() / RECORD_BYTES) as u16
 }
 
 // How many tables were read. Since none of the three counts is above it, none passes its type while this is below the most tables.
@@ -81,15 +82,15 @@ fn is_same(a: &[u8], b: &[u8]) -> bool
 }
 
 // Whether a running hash ends in the digest of record k.
-fn matches(list: &[u8], k: usize, h: Hasher) -> bool
-    requires { ⌜ k < recordCount (now list) ⌝ }
-    ensures { λ r. ⌜ r ≡ matches (now (list .entry)) k h ⌝ }
+fn matches(manifest: &[u8], k: usize, h: Hasher) -> bool
+    requires { ⌜ k < recordCount (now manifest) ⌝ }
+    ensures { λ r. ⌜ r ≡ matches (now (manifest .entry)) k h ⌝ }
 {
     let mut digest = [0u8; DIGEST_BYTES];
     let ended = hasher::finish(h);
     let status = hasher::digest(ended.hasher, &mut digest);
     if let Status::Done = status {
-        return is_same(&digest, records::filled_at(list, k));
+        return is_same(&digest, records::filled_at(manifest, k));
     }
     false
 }
@@ -105,8 +106,8 @@ fn with_listed(y: Tally, k: usize, agrees: bool) -> Tally
     awaited[k] = 0;
     let untold = minus(y.untold as u32, due as u32) as u16;
     let differs = !agrees;
-    let equal = y.equal + bit(agrees) as u16;
-    let unequal = y.unequal + bit(differs) as u16;
+    let equal = y.equal + one_if(agrees) as u16;
+    let unequal = y.unequal + one_if(differs) as u16;
     Tally {
         listed: y.listed,
         untold: untold,
@@ -134,15 +135,15 @@ fn with_unlisted(y: Tally) -> Tally
 }
 
 // The tally with the table that was read.
-pub fn with_table(list: &[u8], y: Tally, c: Current) -> Tally
-    requires { ⌜ isOrdered (now list) ≡ true ⌝ }
+pub fn with_table(manifest: &[u8], y: Tally, c: Current) -> Tally
+    requires { ⌜ isOrdered (now manifest) ≡ true ⌝ }
     requires { ⌜ tallied y < mostTables ⌝ }
-    ensures { λ r. ⌜ r ≡ withTable (now (list .entry)) y c ⌝ }
+    ensures { λ r. ⌜ r ≡ withTable (now (manifest .entry)) y c ⌝ }
 {
     let header = c.header;
-    let k = records::record_for(list, axis_in(header));
-    if k < list.len() / RECORD_BYTES {
-        return with_listed(y, k, matches(list, k, c.hasher));
+    let k = records::record_for(manifest, axis_in(header));
+    if k < manifest.len() / RECORD_BYTES {
+        return with_listed(y, k, matches(manifest, k, c.hasher));
     }
     with_unlisted(y)
 }

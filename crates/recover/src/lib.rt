@@ -7,8 +7,7 @@ ghost use Prim.Native.Nat.{_<_};
 ghost use lib.ListN.{length, drop, replicate};
 ghost use Rattle.standard.specs.Sponge.{isSponge, stateIn};
 ghost use Rattle.standard.specs.Chain.{blocksOf, blockCount};
-ghost use Rattle.standard.specs.Messages.{bytes};
-ghost use Rattle.standard.specs.Messages as given-as;
+ghost use Rattle.standard.specs.Messages.{bytes, partial};
 ghost use Rattle.standard.specs.Variants.{variant, known};
 ghost use Rattle.answers.specs.declared.Status.the-variants.{Done};
 ghost use Rattle.answers.specs.Checks.{firstRefusal};
@@ -231,8 +230,8 @@ pub fn recover_bits(
     image: &[u8],
     out: &mut [u8],
 ) -> Status
-    ensures { λ r. ⌜ (r ≡ recoverStatus variant (given-as.bits (now (message .entry)) bits) place (now (image .entry)) (length (now (out .entry))))
-        × (now (out .exit) ≡ recoverInto variant (given-as.bits (now (message .entry)) bits) place (now (image .entry)) (now (out .entry))) ⌝ }
+    ensures { λ r. ⌜ (r ≡ recoverStatus variant (partial (now (message .entry)) bits) place (now (image .entry)) (length (now (out .entry))))
+        × (now (out .exit) ≡ recoverInto variant (partial (now (message .entry)) bits) place (now (image .entry)) (now (out .entry))) ⌝ }
 {
     recover_with(variant, message, Ending::Bits(bits), place, image, out)
 }

@@ -15,7 +15,7 @@ use Rattle.answers.specs.declared.Status.the-variants.{Refused}
 use Rattle.answers.specs.Outputs.{isDone}
 use Rattle.manifest.specs.declared.report.Report.{Report}
 use Rattle.manifest.specs.Tables.{mostTables}
-use Rattle.manifest.specs.Progress.{begun, taken, countsSoFar}
+use Rattle.manifest.specs.Progress.{begun, pieceTaken, countsSoFar}
 use Rattle.report.specs.declared.input.Fed.{Fed}
 
 -- a read found the end
@@ -49,4 +49,4 @@ standing status report got =
 
 -- after a read of the tables: the report takes what it brought, which stands at the front of the buffer
 abbrev pub afterPiece : List ℕ → Fed → List ℕ → ℤ → Fed
-afterPiece list fed buffer got = standing (fed .status) (taken list (fed .report) (take (clamped got (length buffer)) buffer)) got
+afterPiece list fed buffer got = standing (fed .status) (pieceTaken list (fed .report) (take (clamped got (length buffer)) buffer)) got

@@ -36,7 +36,7 @@ fn file_status(status: Status, past: isize) -> Status
 pub fn after_list(list: &[u8], past: isize) -> Fed
     ensures { λ r. ⌜ r ≡ afterList (now (list .entry)) past ⌝ }
 {
-    let begun = manifest::begun(list);
+    let begun = manifest::start(list);
     let report = begun.report;
     let checked = begun.status;
     let status = file_status(checked, past);
@@ -59,8 +59,8 @@ pub fn after_piece(list: &[u8], fed: Fed, buffer: &[u8], got: isize) -> Fed
     ensures { λ r. ⌜ r ≡ afterPiece (now (list .entry)) fed (now (buffer .entry)) got ⌝ }
 {
     let n = io::count(got, buffer);
-    let next = manifest::taken(list, fed.report, &buffer[..n]);
-    let counts = manifest::counts(next);
+    let next = manifest::update(list, fed.report, &buffer[..n]);
+    let counts = manifest::summary_of(next);
     let status = fed.status;
     Fed {
         status: status,

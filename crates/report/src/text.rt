@@ -32,7 +32,7 @@ pub fn write_report(status: Status, report: Report, out: &mut [u8]) -> usize
     ensures { λ r. ⌜ (now (out .exit) ≡ writtenAt 0 (printed status report) (now (out .entry))) × (r ≡ length (printed status report)) × (r ≤ 110) ⌝ }
 {
     match status {
-        Status::Done => write_summary(manifest::counts(report), out),
+        Status::Done => write_summary(manifest::summary_of(report), out),
         Status::Refused(r) => write_refusal(r, out),
     }
 }

@@ -21,7 +21,7 @@ use Rattle.answers.proofs.Rows.{passing-says, row-append, row-second, row-both}
 use Rattle.standard.specs.Bits.{high-first, lowBits, ordered, bitsOf, bitsIn, unpack}
 use Rattle.standard.specs.Sponge.{Variant}
 use Rattle.standard.specs.Chain.{byteBits, countedOf, messageBits}
-use Rattle.standard.specs.Messages.{Given, bytes, bits, givenBits}
+use Rattle.standard.specs.Messages.{Given, bytes, partial, givenBits}
 use Rattle.standard.specs.PartBytes.{beforeLast, lastOf}
 use Rattle.standard.specs.Variants.{variant, known}
 use Rattle.standard.proofs.Tests.{and-true, either, one-to-five, six-to-ten}
@@ -177,10 +177,10 @@ given-bits H m Whole = sym (bits-eight H m)
 given-bits H m (Bits k) = refl
 
 -- a number that is given and fits
-pub fits-number : (m : List ℕ) (k : ℕ) → Fits (bits m k) → isBitNumber k (length m) ≡ true
-fits-number m k e = passing-says (numberChecks (bits m k)) e .0
+pub fits-number : (m : List ℕ) (k : ℕ) → Fits (partial m k) → isBitNumber k (length m) ≡ true
+fits-number m k e = passing-says (numberChecks (partial m k)) e .0
 
-pub number-passes : (m : List ℕ) (k : ℕ) → isBitNumber k (length m) ≡ true → Fits (bits m k)
+pub number-passes : (m : List ℕ) (k : ℕ) → isBitNumber k (length m) ≡ true → Fits (partial m k)
 number-passes m k e = rw e
 
 -- how many bits of the last byte count where the number fits; a byte of which not all count is there
@@ -281,12 +281,12 @@ alike-asked v g h a =
     ∙ ap (λ (m : List Bool). firstRefusal (unless (known v) UnknownVariant ∷ (numberChecks h ++ when (ltb mostBits (length m)) TooLong ∷ []))) (a .same)
 
 -- The number 8 with bytes that are there says that all bits count.
-pub eight-alike : (H : Variant) (m : List ℕ) → 0 < length m → Alike H (bits m 8) (bytes m)
+pub eight-alike : (H : Variant) (m : List ℕ) → 0 < length m → Alike H (partial m 8) (bytes m)
 eight-alike H m some = record { numbers = number-passes m 8 (eight-fits (length m) some); same = bits-eight H m }
 
 -- Bits of the last byte that do not count change nothing.
 pub uncounted-alike : (H : Variant) (front : List ℕ) (b c k : ℕ) → countedOf (H .family) k b ≡ countedOf (H .family) k c
-    → Alike H (bits (front ++ b ∷ []) k) (bits (front ++ c ∷ []) k)
+    → Alike H (partial (front ++ b ∷ []) k) (partial (front ++ c ∷ []) k)
 uncounted-alike H front b c k e =
     record {
       numbers = ap (λ (n : ℕ). firstRefusal (unless (isBitNumber k n) BadBitNumber ∷ [])) (same-bytes front b c);

@@ -7,7 +7,7 @@ use Prim.Native.Nat.{ℕ}
 use lib.Dec.{ltb, leb}
 use lib.ListN.{length}
 use Rattle.standard.specs.Sponge.{Variant}
-use Rattle.standard.specs.Messages.{Given, bytes, bits, givenBits}
+use Rattle.standard.specs.Messages.{Given, bytes, partial, givenBits}
 use Rattle.standard.specs.Variants.{variant, known}
 use Rattle.answers.specs.declared.Refusal.the-variants.{UnknownVariant, TooLong, BadBitNumber}
 use Rattle.answers.specs.declared.Status.the-variants.{Done}
@@ -21,7 +21,7 @@ isBitNumber k n = ltb 0 n && ltb 0 k && leb k 8
 -- the bit number, where one is given: 15
 abbrev pub numberChecks : Given → List Check
 numberChecks (bytes m) = []
-numberChecks (bits m k) = unless (isBitNumber k (length m)) BadBitNumber ∷ []
+numberChecks (partial m k) = unless (isBitNumber k (length m)) BadBitNumber ∷ []
 
 -- it passes
 abbrev pub Fits : Given → Type 0

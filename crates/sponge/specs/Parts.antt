@@ -6,7 +6,7 @@ use mathlib.Core.List.{List, [], _∷_, _++_}
 use Prim.Native.Nat.{ℕ, _-_, _*_, _≤_}
 use lib.ListN.{length, replicate}
 use Rattle.standard.specs.Bits.{high-first, bitsIn, unpack}
-use Rattle.standard.specs.Messages.{Given, bytes, bits}
+use Rattle.standard.specs.Messages.{Given, bytes, partial}
 use Rattle.answers.specs.Outputs.{mostBits}
 use Rattle.sponge.specs.declared.parts.Ending.{Ending}
 use Rattle.sponge.specs.declared.parts.Ending.the-variants.{Whole, Bits}
@@ -14,7 +14,7 @@ use Rattle.sponge.specs.declared.parts.Ending.the-variants.{Whole, Bits}
 -- bytes and what counts of the last one are what a caller gives
 abbrev pub given : List ℕ → Ending → Given
 given m Whole = bytes m
-given m (Bits k) = bits m k
+given m (Bits k) = partial m k
 
 -- how many bits of the last byte count
 abbrev pub countOf : Ending → ℕ

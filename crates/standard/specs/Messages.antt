@@ -9,9 +9,9 @@ use Rattle.standard.specs.Chain.{byteBits, messageBits}
 -- bytes all of whose bits count, or bytes of whose last one k bits count
 pub data Given : Type 0 where
   bytes : List ℕ → Given
-  bits : List ℕ → ℕ → Given
+  partial : List ℕ → ℕ → Given
 
 -- the bit string
 abbrev pub givenBits : Variant → Given → List Bool
 givenBits H (bytes m) = byteBits m
-givenBits H (bits m k) = messageBits H m k
+givenBits H (partial m k) = messageBits H m k

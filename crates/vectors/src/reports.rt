@@ -17,7 +17,7 @@ fn check(list: &[u8]) {
 }
 
 fn counts(report: Report) {
-    let s = manifest::counts(report);
+    let s = manifest::summary_of(report);
     show::decimal(s.listed as u64);
     show::show(b":");
     show::decimal(s.tables as u64);
@@ -39,11 +39,11 @@ fn pieces(list: &[u8], other: &[u8], first: &[u8], second: &[u8]) {
     show::show(b"+");
     show::bytes(second);
     show::space();
-    let begun = manifest::begun(list);
-    let status = begun.status;
+    let started = manifest::start(list);
+    let status = started.status;
     show::status(status);
-    let half = manifest::taken(list, begun.report, first);
-    counts(manifest::taken(other, half, second));
+    let half = manifest::update(list, started.report, first);
+    counts(manifest::update(other, half, second));
 }
 
 fn report(list: &[u8], first: &[u8], second: &[u8]) {

@@ -5,8 +5,7 @@ ghost use Rattle.standard.specs.Rounds.{forward, backward};
 ghost use Rattle.lesamnta.specs.Words.{ciphered};
 ghost use Rattle.answers.specs.Refusals.{answer};
 ghost use Rattle.sponge.specs.Images.{imageStatus, permutedImage};
-ghost use Rattle.standard.specs.Messages.{bytes};
-ghost use Rattle.standard.specs.Messages as given-as;
+ghost use Rattle.standard.specs.Messages.{bytes, partial};
 ghost use Rattle.hasher.specs.Running.{startedOver, updated, finished};
 ghost use Rattle.hasher.specs.declared.Wanted.the-variants.{Digest, EndState};
 ghost use Rattle.hasher.specs.Reading.{readStatus, readInto, wholeStatus, wholeInto};
@@ -43,8 +42,8 @@ pub extern "C" fn wickslate_update(h: &mut Hasher, piece: &[u8]) -> u32
 // A piece whose last byte contributes `bits` bits: refusals 2, 3, 15, 16, 4.
 #[no_mangle]
 pub extern "C" fn wickslate_update_bits(h: &mut Hasher, piece: &[u8], bits: u32) -> u32
-    ensures { λ r. ⌜ (r ≡ answer (updated (now (h .entry)) (given-as.bits (now (piece .entry)) bits) .status))
-        × (now (h .exit) ≡ updated (now (h .entry)) (given-as.bits (now (piece .entry)) bits) .hasher) ⌝ }
+    ensures { λ r. ⌜ (r ≡ answer (updated (now (h .entry)) (partial (now (piece .entry)) bits) .status))
+        × (now (h .exit) ≡ updated (now (h .entry)) (partial (now (piece .entry)) bits) .hasher) ⌝ }
 {
     answers::answer_of(lent::update_bits(h, piece, bits))
 }
@@ -103,8 +102,8 @@ pub extern "C" fn wickslate_whole_bits(
     wanted: u32,
     out: &mut [u8],
 ) -> u32
-    ensures { λ r. ⌜ (r ≡ answer (wholeStatus variant (given-as.bits (now (message .entry)) bits) (wantedOf wanted) (length (now (out .entry)))))
-        × (now (out .exit) ≡ wholeInto variant (given-as.bits (now (message .entry)) bits) (wantedOf wanted) (now (out .entry))) ⌝ }
+    ensures { λ r. ⌜ (r ≡ answer (wholeStatus variant (partial (now (message .entry)) bits) (wantedOf wanted) (length (now (out .entry)))))
+        × (now (out .exit) ≡ wholeInto variant (partial (now (message .entry)) bits) (wantedOf wanted) (now (out .entry))) ⌝ }
 {
     answers::answer_of(hasher::whole_bits(variant, message, bits, wanted_of(wanted), out))
 }
@@ -170,8 +169,8 @@ pub extern "C" fn wickslate_recover_bits(
     image: &[u8],
     out: &mut [u8],
 ) -> u32
-    ensures { λ r. ⌜ (r ≡ answer (recoverStatus variant (given-as.bits (now (message .entry)) bits) place (now (image .entry)) (length (now (out .entry)))))
-        × (now (out .exit) ≡ recoverInto variant (given-as.bits (now (message .entry)) bits) place (now (image .entry)) (now (out .entry))) ⌝ }
+    ensures { λ r. ⌜ (r ≡ answer (recoverStatus variant (partial (now (message .entry)) bits) place (now (image .entry)) (length (now (out .entry)))))
+        × (now (out .exit) ≡ recoverInto variant (partial (now (message .entry)) bits) place (now (image .entry)) (now (out .entry))) ⌝ }
 {
     answers::answer_of(recover::recover_bits(variant, message, bits, place, image, out))
 }

@@ -5,6 +5,7 @@ use Prim.Native.Nat.{ℕ, _+_, _*_, _≤_}
 use native.Mathlib.Omega.{arith}
 use lib.ListN.{length}
 use borrow.Author.Needs.{needs}
+use Rattle.standard.specs.Messages.{bytes}
 use Rattle.answers.specs.Outputs.{mostBits}
 use Rattle.hasher.specs.declared.Hasher.{Hasher}
 use Rattle.hasher.specs.declared.Advanced.{Advanced}
@@ -17,7 +18,7 @@ use Rattle.manifest.proofs.current.with_bytes.Statement.{statement}
 use Rattle.manifest.proofs.current.with_bytes.Tie as tie
 
 some : (h : Hasher) → Sized h → (part : List ℕ) → 1 ≤ length part → (h .total + 8 ≤ mostBits → h .total + 8 * length part ≤ mostBits)
-    → updated h part .hasher ≡ foldl withByte h part
+    → updated h (bytes part) .hasher ≡ foldl withByte h part
 some h z [] l room = absurd (omega arith)
 some h z (b ∷ part) l room = sym (byte-by-byte h z b part room)
 

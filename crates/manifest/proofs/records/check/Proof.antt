@@ -37,7 +37,7 @@ returns-2 c =
     let b = c .before .before in
     let at = b .before .before in
     let whole = at .before in
-    let list = whole .before .before .before .args .list .now in
+    let list = whole .before .before .before .args .manifest .now in
     let e = b .check-record .ensures in
     rw (sym (whole .before .is-manifest .ensures) ∙ not-false _ (whole .if1 .left))
     (e ∙ sym (each-first (recordCount list) (recordChecks list) (at .loop .k) (omega arith) (at .loop .inv .1) (λ d. not-done _ (sym (c .enum-told2 .given .1) ∙ e ∙ d))))
@@ -46,7 +46,7 @@ returns-3 : tie.Need-returns-3 Inv-loop μ-loop
 unfolding manifestStatus
 returns-3 c =
     let whole = c .before .before in
-    let list = whole .before .before .before .args .list .now in
+    let list = whole .before .before .before .args .manifest .now in
     rw (sym (whole .before .is-manifest .ensures) ∙ not-false _ (whole .if1 .left))
     (sym (each-done (recordCount list) _ (λ j h. c .before .loop .inv .1 j (omega arith))))
 

@@ -9,13 +9,13 @@ use Rattle.manifest.proofs.records.check_record.Statement.{statement}
 use Rattle.manifest.proofs.records.check_record.Tie as tie
 
 -- the variant is known
-named : (c : tie.Else1) → known (variantAt (c .before .before .before .before .args .list .now) (c .before .before .before .before .args .k)) ≡ true
+named : (c : tie.Else1) → known (variantAt (c .before .before .before .before .args .manifest .now) (c .before .before .before .before .args .k)) ≡ true
 named c = ap known (sym (c .before .before .variant-at .ensures)) ∙ sym (c .before .is-known .ensures) ∙ not-false _ (c .if1 .left)
 
 -- what was found of the filler
 looked-at : (c : tie.After-zero-from)
     → zeros
-    (fillerAt (c .before .before .before .before .before .before .before .args .list .now) (c .before .before .before .before .before .before .before .args .k))
+    (fillerAt (c .before .before .before .before .before .before .before .args .manifest .now) (c .before .before .before .before .before .before .before .args .k))
     ≡ c .zero-from .result
 unfolding fillerAt
 looked-at c =

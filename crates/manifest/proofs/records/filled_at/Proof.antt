@@ -11,7 +11,7 @@ returns : tie.Need-returns
 returns c =
     let a = c .before .args in
     let e : 35 * a .k + 3 + 32 - (35 * a .k + 3) ≡ 32 = omega arith in
-    ap (λ (n : ℕ). take n (drop (35 * a .k + 3) (a .list .now))) e
+    ap (λ (n : ℕ). take n (drop (35 * a .k + 3) (a .manifest .now))) e
 
 pub filled-at-spec : {M : Type 1} → statement M
 filled-at-spec =

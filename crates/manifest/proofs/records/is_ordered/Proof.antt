@@ -6,7 +6,7 @@ use native.Mathlib.Omega.{arith}
 use borrow.Author.Count.{below-none, below-more}
 use borrow.Author.Tests.{not-true, not-false}
 use Rattle.manifest.specs.Records.{isManifest, recordCount, risesAt}
-use Rattle.manifest.specs.Places.{isOrdered}
+use Rattle.manifest.specs.Lookups.{isOrdered}
 use Rattle.manifest.proofs.RecordLaws.{everyBelow-all, everyBelow-not}
 use Rattle.manifest.proofs.records.is_ordered.Statement.{statement}
 use Rattle.manifest.proofs.records.is_ordered.Tie as tie
@@ -18,7 +18,7 @@ abbrev μ-loop : tie.MeasureT-loop
 μ-loop list n k₀ k = n - k
 
 -- the list is a manifest
-whole : (c : tie.Else1 Inv-loop μ-loop) → isManifest (c .before .before .before .args .list .now) ≡ true
+whole : (c : tie.Else1 Inv-loop μ-loop) → isManifest (c .before .before .before .args .manifest .now) ≡ true
 whole c = sym (c .before .is-manifest .ensures) ∙ not-false _ (c .if1 .left)
 
 returns : tie.Need-returns Inv-loop μ-loop
@@ -32,7 +32,7 @@ returns-2 : tie.Need-returns-2 Inv-loop μ-loop
 unfolding isOrdered
 returns-2 c =
     let at = c .before .before .before in
-    let list = at .before .before .before .before .args .list .now in
+    let list = at .before .before .before .before .args .manifest .now in
     rw (whole (at .before))
     (sym (everyBelow-not (recordCount list) (risesAt list) (at .loop .k) (omega arith) (sym (c .before .rises-at .ensures) ∙ not-true _ (c .if2 .taken))))
 
@@ -45,7 +45,7 @@ returns-3 : tie.Need-returns-3 Inv-loop μ-loop
 unfolding isOrdered
 returns-3 c =
     let at = c .before in
-    let list = at .before .before .before .before .args .list .now in
+    let list = at .before .before .before .before .args .manifest .now in
     rw (whole (at .before)) (sym (everyBelow-all (recordCount list) (risesAt list) (λ j h. at .loop .inv .1 j (omega arith))))
 
 pub is-ordered-spec : {M : Type 1} → statement M

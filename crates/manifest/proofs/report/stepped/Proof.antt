@@ -10,8 +10,8 @@ returns : tie.Need-returns
 returns c =
     let s = c .before .before .before .before in
     let r = s .args .r in
-    c .settled .ensures ∙ ap (settled (s .args .list .now) (r .tally)) (c .before .onward .ensures)
-    ∙ sym (stride-settled (s .args .list .now) (r .tally) (s .pre .1 .0) (r .passed) (r .current) (s .args .part .now) (s .pre .1 .1))
+    c .settle .ensures ∙ ap (settled (s .args .manifest .now) (r .tally)) (c .before .advance .ensures)
+    ∙ sym (stride-settled (s .args .manifest .now) (r .tally) (s .pre .1 .0) (r .passed) (r .current) (s .args .part .now) (s .pre .1 .1))
 
 pub stepped-spec : {M : Type 1} → statement M
 stepped-spec = tie.close (tie.spec (λ c κs. search needs) (λ c κs. search needs) returns)

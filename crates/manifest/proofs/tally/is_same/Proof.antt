@@ -3,7 +3,7 @@ use mathlib.Core.Path.{_≡_, refl, sym, _∙_}
 use Prim.Native.Nat.{_-_}
 use native.Mathlib.Omega.{arith}
 use lib.ListN.{length, drop}
-use Rattle.manifest.specs.Counts.{same}
+use Rattle.manifest.specs.Lists.{same}
 use Rattle.manifest.proofs.CompareLaws.{same-stopped, same-passed, same-past}
 use Rattle.manifest.proofs.tally.is_same.Statement.{statement}
 use Rattle.manifest.proofs.tally.is_same.Tie as tie

@@ -14,7 +14,7 @@ returns : tie.Need-returns
 unfolding withListed
 returns c =
     let b = c .before .before in
-    rw (b .before .before .minus .ensures, b .before .bit .ensures .0, c .before .bit2 .ensures .0)
+    rw (b .before .before .minus .ensures, b .before .one-if .ensures .0, c .before .one-if2 .ensures .0)
 
 pub with-listed-spec : {M : Type 1} → statement M
 with-listed-spec =

@@ -8,7 +8,7 @@ use Rattle.report.proofs.input.after_list.Tie as tie
 returns : tie.Need-returns
 returns c =
     let s = c .before .before .before .before .before in
-    rw (c .is-done .ensures, c .before .file-status .ensures, c .before .before .before .begun .ensures, toZ-ofZ w64 (s .args .past) (s .fits .past))
+    rw (c .is-done .ensures, c .before .file-status .ensures, c .before .before .before .start .ensures, toZ-ofZ w64 (s .args .past) (s .fits .past))
 
 pub after-list-spec : {M : Type 1} → statement M
 after-list-spec = tie.close (tie.spec (λ c κs. search needs) (λ c κs. search needs) (λ c κs. search needs) returns)

@@ -10,7 +10,7 @@ returns c =
     let t = c .before .before in
     let n = t .before .before in
     let s = n .before .before .before in
-    rw (c .goes-on .ensures, c .before .counts .ensures, t .taken .ensures, n .count .ensures .1, toZ-ofZ w64 (s .args .got) (s .fits .got))
+    rw (c .goes-on .ensures, c .before .summary-of .ensures, t .update .ensures, n .count .ensures .1, toZ-ofZ w64 (s .args .got) (s .fits .got))
 
 pub after-piece-spec : {M : Type 1} → statement M
 after-piece-spec =

@@ -8,7 +8,7 @@ returns : tie.Need-returns
 returns c =
     let w = c .before .before in
     let n = w .before .before in
-    rw (n .before .enum-told .given .1, ← n .counts .ensures) (w .write-summary .ensures)
+    rw (n .before .enum-told .given .1, ← n .summary-of .ensures) (w .write-summary .ensures)
 
 returns-2 : tie.Need-returns-2
 returns-2 c =

@@ -1,9 +1,9 @@
--- `manifest::report::settled` meets its contract. Assumes nothing.
+-- `manifest::report::settle` meets its contract. Assumes nothing.
 use mathlib.Core.Path.{sym, _∙_}
 use borrow.Author.Needs.{needs}
 use Rattle.manifest.specs.Progress.{settled}
-use Rattle.manifest.proofs.report.settled.Statement.{statement}
-use Rattle.manifest.proofs.report.settled.Tie as tie
+use Rattle.manifest.proofs.report.settle.Statement.{statement}
+use Rattle.manifest.proofs.report.settle.Tie as tie
 
 returns : tie.Need-returns
 unfolding settled
@@ -15,5 +15,5 @@ returns-2 : tie.Need-returns-2
 unfolding settled
 returns-2 c = rw (sym (c .before .is-complete .ensures) ∙ c .if1 .left)
 
-pub settled-spec : {M : Type 1} → statement M
-settled-spec = tie.close (tie.spec (λ c κs. search needs) (λ c κs. search needs) (λ c κs. search needs) returns returns-2)
+pub settle-spec : {M : Type 1} → statement M
+settle-spec = tie.close (tie.spec (λ c κs. search needs) (λ c κs. search needs) (λ c κs. search needs) returns returns-2)

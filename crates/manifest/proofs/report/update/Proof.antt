@@ -1,4 +1,4 @@
--- `manifest::report::taken` meets its contract: what is left of the piece leads from here to the same report. Assumes nothing.
+-- `manifest::report::update` meets its contract: what is left of the piece leads from here to the same report. Assumes nothing.
 use mathlib.Core.Path.{_≡_, refl, sym, ap, ap₂, subst, _∙_}
 use mathlib.Core.Bool.{true, _&&_}
 use mathlib.Core.List.{foldl}
@@ -6,13 +6,13 @@ use Prim.Native.Nat.{_-_, _≤_, _<_}
 use native.Mathlib.Omega.{arith}
 use lib.ListN.{length, drop, drop-of-length-le}
 use borrow.Author.Tests.{ltb-true, ltb-false, not-true, not-false}
-use Rattle.manifest.specs.Places.{isOrdered}
+use Rattle.manifest.specs.Lookups.{isOrdered}
 use Rattle.manifest.specs.Tables.{mostTables}
-use Rattle.manifest.specs.Progress.{tallied, byteTaken, taken}
+use Rattle.manifest.specs.Progress.{tallied, byteTaken, pieceTaken}
 use Rattle.manifest.specs.Strides.{Stride}
 use Rattle.manifest.proofs.StrideLaws.{part-length, full-stays, stream-stepped}
-use Rattle.manifest.proofs.report.taken.Statement.{statement}
-use Rattle.manifest.proofs.report.taken.Tie as tie
+use Rattle.manifest.proofs.report.update.Statement.{statement}
+use Rattle.manifest.proofs.report.update.Tie as tie
 
 abbrev Inv-loop : tie.InvT-loop
 Inv-loop list piece latest₀ i₀ latest i = (i ≤ length piece) × (foldl (byteTaken list) latest₀ piece ≡ foldl (byteTaken list) latest (drop i piece))
@@ -25,19 +25,19 @@ abbrev entry : tie.Else2 Inv-loop μ-loop → tie.Start Inv-loop μ-loop
 entry c = c .before .before .before .before .before .before
 
 -- the list is in order
-whole : (c : tie.Else2 Inv-loop μ-loop) → isOrdered (entry c .args .list .now) ≡ true
+whole : (c : tie.Else2 Inv-loop μ-loop) → isOrdered (entry c .args .manifest .now) ≡ true
 whole c = sym (c .before .is-ordered .ensures) ∙ not-false _ (c .if2 .left)
 
 -- and the piece is read
-read : (c : tie.Else2 Inv-loop μ-loop) → (entry c .args .report .passed && isOrdered (entry c .args .list .now)) ≡ true
+read : (c : tie.Else2 Inv-loop μ-loop) → (entry c .args .report .passed && isOrdered (entry c .args .manifest .now)) ≡ true
 read c = ap₂ _&&_ (not-false (entry c .args .report .passed) (c .before .before .if1 .left)) (whole c)
 
 returns : tie.Need-returns Inv-loop μ-loop
-unfolding taken
+unfolding pieceTaken
 returns c = rw (not-true (c .before .before .before .before .args .report .passed) (c .if1 .taken))
 
 returns-2 : tie.Need-returns-2 Inv-loop μ-loop
-unfolding taken
+unfolding pieceTaken
 returns-2 c =
     let s = c .before .before .before .before .before .before in
     rw (not-false (s .args .report .passed) (c .before .before .if1 .left), sym (c .before .is-ordered .ensures) ∙ not-true _ (c .if2 .taken))
@@ -69,25 +69,25 @@ loop-again : tie.Need-loop-again Inv-loop μ-loop
 loop-again c =
     let at = c .before .before .before .before .before .before in
     let a = entry (at .before) .args in
-    (omega (arith, c .before .before .stride .ensures .0), at .loop .inv .1 ∙ stream-stepped (a .list .now) (at .loop .latest) _ (a .piece .now) (at .loop .i) (c .before .before .stride .result) (c .stepped .ensures))
+    (omega (arith, c .before .before .stride .ensures .0), at .loop .inv .1 ∙ stream-stepped (a .manifest .now) (at .loop .latest) _ (a .piece .now) (at .loop .i) (c .before .before .stride .result) (c .stepped .ensures))
 
 returns-3 : tie.Need-returns-3 Inv-loop μ-loop
-unfolding taken
+unfolding pieceTaken
 returns-3 c =
     let at = c .before .before .before in
     let a = entry (at .before) .args in
     let full : mostTables ≤ tallied (at .loop .latest .tally) = omega (arith, c .before .tallied .ensures, ltb-false (c .before .tallied .result) mostTables (c .if3 .left)) in
-    rw (read (at .before)) (sym (at .loop .inv .1 ∙ full-stays (a .list .now) (at .loop .latest) full (drop (at .loop .i) (a .piece .now))))
+    rw (read (at .before)) (sym (at .loop .inv .1 ∙ full-stays (a .manifest .now) (at .loop .latest) full (drop (at .loop .i) (a .piece .now))))
 
 returns-4 : tie.Need-returns-4 Inv-loop μ-loop
-unfolding taken
+unfolding pieceTaken
 returns-4 c =
     let at = c .before in
     let a = entry (at .before) .args in
     rw (read (at .before))
-    (sym (at .loop .inv .1 ∙ ap (foldl (byteTaken (a .list .now)) (at .loop .latest)) (drop-of-length-le (a .piece .now) {i = at .loop .i} (omega arith))))
+    (sym (at .loop .inv .1 ∙ ap (foldl (byteTaken (a .manifest .now)) (at .loop .latest)) (drop-of-length-le (a .piece .now) {i = at .loop .i} (omega arith))))
 
-pub taken-spec : {M : Type 1} → statement M
-taken-spec =
+pub update-spec : {M : Type 1} → statement M
+update-spec =
     tie.close (tie.spec Inv-loop μ-loop returns (λ c κs. tt) returns-2 loop-holds (λ c κs. tt) (λ c. omega arith) (λ c κs. omega arith) (λ c. omega arith)
     (λ c. omega arith) (λ c. omega arith) part-stepped-end stepped-requires add-i (λ c. omega arith) loop-again returns-3 returns-4)
