@@ -17,7 +17,7 @@ use Rattle.answers.specs.Checks.{firstRefusal}
 use Rattle.answers.specs.Outputs.{most, mostBits}
 use Rattle.answers.proofs.Rows.{passing-says}
 use Rattle.standard.specs.Bits.{high-first, lowBits, ordered, bitsOf, bitsIn, unpack}
-use Rattle.standard.specs.Sponge.{Variant}
+use Rattle.standard.specs.Families.{Variant}
 use Rattle.standard.specs.Chain.{byteBits, countedOf, messageBits}
 use Rattle.standard.specs.PartBytes.{beforeLast, lastOf}
 use Rattle.standard.specs.Variants.{variant, known}

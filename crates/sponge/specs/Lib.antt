@@ -5,5 +5,6 @@ pub mod Blocks
 pub mod Parts
 pub mod Endings
 pub mod Directions
+pub mod TakenBack
 pub mod Images
 pub mod Words

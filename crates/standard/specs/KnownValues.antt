@@ -6,13 +6,12 @@ use mathlib.Core.Bool.{Bool, true, false}
 use mathlib.Core.List.{List, [], _∷_, _++_, map, flatMap}
 use Prim.Native.Nat.{ℕ, suc, _-_, _/_}
 use lib.ListN.{length, getD, take, drop, replicate}
-use Rattle.standard.specs.Bits.{high-first, bitsOf, valueOf}
+use Rattle.standard.specs.Bits.{high-first, bitsOf, valueOf, cut}
 use Rattle.standard.specs.Field.{mul}
 use Rattle.standard.specs.Photon.{serial, aes}
 use Rattle.standard.specs.Spongent.{lCounters, goesTo}
 use Rattle.standard.specs.Lesamnta.{wordQ, wordG, cipherConstants}
-use Rattle.standard.specs.Sponge.{startState, outputBlocks}
-use Rattle.standard.specs.Chain.{byteBits, messageBits, blocksOf, digestOf}
+use Rattle.standard.specs.Chain.{byteBits, messageBits, blocksOf, startState, givenOut, digestOf}
 use Rattle.standard.specs.Variants.{variant, photon100, spongent88}
 use Rattle.standard.specs.LowestFreeBit.{lowestFreeBit}
 
@@ -88,7 +87,7 @@ stated =
     -- d = 5: one multiplication of a column
     ∷ record { gives = serial 16 (photon100 .poly) (photon100 .z) (0 ∷ 0 ∷ 0 ∷ 0 ∷ 1 ∷ []); expected = 0 ∷ 0 ∷ 0 ∷ 1 ∷ 2 ∷ [] }
     -- variant 3: five output blocks, the last giving 16 bits
-    ∷ record { gives = map length (outputBlocks (variant 3) (startState (variant 3))); expected = 36 ∷ 36 ∷ 36 ∷ 36 ∷ 16 ∷ [] }
+    ∷ record { gives = map length (cut 36 5 (givenOut (variant 3 .family) (variant 3) (startState (variant 3)))); expected = 36 ∷ 36 ∷ 36 ∷ 36 ∷ 16 ∷ [] }
     -- Lesamnta-LW: Q (B.3.2) and G (B.3.3)
     ∷ record { gives = wordQ 0xa4323129 ∷ []; expected = 0x95f80b6e ∷ [] }
     ∷ record { gives = wordG 0x0000025600000256 0x00000256 ∷ []; expected = 0xa58d6363636326c8 ∷ [] }
