@@ -1,4 +1,4 @@
--- What the tables of this crate hold: what a byte gives to Q through S-box and MixColumns, and the constants of the rounds.
+-- For the code: what the tables of this crate hold: what a byte gives to Q through S-box and MixColumns, and the constants of the rounds.
 -- Assumes nothing.
 use mathlib.Core.Path.{_≡_}
 use mathlib.Core.List.{List, map}

@@ -14,7 +14,8 @@ use lib.ListN.{getD}
 use lib.Dec.{ltb}
 use lib.Bits.{bitXor, bitAnd, xor-zero-l, xor-zero-r, xor-shr, xor-mod, and-shr, and-mod, and-mask}
 use borrow.Author.Tests.{ltb-true, ltb-false}
-use Rattle.standard.specs.Field.{double, Modulus}
+use Rattle.standard.specs.Field.{double}
+use Rattle.standard.specs.ForCode.{Modulus}
 use Rattle.standard.proofs.Tests.{same-below, lt-or-le}
 use Rattle.standard.proofs.FieldLaws.{double-lt}
 use Rattle.photon.specs.Rows.{lane}

@@ -7,9 +7,10 @@ use Prim.Native.Nat.{ℕ, _+_, _-_, _≤_}
 use native.Mathlib.Omega.{arith}
 use lib.Dec.{T, eqb, lit<, lit≤}
 use lib.ListN.{getD}
-use Rattle.standard.specs.Grid.{cells}
-use Rattle.standard.specs.Photon.{PhotonParameters, present, unpresent}
-use Rattle.standard.specs.Sponge.{photon}
+use Rattle.standard.specs.ForCode.{cells, outputBits}
+use Rattle.standard.specs.Photon.{PhotonParameters, present}
+use Rattle.standard.specs.Backward.{unpresent}
+use Rattle.standard.specs.Families.{photon, sponge}
 use Rattle.standard.specs.Variants.{variant, photon100, photon144, photon196, photon256, photon288}
 use Rattle.standard.proofs.Tests.{below, same-below, one-to-five}
 use Rattle.standard.proofs.PhotonLaws.{Sound}
@@ -18,9 +19,9 @@ use Rattle.photon.specs.Parameters.{photonOf}
 use Rattle.photon.specs.Rows.{lane, lanes}
 use Rattle.photon.proofs.StepsOf.{Fits, MixedBy}
 
-pub photon-variant : (v : ℕ) → 1 ≤ v → v ≤ 5 → variant v .family ≡ photon (photonOf v)
+pub photon-variant : (v : ℕ) → 1 ≤ v → v ≤ 5 → variant v .family ≡ sponge (photon (photonOf v)) (outputBits (variant v))
 unfolding photonOf variant
-photon-variant = one-to-five (λ v. variant v .family ≡ photon (photonOf v)) refl refl refl refl refl
+photon-variant = one-to-five (λ v. variant v .family ≡ sponge (photon (photonOf v)) (outputBits (variant v))) refl refl refl refl refl
 
 pub sound : (v : ℕ) → 1 ≤ v → v ≤ 5 → Sound (photonOf v)
 unfolding photonOf variant

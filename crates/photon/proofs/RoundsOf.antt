@@ -8,7 +8,8 @@ use native.Mathlib.Omega.{arith}
 use lib.ListN.{length, getD, take}
 use lib.Seq.{take-suc, take-all}
 use Rattle.standard.specs.Rounds.{Direction, forward, backward, inTurn, rounds}
-use Rattle.standard.specs.Grid.{Grid, window, Small}
+use Rattle.standard.specs.Grid.{Grid}
+use Rattle.standard.specs.ForCode.{window, Small}
 use Rattle.standard.specs.Photon.{PhotonParameters, addConstants, subCells, shiftRows, mixColumns, unmixColumns, roundConstants, photonRound, photonRounds}
 use Rattle.standard.proofs.Tests.{bound-below}
 use Rattle.standard.proofs.PhotonLaws.{Sound, constant-room, window-state, state-small, add-state, sub-state, shift-state, round-state}

@@ -9,7 +9,8 @@ use native.Mathlib.Numerals.{add-one}
 use native.Mathlib.Omega.{arith}
 use lib.ListN.{length, getD, set, length-set}
 use lib.Seq.{getD-set-same, getD-set-other}
-use Rattle.standard.specs.Grid.{Grid, at, window, Small}
+use Rattle.standard.specs.Grid.{Grid, at}
+use Rattle.standard.specs.ForCode.{window, Small}
 use Rattle.standard.specs.Field.{dot}
 use Rattle.standard.specs.Photon.{mixColumns}
 use Rattle.standard.proofs.Tab.{tab-cong}

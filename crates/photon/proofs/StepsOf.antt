@@ -5,8 +5,8 @@ use mathlib.Core.Bool.{Bool, cond}
 use mathlib.Core.List.{List, [], reverse}
 use Prim.Native.Nat.{ℕ, _-_, _^_, _≤_, _<_}
 use native.Mathlib.Omega.{arith}
-use Rattle.standard.specs.Field.{Modulus}
-use Rattle.standard.specs.Grid.{Grid, at, cells, window, Square, Small}
+use Rattle.standard.specs.ForCode.{Modulus, cells, window, Square, Small}
+use Rattle.standard.specs.Grid.{Grid, at}
 use Rattle.standard.specs.Photon.{PhotonParameters, inFirst, addConstants, subCells, shiftRows, mixColumns}
 use lib.Bits.{bitXor}
 use lib.Pow.{pow-mono}

@@ -1,9 +1,9 @@
--- The parameters of PHOTON by a variant's number.
+-- For the code: the parameters of PHOTON by a variant's number.
 -- Assumes nothing.
 use mathlib.Core.List.{[]}
 use Prim.Native.Nat.{ℕ}
 use Rattle.standard.specs.Photon.{PhotonParameters}
-use Rattle.standard.specs.Sponge.{Family, photon, spongent, lesamnta}
+use Rattle.standard.specs.Families.{photon, spongent, Family, sponge, lesamnta}
 use Rattle.standard.specs.Variants.{variant}
 
 abbrev noParameters : PhotonParameters
@@ -11,8 +11,8 @@ noParameters = record { d = 0; s = 0; poly = 0; box = []; unbox = []; ic = []; z
 
 -- the parameters of a family that is PHOTON; none of the others
 abbrev pub parametersIn : Family → PhotonParameters
-parametersIn (photon p) = p
-parametersIn (spongent p) = noParameters
+parametersIn (sponge (photon p) r′) = p
+parametersIn (sponge (spongent p) r′) = noParameters
 parametersIn lesamnta = noParameters
 
 -- the parameters of the variant v, 1 to 5

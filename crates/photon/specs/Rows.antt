@@ -1,4 +1,4 @@
--- Rows of eight cells, each held in one number of eight bytes, the first cell lowest.
+-- For the code: rows of eight cells, each held in one number of eight bytes, the first cell lowest.
 -- Assumes nothing.
 use mathlib.Core.Path.{_≡_}
 use mathlib.Core.Bool.{cond}
@@ -8,7 +8,7 @@ use lib.Bits.{bitXor}
 use lib.Dec.{eqb}
 use lib.ListN.{getD}
 use Rattle.standard.specs.Grid.{tab}
-use Rattle.standard.specs.Field.{Modulus}
+use Rattle.standard.specs.ForCode.{Modulus}
 
 -- cell j of a row
 unfoldable pub lane : ℕ → ℕ → ℕ

@@ -1,4 +1,4 @@
--- The matrix in words, as the look-ups of this crate hold it, by a variant's number.
+-- For the code: the matrix in words, as the look-ups of this crate hold it, by a variant's number.
 -- Assumes nothing.
 use mathlib.Core.List.{List}
 use Prim.Native.Nat.{ℕ, _^_}

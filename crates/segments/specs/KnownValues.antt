@@ -1,4 +1,4 @@
--- All known values of document 01 that are proved: those of the standard, and those for segment lists of a buffer of 6 bytes, with document 02's.
+-- All known values that are proved: those of the standard, and those for segment lists of a buffer of 6 bytes, stated by document 01 and document 02, or ours.
 -- Assumes nothing.
 use mathlib.Core.List.{List, [], _∷_, _++_}
 use Prim.Native.Nat.{ℕ, _/_, _%_}
@@ -30,30 +30,39 @@ answerOf list = answerParts (entriesStatus list 6)
 abbrev pub sizesOf : List ℕ → List ℕ → List ℕ
 sizesOf list buffer = length (messageOf list buffer) ∷ length (inBytes 2 (count list)) ∷ length list ∷ length (segmentsOf list buffer) ∷ []
 
--- the rows for lists
-abbrev pub listValues : List Row
-listValues =
+-- the papers' rows for lists
+abbrev pub stated : List Row
+stated =
     -- (0, 2), (3, 2) take the bytes 0, 1, 3, 4
-    record { gives = answerOf (smallEntry 0 2 ++ smallEntry 3 2); stated = 0 ∷ 0 ∷ [] }
-    ∷ record { gives = segmentsOf (smallEntry 0 2 ++ smallEntry 3 2) sixBytes; stated = 0 ∷ 1 ∷ 3 ∷ 4 ∷ [] }
+    record { gives = answerOf (smallEntry 0 2 ++ smallEntry 3 2); expected = 0 ∷ 0 ∷ [] }
+    ∷ record { gives = segmentsOf (smallEntry 0 2 ++ smallEntry 3 2) sixBytes; expected = 0 ∷ 1 ∷ 3 ∷ 4 ∷ [] }
     -- and give 22 bytes (document 02, Q-3): 2 of count, 16 of list, 4 of segments
-    ∷ record { gives = sizesOf (smallEntry 0 2 ++ smallEntry 3 2) sixBytes; stated = 22 ∷ 2 ∷ 16 ∷ 4 ∷ [] }
-    ∷ record { gives = messageOf (smallEntry 0 2 ++ smallEntry 3 2) sixBytes; stated = 0 ∷ 2 ∷ (smallEntry 0 2 ++ smallEntry 3 2 ++ 0 ∷ 1 ∷ 3 ∷ 4 ∷ []) }
-    ∷ record { gives = segmentOf (smallEntry 0 2 ++ smallEntry 3 2) sixBytes 0; stated = 0 ∷ 1 ∷ [] }
-    ∷ record { gives = segmentOf (smallEntry 0 2 ++ smallEntry 3 2) sixBytes 1; stated = 3 ∷ 4 ∷ [] }
+    ∷ record { gives = sizesOf (smallEntry 0 2 ++ smallEntry 3 2) sixBytes; expected = 22 ∷ 2 ∷ 16 ∷ 4 ∷ [] }
+    ∷ record { gives = messageOf (smallEntry 0 2 ++ smallEntry 3 2) sixBytes; expected = 0 ∷ 2 ∷ (smallEntry 0 2 ++ smallEntry 3 2 ++ 0 ∷ 1 ∷ 3 ∷ 4 ∷ []) }
+    ∷ record { gives = segmentOf (smallEntry 0 2 ++ smallEntry 3 2) sixBytes 0; expected = 0 ∷ 1 ∷ [] }
+    ∷ record { gives = segmentOf (smallEntry 0 2 ++ smallEntry 3 2) sixBytes 1; expected = 3 ∷ 4 ∷ [] }
     -- (0, 2), (1, 2) gives 10 at entry 1
-    ∷ record { gives = answerOf (smallEntry 0 2 ++ smallEntry 1 2); stated = 10 ∷ 1 ∷ [] }
-    ∷ record { gives = answerParts (segmentStatus (smallEntry 0 2 ++ smallEntry 1 2) 6 1); stated = 10 ∷ 1 ∷ [] }
+    ∷ record { gives = answerOf (smallEntry 0 2 ++ smallEntry 1 2); expected = 10 ∷ 1 ∷ [] }
+    ∷ record { gives = answerParts (segmentStatus (smallEntry 0 2 ++ smallEntry 1 2) 6 1); expected = 10 ∷ 1 ∷ [] }
     -- (5, 2) gives 11 at entry 0
-    ∷ record { gives = answerOf (smallEntry 5 2); stated = 11 ∷ 0 ∷ [] }
+    ∷ record { gives = answerOf (smallEntry 5 2); expected = 11 ∷ 0 ∷ [] }
     -- (6, 0) passes
-    ∷ record { gives = answerOf (smallEntry 6 0); stated = 0 ∷ 0 ∷ [] }
-    -- not the papers': the border of (0, 2), (2, 2) moved by one shows in the message, and not in the joined segments
-    ∷ record { gives = segmentsOf (smallEntry 0 2 ++ smallEntry 2 2) sixBytes; stated = 0 ∷ 1 ∷ 2 ∷ 3 ∷ [] }
-    ∷ record { gives = segmentsOf (smallEntry 0 3 ++ smallEntry 3 1) sixBytes; stated = 0 ∷ 1 ∷ 2 ∷ 3 ∷ [] }
-    ∷ record { gives = messageOf (smallEntry 0 2 ++ smallEntry 2 2) sixBytes; stated = 0 ∷ 2 ∷ (smallEntry 0 2 ++ smallEntry 2 2 ++ 0 ∷ 1 ∷ 2 ∷ 3 ∷ []) }
-    ∷ record { gives = messageOf (smallEntry 0 3 ++ smallEntry 3 1) sixBytes; stated = 0 ∷ 2 ∷ (smallEntry 0 3 ++ smallEntry 3 1 ++ 0 ∷ 1 ∷ 2 ∷ 3 ∷ []) }
+    ∷ record { gives = answerOf (smallEntry 6 0); expected = 0 ∷ 0 ∷ [] }
     ∷ []
+
+-- rows that no paper states
+abbrev pub ours : List Row
+ours =
+    -- the border of (0, 2), (2, 2) moved by one shows in the message, and not in the joined segments
+    record { gives = segmentsOf (smallEntry 0 2 ++ smallEntry 2 2) sixBytes; expected = 0 ∷ 1 ∷ 2 ∷ 3 ∷ [] }
+    ∷ record { gives = segmentsOf (smallEntry 0 3 ++ smallEntry 3 1) sixBytes; expected = 0 ∷ 1 ∷ 2 ∷ 3 ∷ [] }
+    ∷ record { gives = messageOf (smallEntry 0 2 ++ smallEntry 2 2) sixBytes; expected = 0 ∷ 2 ∷ (smallEntry 0 2 ++ smallEntry 2 2 ++ 0 ∷ 1 ∷ 2 ∷ 3 ∷ []) }
+    ∷ record { gives = messageOf (smallEntry 0 3 ++ smallEntry 3 1) sixBytes; expected = 0 ∷ 2 ∷ (smallEntry 0 3 ++ smallEntry 3 1 ++ 0 ∷ 1 ∷ 2 ∷ 3 ∷ []) }
+    ∷ []
+
+-- both
+abbrev pub listValues : List Row
+listValues = stated ++ ours
 
 -- the one list
 abbrev pub knownValues : List Row

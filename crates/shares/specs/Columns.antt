@@ -1,4 +1,4 @@
--- The columns of PHOTON's matrix in words, for any size, cell width and places of the rows in a word; and what one cell gives to its column through the S-box and the column step.
+-- For the code: the columns of PHOTON's matrix in words, for any size, cell width and places of the rows in a word; and what one cell gives to its column through the S-box and the column step.
 -- Assumes nothing.
 use mathlib.Core.Bool.{cond}
 use mathlib.Core.List.{List, [], _∷_}

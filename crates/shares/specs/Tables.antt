@@ -1,4 +1,4 @@
--- What the combined tables of PHOTON hold: the constants of the rounds as columns, and shares.
+-- For the code: what the combined tables of PHOTON hold: the constants of the rounds as columns, and shares.
 -- Assumes nothing.
 use mathlib.Core.Path.{_≡_}
 use mathlib.Core.Bool.{cond}

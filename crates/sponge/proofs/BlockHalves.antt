@@ -13,12 +13,12 @@ use borrow.Author.Tests.{eq-eqb, ne-eqb}
 use Rattle.answers.proofs.ByteLaws.{cons-bytes}
 use Rattle.standard.specs.Bits.{high-first, valueOf, bitsIn, unpack, filled}
 use Rattle.standard.proofs.Tests.{lt-or-le}
-use Rattle.standard.proofs.BitLaws.{length-bitsIn, bitsIn-append, length-unpack, length-filled, length-pack, filled-add, valueOf-lt}
+use Rattle.standard.proofs.BitLaws.{filled-take, length-bitsIn, bitsIn-append, length-unpack, length-filled, length-pack, filled-add, valueOf-lt}
 use Rattle.sponge.specs.Layout.{blockRoom, packedBlock}
 use Rattle.sponge.specs.Cells.{cellIn}
 use Rattle.sponge.specs.Blocks.{halfOf, halfIn, heldThen}
 use Rattle.sponge.proofs.CellLaws.{cell-even, cell-odd}
-use Rattle.sponge.proofs.MatrixImage.{pack-halves, filled-take, filled-nothing}
+use Rattle.sponge.proofs.MatrixImage.{pack-halves, filled-nothing}
 
 -- ---- half bytes of bits
 

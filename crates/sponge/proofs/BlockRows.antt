@@ -11,12 +11,11 @@ use lib.Seq.{take-at, take-all, take-append-le, drop-at, length-take-le}
 use Rattle.standard.specs.Bits.{Order, high-first, bitsIn, unpack, filled, pack, cut}
 use Rattle.standard.specs.Sponge.{spongePadding}
 use Rattle.standard.specs.Chain.{wholeBlocks, Blocks}
-use Rattle.standard.proofs.BitLaws.{length-filled, filled-add, filled-short, length-pack, bitsIn-pack, pack-bitsIn, pack-bytes}
+use Rattle.standard.proofs.BitLaws.{filled-take, length-filled, filled-add, filled-short, length-pack, bitsIn-pack, pack-bitsIn, pack-bytes}
 use Rattle.standard.proofs.CutLaws.{length-cut, cut-at, cut-fits, cut-add, cut-append}
 use Rattle.standard.proofs.Streaming.{cut-blocks}
 use Rattle.sponge.specs.Blocks.{heldThen, firstBlocks}
 use Rattle.sponge.specs.Parts.{Marked}
-use Rattle.sponge.proofs.MatrixImage.{filled-take}
 use Rattle.sponge.proofs.BlockHalves.{middle}
 
 -- ---- the first blocks of a string

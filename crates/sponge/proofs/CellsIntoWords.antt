@@ -14,17 +14,18 @@ use lib.ListN.{length, getD, take, drop, length-take, length-drop, drop-of-lengt
 use lib.Seq.{length-take-le, drop-drop, take-nil}
 use borrow.Author.Tests.{lt-ltb, le-ltb, eq-eqb, ne-eqb}
 use Rattle.standard.specs.Bits.{high-first, valueOf, bitsIn, filled, xorInto}
-use Rattle.standard.specs.Grid.{Grid, at, grid, Square, Small}
+use Rattle.standard.specs.Grid.{Grid, at, grid}
+use Rattle.standard.specs.ForCode.{Square, Small}
 use Rattle.standard.specs.Photon.{matrixOf, bitsOfMatrix}
 use Rattle.standard.proofs.Tab.{grid-cong, grid-self}
 use Rattle.standard.proofs.Tests.{lt-or-le}
-use Rattle.standard.proofs.BitLaws.{length-bitsIn, valueOf-lt, bitsOf-valueOf, valueOf-bitsOf, bitsOf-xor, xorInto-nil, length-filled}
+use Rattle.standard.proofs.BitLaws.{filled-take, length-bitsIn, valueOf-lt, bitsOf-valueOf, valueOf-bitsOf, bitsOf-xor, xorInto-nil, length-filled}
 use Rattle.standard.proofs.CutLaws.{take-drop-take}
 use Rattle.standard.proofs.MatrixLaws.{at-matrixOf, matrixOf-square, matrix-bits, length-bitsOfMatrix}
 use Rattle.shares.specs.Columns.{cellOf}
 use Rattle.shares.proofs.WordCells.{Rising, cell-xor, cell-none, cell-moved}
 use Rattle.sponge.specs.Cells.{cellIn}
-use Rattle.sponge.proofs.MatrixImage.{filled-take, filled-nothing}
+use Rattle.sponge.proofs.MatrixImage.{filled-nothing}
 
 pub cell-in-lt : (s : ℕ) (bytes : List ℕ) (n : ℕ) → cellIn s bytes n < 2 ^ s
 unfolding cellIn

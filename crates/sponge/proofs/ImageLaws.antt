@@ -17,13 +17,14 @@ use Rattle.answers.specs.Outputs.{whenDone}
 use Rattle.answers.proofs.Rows.{passed-all, refused-here}
 use Rattle.standard.specs.Bits.{high-first, bitsIn}
 use Rattle.standard.specs.Rounds.{Direction}
-use Rattle.standard.specs.Sponge.{isSponge, order, permutation, imageSize, imageOf, stateIn}
+use Rattle.standard.specs.Families.{Family, sponge, lesamnta, Variant, spongeOf, isSponge, order, imageSize, imageOf, stateIn}
 use Rattle.standard.specs.Variants.{variant, known}
-use Rattle.standard.proofs.Tests.{and-true}
+use Rattle.standard.proofs.Tests.{and-true, true-not-false}
 use Rattle.standard.proofs.BitLaws.{take-pack, length-unpack}
 use Rattle.standard.proofs.Variants.{Bounds, bounds, WholeBytes, layouts}
 use Rattle.sponge.specs.Layout.{stateRoom, packedState, clear, Holds}
-use Rattle.sponge.specs.Images.{isImage, imageChecks, imageStatus, permutedImage}
+use Rattle.sponge.specs.Images.{isImage, imageChecks, imageStatus, permutedBytes, permutedImage}
+use Rattle.sponge.specs.TakenBack.{permutedBy, permutedState}
 use Rattle.sponge.proofs.Clear.{clear-order}
 use Rattle.sponge.proofs.LayoutLaws.{front-holds}
 use Rattle.sponge.proofs.States.{stored, stored-ready}
@@ -77,11 +78,16 @@ module _ (v : ℕ) (k : known v ≡ true) (bytes : List ℕ) where
 
       -- permuted, and its first bytes written over the image
       pub image-permuted : (w : Direction) (r out : List ℕ) (n : ℕ) → n ≡ imageSize (variant v)
-          → r ≡ packedState (variant v) (permutation (variant v) w (stateIn (variant v) x))
-          → out ≡ take n r ++ drop n bytes → out ≡ imageOf (variant v) (permutation (variant v) w (stateIn (variant v) bytes))
+          → r ≡ packedState (variant v) (permutedState (variant v) w (stateIn (variant v) x))
+          → out ≡ take n r ++ drop n bytes → out ≡ imageOf (variant v) (permutedState (variant v) w (stateIn (variant v) bytes))
       unfolding imageOf
       image-permuted w r out n en er eo =
           rw (eo, drop-of-length-le bytes {i = n} (omega (arith, image-length e)), append-nil, en, er, take-pack (order (variant v)) (imageSize (variant v)) stateRoom _ (b .image-most), image-read)
+
+-- the image of a sponge's permuted state
+sponge-bytes : (f : Family) → spongeOf f ≡ true → (H : Variant) (w : Direction) (bytes : List ℕ) → permutedBytes f H w bytes ≡ imageOf H (permutedBy f w (stateIn H bytes))
+sponge-bytes (sponge P r′) q H w bytes = refl
+sponge-bytes lesamnta q H w bytes = absurd (true-not-false (sym q))
 
 -- ---- each way through the checks
 
@@ -91,7 +97,7 @@ Left v w bytes s out = (s ≡ imageStatus v bytes) × (out ≡ permutedImage v w
 
 module _ (v : ℕ) (w : Direction) (bytes : List ℕ) where
   abbrev permuted : List ℕ
-  permuted = imageOf (variant v) (permutation (variant v) w (stateIn (variant v) bytes))
+  permuted = permutedBytes (variant v .family) (variant v) w bytes
 
   -- the answer tells what the bytes are
   left : (s : Status) → imageStatus v bytes ≡ s → Left v w bytes s (whenDone s permuted bytes)
@@ -112,6 +118,9 @@ module _ (v : ℕ) (w : Direction) (bytes : List ℕ) where
   left-bad k q e =
       left (Refused BadImage) (refused-here (unless (known v) UnknownVariant ∷ unless (isSponge (variant v)) NotSponge ∷ []) (unless (isImage (variant v) bytes) BadImage) [] (k, (q, tt)) e)
 
-  pub left-permuted : known v ≡ true → isSponge (variant v) ≡ true → isImage (variant v) bytes ≡ true → Left v w bytes Done permuted
-  unfolding imageStatus
-  left-permuted k q e = left Done (passed-all (imageChecks v bytes) (k, (q, (e, tt))))
+  pub left-permuted : known v ≡ true → isSponge (variant v) ≡ true → isImage (variant v) bytes ≡ true
+      → Left v w bytes Done (imageOf (variant v) (permutedState (variant v) w (stateIn (variant v) bytes)))
+  unfolding imageStatus permutedState
+  left-permuted k q e =
+      let done = left Done (passed-all (imageChecks v bytes) (k, (q, (e, tt)))) in
+      (done .0, sym (sponge-bytes (variant v .family) q (variant v) w bytes) ∙ done .1)

@@ -11,13 +11,15 @@ use lib.Seq.{drop-at}
 use borrow.Author.Tests.{eq-eqb}
 use Rattle.standard.specs.Bits.{Order, bitsIn, unpack}
 use Rattle.standard.specs.Rounds.{Direction, opposite}
-use Rattle.standard.specs.Sponge.{Variant, isSponge, order, permutation, imageSize, imageOf, stateIn}
+use Rattle.standard.specs.Families.{Variant, isSponge, order, imageSize, imageOf, stateIn}
 use Rattle.standard.specs.Variants.{variant, known}
 use Rattle.standard.proofs.Tests.{either}
 use Rattle.standard.proofs.BitLaws.{length-pack, image-eq, length-bitsIn, length-unpack}
 use Rattle.standard.proofs.ImageStates.{state-image}
-use Rattle.standard.proofs.Variants.{permutation-undo, permutation-length}
+use Rattle.standard.proofs.Variants.{is-sponge}
 use Rattle.sponge.specs.Images.{isImage, permutedImage}
+use Rattle.sponge.specs.TakenBack.{permutedState}
+use Rattle.sponge.proofs.TakenBack.{permuted-length, permuted-undo}
 use Rattle.sponge.proofs.Clear.{zeros-clear, clear-zeros}
 use Rattle.sponge.proofs.LayoutLaws.{packed-bits}
 use Rattle.sponge.proofs.ImageLaws.{image-length, image-clear, image-state, left-unknown, left-other, left-bad, left-permuted}
@@ -66,7 +68,7 @@ permuted-back v w bytes hb =
     through k q e =
         let s : List Bool = stateIn (variant v) bytes in
         let ls : length s ≡ variant v .t = image-state v k bytes e in
-        let P : List Bool = permutation (variant v) w s in
-        let lP : length P ≡ variant v .t = permutation-length v k q w s ls in
+        let P : List Bool = permutedState (variant v) w s in
+        let lP : length P ≡ variant v .t = permuted-length (variant v) (is-sponge v q) w s ls in
         rw (← left-permuted v w bytes k q e .1, ← left-permuted v (opposite w) (imageOf (variant v) P) k q (image-is-image (variant v) P lP) .1)
-        (rw (state-image (variant v) P lP, permutation-undo v k q w s ls) (image-again v k bytes e hb))
+        (rw (state-image (variant v) P lP, permuted-undo (variant v) (is-sponge v q) w s ls) (image-again v k bytes e hb))

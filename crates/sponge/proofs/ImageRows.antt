@@ -13,12 +13,13 @@ use lib.Seq.{take-suc, take-all, take-take, take-append-le, length-take-le}
 use Rattle.standard.specs.Bits.{low-first, high-first, bitsOf, bitsIn, pack, unpack}
 use Rattle.standard.specs.Grid.{Grid, tab, grid}
 use Rattle.standard.specs.Photon.{bitsOfMatrix}
-use Rattle.standard.specs.Sponge.{imageSize}
+use Rattle.standard.specs.Families.{imageSize}
 use Rattle.standard.specs.Variants.{variant}
+use Rattle.standard.specs.ForCode.{outputBits}
 use Rattle.standard.proofs.Tests.{one-to-five, six-to-ten}
 use Rattle.standard.proofs.Tab.{length-tab, getD-tab, square-grid}
 use Rattle.standard.proofs.BitLaws.{length-pack, bitsIn-take, pack-none}
-use Rattle.standard.proofs.CutLaws.{cut-fits}
+use Rattle.standard.proofs.CutLaws.{cut-fits, flatMap-append}
 use Rattle.standard.proofs.MatrixLaws.{length-bitsOfMatrix}
 use Rattle.standard.proofs.Variants.{Bounds, bounds, known-true}
 use Rattle.shares.specs.Columns.{placeIn}
@@ -34,7 +35,7 @@ use Rattle.sponge.specs.Layout.{stateRoom, packedState}
 use Rattle.sponge.specs.Words.{stateInWords}
 use Rattle.sponge.proofs.LayoutLaws.{packed-bits}
 use Rattle.sponge.proofs.MatrixImage.{square-le}
-use Rattle.sponge.proofs.RowsIntoBytes.{flatMap-append, row-length, read-back, kept-back}
+use Rattle.sponge.proofs.RowsIntoBytes.{row-length, read-back, kept-back}
 
 -- ---- the first rows of a matrix
 
@@ -115,7 +116,7 @@ unfolding photonOf variant
 side-of = one-to-five (λ v. sideOf v ≡ photonOf v .d) refl refl refl refl refl
 
 abbrev FrontFits : ℕ → Type 0
-FrontFits v = (frontOf v ≤ photonOf v .d) × (variant v .r′ ≤ frontOf v * (photonOf v .d * photonOf v .s)) × (photonOf v .d * (photonOf v .d * photonOf v .s) ≤ stateRoom * 8)
+FrontFits v = (frontOf v ≤ photonOf v .d) × (outputBits (variant v) ≤ frontOf v * (photonOf v .d * photonOf v .s)) × (photonOf v .d * (photonOf v .d * photonOf v .s) ≤ stateRoom * 8)
 
 front-fits : (v : ℕ) → 1 ≤ v → v ≤ 5 → FrontFits v
 unfolding photonOf variant
@@ -145,13 +146,13 @@ module _ (v : ℕ) (low : 1 ≤ v) (high : v ≤ 5) (k : ℕ) (is : v ≡ k) (w 
       ∙ ap (λ (g : Grid). pack high-first stateRoom (bitsOfMatrix (photonOf v .s) g)) (take-all (photonOf v .d) (matrixIn v w) (rw length-tab (le-refl (photonOf v .d)))))
 
   pub front-rows : r ≡ pack high-first stateRoom (bitsOfMatrix (photonOf k .s) (take (frontOf k) (matrixIn k w)))
-      → take (variant v .r′) (bitsIn high-first r) ≡ take (variant v .r′) (bitsIn high-first (packedState (variant v) (stateInWords (variant v) w)))
+      → take (outputBits (variant v)) (bitsIn high-first r) ≡ take (outputBits (variant v)) (bitsIn high-first (packedState (variant v) (stateInWords (variant v) w)))
   unfolding stateInWords bitsOfMatrix
   front-rows e =
       let d : ℕ = photonOf v .d in
       let s : ℕ = photonOf v .s in
       let g : Grid = matrixIn v w in
-      let m : ℕ = variant v .r′ in
+      let m : ℕ = outputBits (variant v) in
       let X : List Bool = bitsOfMatrix s (take (frontOf v) g) in
       let Y : List Bool = bitsOfMatrix s (drop (frontOf v) g) in
       let fits = front-fits v low high in
@@ -182,15 +183,15 @@ module _ (v : ℕ) (low : 6 ≤ v) (high : v ≤ 10) (w : List ℕ) where
       let whole : 8 * n ≡ spongentOf v .t = omega (arith, bits-of v low high, sizes-of v low high .whole) in
       rw (family-of v low high) (er ∙ image-packed w n (omega (arith, sized .image-most)) ∙ ap (λ (t : ℕ). pack low-first stateRoom (unpack low-first t (bytesIn w))) whole)
 
-  output-bytes : variant v .r′ ≤ 16
+  output-bytes : outputBits (variant v) ≤ 16
   unfolding variant
-  output-bytes = six-to-ten (λ k. variant k .r′ ≤ 16) (lit≤ tt) (lit≤ tt) (lit≤ tt) (lit≤ tt) (lit≤ tt) v low high
+  output-bytes = six-to-ten (λ k. outputBits (variant k) ≤ 16) (lit≤ tt) (lit≤ tt) (lit≤ tt) (lit≤ tt) (lit≤ tt) v low high
 
   pub spongent-front : (r : List ℕ) → r ≡ take 2 (bytesIn w) ++ replicate 34 0
-      → take (variant v .r′) (bitsIn high-first r) ≡ take (variant v .r′) (bitsIn high-first (packedState (variant v) (stateInWords (variant v) w)))
+      → take (outputBits (variant v)) (bitsIn high-first r) ≡ take (outputBits (variant v)) (bitsIn high-first (packedState (variant v) (stateInWords (variant v) w)))
   spongent-front r er =
       let n : ℕ = imageSize (variant v) in
-      let m : ℕ = variant v .r′ in
+      let m : ℕ = outputBits (variant v) in
       ap (λ (x : List ℕ). take m (bitsIn high-first x)) er
       ∙ front-bytes m 2 (bytesIn w) (replicate 34 0) output-bytes (lit≤ tt) (omega (arith, length-bytesIn w))
       ∙ sym (front-bytes m n (bytesIn w) (replicate (36 - n) 0) output-bytes (sized .image-least) (omega (arith, length-bytesIn w, sized .image-most)))

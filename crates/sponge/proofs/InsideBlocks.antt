@@ -10,10 +10,9 @@ use lib.Arith.{mod-mul}
 use lib.Seq.{drop-append-add, drop-append-le, take-append-le}
 use Rattle.standard.specs.Bits.{high-first, bitsIn, unpack, filled}
 use Rattle.standard.specs.Variants.{variant, known}
-use Rattle.standard.proofs.BitLaws.{bitsIn-append, length-bitsIn, length-unpack, length-filled}
+use Rattle.standard.proofs.BitLaws.{filled-take, bitsIn-append, length-bitsIn, length-unpack, length-filled}
 use Rattle.sponge.specs.Layout.{packedBlock}
 use Rattle.sponge.specs.Blocks.{heldThen}
-use Rattle.sponge.proofs.MatrixImage.{filled-take}
 use Rattle.sponge.proofs.BlockRuns.{block-read}
 
 module _ (held : List ℕ) (p : ℕ) (piece : List ℕ) (last : ℕ) (few : p ≤ 2 * length held) where

@@ -11,7 +11,8 @@ use lib.Dec.{eqb}
 use lib.ListN.{length, getD, replicate, length-append, length-replicate}
 use borrow.Author.Tests.{eq-eqb, ne-eqb, eqb-true, eqb-false}
 use Rattle.standard.specs.Bits.{high-first, lowBits, ordered, bitsOf, bitsIn, unpack, pack}
-use Rattle.standard.specs.Sponge.{Variant, isSponge, spongePadding}
+use Rattle.standard.specs.Sponge.{spongePadding}
+use Rattle.standard.specs.Families.{Variant, isSponge}
 use Rattle.standard.specs.Lesamnta.{lesamntaPadding}
 use Rattle.standard.specs.Chain.{padding, wholeBlocks, restOf, blockCount}
 use Rattle.standard.specs.Variants.{variant, known}
@@ -20,7 +21,7 @@ use Rattle.standard.proofs.Undo.{All, all-append}
 use Rattle.standard.proofs.BitLaws.{length-bitsOf, pack-bitsIn, bitsIn-append, bitsIn-zeros, unpack-pack}
 use Rattle.standard.proofs.Streaming.{whole-append, whole-one, length-rest}
 use Rattle.standard.proofs.Sponge.{padding-sponge, sponge-count}
-use Rattle.standard.proofs.Variants.{streams, sponge, not-sponge, lesamnta-count}
+use Rattle.standard.proofs.Variants.{streams, is-sponge, not-sponge, lesamnta-count}
 use Rattle.lesamnta.proofs.WordLaws.{bytes-bits}
 use Rattle.sponge.specs.Layout.{packedBlock}
 use Rattle.sponge.specs.Blocks.{heldThen, firstBlocks}
@@ -109,7 +110,7 @@ ending-blocks v k x n e = ⊎-elim sponges last (either (isSponge (variant v)))
         → wholeBlocks (variant v .r) (x ++ padding (variant v) n) ≡ firstBlocks (variant v .r) (markedCount (variant v) (length x)) (withOne x) ++ lengthBlocks (variant v) n
     sponges q =
         let H : Variant = variant v in
-        ap (λ (p : List Bool). wholeBlocks (H .r) (x ++ p)) (padding-sponge H q n)
+        ap (λ (p : List Bool). wholeBlocks (H .r) (x ++ p)) (padding-sponge H (is-sponge v q) n)
         ∙ sym (padded-first (H .r) (streams v k .rate-pos) x n e)
         ∙ sym (append-nil (firstBlocks (H .r) (length x / H .r + 1) (withOne x)))
         ∙ ap (λ (b : Bool). firstBlocks (H .r) (cond b (length x / H .r + 1) ((length x + 127) / 128)) (withOne x) ++ cond b [] (lengthBlock n ∷ [])) (sym q)
@@ -124,7 +125,7 @@ ending-blocks v k x n e = ⊎-elim sponges last (either (isSponge (variant v)))
 -- how many blocks a message of n bits has: those of the 1 bit, and for what is no sponge one more
 pub count-sponge : (v : ℕ) → known v ≡ true → isSponge (variant v) ≡ true → (n : ℕ) → blockCount (variant v) n ≡ markedCount (variant v) n
 count-sponge v k q n =
-    sponge-count (variant v) (streams v k) (sponge v k q) n ∙ ap (λ (b : Bool). cond b (n / variant v .r + 1) ((n + 127) / 128)) (sym q)
+    sponge-count (variant v) (streams v k) (is-sponge v q) n ∙ ap (λ (b : Bool). cond b (n / variant v .r + 1) ((n + 127) / 128)) (sym q)
 
 pub count-other : (v : ℕ) → known v ≡ true → isSponge (variant v) ≡ false → (n : ℕ) → blockCount (variant v) n ≡ markedCount (variant v) n + 1
 count-other v k q n =

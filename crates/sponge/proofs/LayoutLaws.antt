@@ -3,14 +3,14 @@
 use mathlib.Core.Path.{_≡_, sym, ap, ap₂, _∙_, subst}
 use mathlib.Core.Bool.{Bool, true, false}
 use mathlib.Core.List.{List, _++_, append-assoc}
-use mathlib.Core.Logic.{_⊎_, ⊎-elim}
+use mathlib.Core.Logic.{_⊎_, inr, ⊎-elim}
 use Prim.Native.Nat.{ℕ, _+_, _-_, _*_, _%_, _≤_, _<_}
 use native.Mathlib.Omega.{arith}
 use lib.ListN.{length, take, drop, getD, replicate, take-append-drop, length-append, length-drop, length-replicate, replicate-append-replicate}
 use lib.Seq.{take-at, drop-at, take-all}
-use Rattle.standard.specs.Bits.{Order, high-first, bitsIn, pack, unpack, bytesFor, reordered, xorInto}
+use Rattle.standard.specs.Bits.{Order, high-first, bitsIn, pack, unpack, bytesFor, xorInto, turned}
+use Rattle.standard.proofs.Turned.{length-turned, turned-high, turned-in}
 use Rattle.standard.proofs.BitLaws.{length-bitsIn, length-unpack, length-pack, unpack-pack, bitsIn-pack, bitsIn-append, bitsIn-zeros, filled-short, image-eq, pack-whole, xorInto-behind, xorInto-front, length-xorInto}
-use Rattle.standard.proofs.Reordered.{length-reordered, reordered-same}
 use Rattle.sponge.specs.Layout.{blockRoom, stateRoom, clear}
 use Rattle.sponge.proofs.Clear.{clear-zeros}
 
@@ -20,12 +20,12 @@ packed-bits o n bs h = bitsIn-pack o n bs ∙ filled-short (n * 8) bs h
 
 -- the bits of a block's bytes in any order: the block laid out in that order, and zeros
 pub block-bits : (o : Order) (b : List Bool) → (high-first ≡ o) ⊎ (length b % 8 ≡ 0) → length b ≤ blockRoom * 8
-    → bitsIn o (pack high-first blockRoom b) ≡ reordered high-first o b ++ replicate (blockRoom * 8 - length b) false
-unfolding reordered unpack
+    → bitsIn o (pack high-first blockRoom b) ≡ turned o b ++ replicate (blockRoom * 8 - length b) false
+unfolding unpack
 block-bits o b w h =
     ⊎-elim
-    (λ e. subst (λ (p : Order). bitsIn p (pack high-first blockRoom b) ≡ reordered high-first p b ++ replicate (blockRoom * 8 - length b) false) e
-    (packed-bits high-first blockRoom b h ∙ ap (λ (l : List Bool). l ++ replicate (blockRoom * 8 - length b) false) (sym (reordered-same high-first b))))
+    (λ e. subst (λ (p : Order). bitsIn p (pack high-first blockRoom b) ≡ turned p b ++ replicate (blockRoom * 8 - length b) false) e
+    (packed-bits high-first blockRoom b h ∙ ap (λ (l : List Bool). l ++ replicate (blockRoom * 8 - length b) false) (sym (turned-high b))))
     (λ e.
     let k : ℕ = bytesFor (length b) in
     let whole : length b ≡ 8 * k = omega arith in
@@ -34,7 +34,7 @@ block-bits o b w h =
     ap (bitsIn o) (pack-whole high-first k blockRoom b (omega arith) whole)
     ∙ bitsIn-append o bytes (replicate (blockRoom - k) 0)
     ∙ ap₂ (λ (x y : List Bool). x ++ y)
-    (sym (take-all (length b) (bitsIn o bytes) (omega (arith, length-bitsIn o bytes, length-pack high-first k b))))
+    (sym (turned-in b o (inr e) ∙ take-all (length b) (bitsIn o bytes) (omega (arith, length-bitsIn o bytes, length-pack high-first k b))))
     (bitsIn-zeros o (blockRoom - k) ∙ ap (λ (m : ℕ). replicate m false) all))
     w
 
@@ -53,12 +53,12 @@ module _ (o : Order) (t : ℕ) (small : t ≤ stateRoom * 8) where
   pub taken-bytes : (s x : List ℕ) (b : List Bool) → length s ≡ stateRoom → ((i : ℕ) → getD x i 0 < 256) → length x ≡ stateRoom
       → s ≡ pack o stateRoom (unpack o t s) → (high-first ≡ o) ⊎ (length b % 8 ≡ 0) → length b ≤ blockRoom * 8 → length b ≤ t
       → bitsIn o x ≡ xorInto (bitsIn o s) (bitsIn o (pack high-first blockRoom b))
-      → x ≡ pack o stateRoom (xorInto (unpack o t s) (reordered high-first o b))
+      → x ≡ pack o stateRoom (xorInto (unpack o t s) (turned o b))
   taken-bytes s x b ls hx lx es w hb ht e =
       let S : List Bool = unpack o t s in
-      let B : List Bool = reordered high-first o b in
+      let B : List Bool = turned o b in
       let lS : length S ≡ t = length-unpack o t s (omega arith) in
-      let lB : length B ≡ length b = length-reordered high-first o b in
+      let lB : length B ≡ length b = length-turned o b in
       let Z : List Bool = replicate (stateRoom * 8 - t) false in
       let bits : bitsIn o s ≡ S ++ Z = ap (bitsIn o) es ∙ rw (packed-bits o stateRoom S (omega arith), lS) in
       holds x (xorInto S B) hx lx (length-xorInto S B ∙ lS)

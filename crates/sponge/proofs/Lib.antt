@@ -1,3 +1,4 @@
+pub mod TakenBack
 pub mod Clear
 pub mod Front
 pub mod LayoutLaws
@@ -20,4 +21,3 @@ pub mod WordSteps
 pub mod ImageRows
 pub mod InsideBlocks
 pub mod Outcomes
-pub mod SameAnswers

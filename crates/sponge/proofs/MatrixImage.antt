@@ -10,10 +10,11 @@ use native.Mathlib.Omega.{arith}
 use lib.ListN.{length, take, drop, getD, replicate, drop-of-length-le, List·getD-eq-default, length-reverse, length-drop}
 use lib.Seq.{drop-drop}
 use Rattle.standard.specs.Bits.{high-first, ordered, valueOf, filled, pack}
-use Rattle.standard.specs.Grid.{Grid, at, window, Square, Small}
+use Rattle.standard.specs.Grid.{Grid, at}
+use Rattle.standard.specs.ForCode.{window, Square, Small}
 use Rattle.standard.specs.Photon.{matrixOf, bitsOfMatrix}
 use Rattle.standard.proofs.Tests.{lt-or-le}
-use Rattle.standard.proofs.BitLaws.{length-filled, filled-add, lowValue-append, reverse-replicate}
+use Rattle.standard.proofs.BitLaws.{filled-take, length-filled, filled-add, lowValue-append, reverse-replicate}
 use Rattle.standard.proofs.CutLaws.{take-drop-take}
 use Rattle.standard.proofs.Tab.{grid-cong, grid-self, window-square, window-small}
 use Rattle.standard.proofs.MatrixLaws.{matrixOf-square, at-matrixOf, length-bitsOfMatrix, matrix-bits}
@@ -53,12 +54,6 @@ pack-at (suc n) bs (suc k) h =
     let e : 8 + k * 8 ≡ suc k * 8 = omega arith in
     pack-at n (drop 8 bs) k (le-of-suc-le-suc h)
     ∙ ap (λ (l : List Bool). valueOf high-first (filled 8 l)) (drop-drop (k * 8) 8 bs ∙ ap (λ (m : ℕ). drop m bs) e)
-
-pub filled-take : (w : ℕ) (bs : List Bool) → w ≤ length bs → filled w bs ≡ take w bs
-unfolding filled
-filled-take zero bs h = refl
-filled-take (suc w) [] h = absurd (not-suc-le-zero h)
-filled-take (suc w) (b ∷ bs) h = ap (λ (l : List Bool). b ∷ l) (filled-take w bs (le-of-suc-le-suc h))
 
 -- zeros are worth nothing
 pub filled-nothing : (w : ℕ) → valueOf high-first (filled w []) ≡ 0

@@ -5,8 +5,8 @@ use mathlib.Core.Bool.{Bool, true, false}
 use mathlib.Core.List.{List}
 use Prim.Native.Nat.{ℕ}
 use Rattle.standard.specs.Bits.{high-first, pack}
-use Rattle.standard.specs.Sponge.{Variant, givenOut}
-use Rattle.standard.specs.Chain.{run}
+use Rattle.standard.specs.Families.{Variant}
+use Rattle.standard.specs.Chain.{givenOut, run}
 use Rattle.standard.specs.Variants.{variant}
 use Rattle.sponge.specs.Layout.{stateRoom, packedState}
 use Rattle.sponge.specs.Words.{stateInWords, outcome}

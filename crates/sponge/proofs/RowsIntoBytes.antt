@@ -16,15 +16,10 @@ use Rattle.standard.specs.Bits.{high-first, bitsOf, pack, unpack}
 use Rattle.standard.specs.Grid.{tab}
 use Rattle.standard.proofs.Tab.{length-tab, tab-snoc}
 use Rattle.standard.proofs.BitLaws.{length-unpack, length-bitsOf, length-pack, unpack-pack}
-use Rattle.standard.proofs.CutLaws.{length-flatMap}
+use Rattle.standard.proofs.CutLaws.{length-flatMap, flatMap-append}
 use Rattle.sponge.specs.Layout.{stateRoom}
 use Rattle.standard.proofs.PutBits.{put-bits, upper-byte, lower-byte, halves}
 use Rattle.standard.proofs.Tests.{lt-or-le}
-
-pub flatMap-append : {A B : Type 0} (f : A → List B) (xs ys : List A) → flatMap f (xs ++ ys) ≡ flatMap f xs ++ flatMap f ys
-unfolding flatMap
-flatMap-append f [] ys = refl
-flatMap-append f (x ∷ xs) ys = rw (flatMap-append f xs ys, append-assoc)
 
 -- ---- one half byte
 

@@ -5,25 +5,30 @@ use mathlib.Core.Bool.{Bool, true, false}
 use mathlib.Core.List.{List, [], _∷_, _++_, append-assoc, append-nil, flatMap}
 use mathlib.Core.Logic.{_⊎_, inl, inr, ⊎-elim}
 use Prim.Native.Nat.{ℕ, zero, suc, _+_, _-_, _*_, _/_, _%_, _≤_, _<_}
-use native.Mathlib.Nat.{not-suc-le-zero, le-of-suc-le-suc, add-mul-div-right, div-eq-of-lt, le-div-iff-mul-le, min-le-left, sub-zero}
+use native.Mathlib.Nat.{not-suc-le-zero, le-of-suc-le-suc, add-mul-div-right, div-eq-of-lt, le-div-iff-mul-le, min-le-left, sub-zero, zero-mul}
 use native.Mathlib.Numerals.{add-one}
 use native.Mathlib.Omega.{arith}
 use lib.ListN.{length, take, drop, length-append, length-drop, length-take, length-replicate, replicate}
 use lib.Seq.{length-take-le, take-add, take-all, take-take, take-append-le}
-use Rattle.standard.specs.Bits.{Order, high-first, bitsOf, bitsIn, pack, unpack, bytesFor, reordered}
+use Rattle.standard.specs.Bits.{Order, high-first, bitsOf, bitsIn, pack, unpack, filled, bytesFor, turned}
+use Rattle.standard.proofs.Turned.{turned-high, turned-out, turned-zeros}
 use Rattle.standard.specs.Rounds.{forward, iterate}
-use Rattle.standard.specs.Sponge.{Variant, isSponge, order, permutation, spongeStep, outputs, outputCount, outputBlocks, squeezed}
-use Rattle.standard.specs.Chain.{step}
+use Rattle.standard.specs.Sponge.{outputCount}
+use Rattle.standard.specs.Families.{Variant, isSponge, order}
+use Rattle.standard.proofs.Outputs.{outputs}
+use Rattle.standard.specs.Chain.{step, run, givenOut}
+use Rattle.standard.specs.ForCode.{outputBits}
 use Rattle.standard.specs.Variants.{variant, known}
-use Rattle.standard.proofs.BitLaws.{length-bitsIn, length-unpack, length-pack, bitsOf-valueOf, bitsIn-take, bitsIn-zeros, take-pack, pack-none, xorInto-zeros}
-use Rattle.standard.proofs.Sponge.{step-sponge}
-use Rattle.standard.proofs.Variants.{Bounds, bounds, WholeBytes, layouts, permutation-length}
-use Rattle.standard.proofs.Reordered.{reordered-same}
+use Rattle.standard.proofs.BitLaws.{filled-take, filled-short, length-bitsIn, length-unpack, length-pack, bitsOf-valueOf, bitsIn-take, bitsIn-zeros, take-pack, pack-none, xorInto-zeros}
+use Rattle.standard.proofs.Streaming.{run-one, run-none}
+use Rattle.standard.proofs.Variants.{Bounds, bounds, Rates, rates, WholeBytes, layouts, is-sponge, given-outputs}
 use Rattle.sponge.specs.Layout.{stateRoom, blockRoom, packedState}
+use Rattle.sponge.specs.Blocks.{heldThen, firstBlocks}
 use Rattle.sponge.specs.Cells.{cellIn}
+use Rattle.sponge.specs.TakenBack.{permutedState}
+use Rattle.sponge.proofs.TakenBack.{permuted-same, permuted-length, step-permutes}
 use Rattle.sponge.proofs.LayoutLaws.{packed-bits}
-use Rattle.sponge.proofs.BlockRows.{pack-filled, pack-zeros}
-use Rattle.sponge.proofs.MatrixImage.{filled-take}
+use Rattle.sponge.proofs.BlockRows.{first-none, first-more, filled-zeros, pack-filled, heldThen-alone}
 use Rattle.sponge.proofs.RowsIntoBytes.{read-back, kept-back}
 
 -- r holds p half bytes of the digest, and the first i of the bytes s behind them
@@ -63,37 +68,44 @@ packed-front o k m S hk hm =
 
 -- the first m bits of a state, as they are given out, are the first m bits of the bytes that hold it
 pub output-bits : (o : Order) (t m : ℕ) (S : List Bool) → length S ≡ t → t ≤ stateRoom * 8 → m ≤ t → (high-first ≡ o) ⊎ (m % 8 ≡ 0)
-    → reordered o high-first (take m S) ≡ take m (bitsIn high-first (pack o stateRoom S))
-unfolding reordered unpack
+    → turned o (take m S) ≡ take m (bitsIn high-first (pack o stateRoom S))
+unfolding unpack
 output-bits o t m S lS ht hm w =
     ⊎-elim
-    (λ e. rw (← e, packed-bits high-first stateRoom S (omega arith), take-append-le m S _ (omega arith)) (reordered-same high-first (take m S)))
+    (λ e. rw (← e, packed-bits high-first stateRoom S (omega arith), take-append-le m S _ (omega arith)) (turned-high (take m S)))
     (λ e.
     let size : length (take m S) ≡ m = length-take-le m S (omega arith) in
     let count : bytesFor m ≡ m / 8 = omega arith in
     let whole : 8 * (m / 8) ≡ m = omega arith in
-    rw (size, count, packed-front o (m / 8) m S (omega arith) (omega arith), ← take-pack o (m / 8) stateRoom S (omega arith))
+    turned-out (take m S) o (inr (ap (λ (n : ℕ). n % 8) size ∙ e))
+    ∙ rw (size, count, packed-front o (m / 8) m S (omega arith) (omega arith), ← take-pack o (m / 8) stateRoom S (omega arith))
     (rw (← bitsIn-take, whole, take-take m m (bitsIn high-first (pack o stateRoom S)) (omega arith))))
     w
 
 -- ---- the step of a block of zeros
-
-packed-zeros : (o : Order) (k n : ℕ) → pack o k (replicate n false) ≡ replicate k 0
-packed-zeros o k n = pack-zeros o k [] n ∙ pack-none o k
 
 take-zeros : (m n : ℕ) → m ≤ n → take m (replicate n false) ≡ replicate m false
 take-zeros zero n h = refl
 take-zeros (suc m) zero h = absurd (not-suc-le-zero h)
 take-zeros (suc m) (suc n) h = ap (λ (l : List Bool). false ∷ l) (take-zeros m n (le-of-suc-le-suc h))
 
-reordered-zeros : (a b : Order) (n : ℕ) → reordered a b (replicate n false) ≡ replicate n false
-unfolding reordered unpack
-reordered-zeros a b n = rw (length-replicate, packed-zeros, bitsIn-zeros, take-zeros n (8 * bytesFor n) (omega arith))
-
 -- is the permutation
-pub zero-step : (H : Variant) → isSponge H ≡ true → (S : List Bool) (k : ℕ) → H .r ≤ 8 * k → step H S (take (H .r) (bitsIn high-first (replicate k 0))) ≡ permutation H forward S
-unfolding spongeStep
-zero-step H q S k h = rw (step-sponge H q, bitsIn-zeros, take-zeros (H .r) (8 * k) h, reordered-zeros, xorInto-zeros)
+zeros-permute : (v : ℕ) → isSponge (variant v) ≡ true → (S : List Bool) → step (variant v) S (replicate (variant v .r) false) ≡ permutedState (variant v) forward S
+zeros-permute v q S = rw (step-permutes (variant v) (is-sponge v q), turned-zeros, xorInto-zeros)
+
+pub zero-step : (v : ℕ) → isSponge (variant v) ≡ true → (S : List Bool) (k : ℕ) → variant v .r ≤ 8 * k
+    → step (variant v) S (take (variant v .r) (bitsIn high-first (replicate k 0))) ≡ permutedState (variant v) forward S
+zero-step v q S k h = rw (bitsIn-zeros, take-zeros (variant v .r) (8 * k) h) (zeros-permute v q S)
+
+-- also where the block is a byte of zeros and what fills it up
+pub zero-run : (v : ℕ) → isSponge (variant v) ≡ true → (S : List Bool) (held : List ℕ)
+    → run (variant v) S (firstBlocks (variant v .r) 1 (heldThen held 0 (0 ∷ []))) ≡ permutedState (variant v) forward S
+zero-run v q S held =
+    let r : ℕ = variant v .r in
+    let zeros : filled r (replicate 8 false) ≡ replicate r false = filled-zeros r [] 8 ∙ filled-short r [] (omega arith) ∙ ap (λ (n : ℕ). replicate n false) (sub-zero r) in
+    let one : firstBlocks r 1 (replicate 8 false) ≡ replicate r false ∷ [] =
+    first-more r (replicate 8 false) 0 ∙ rw (first-none, zero-mul, zeros) in
+    rw (heldThen-alone held (0 ∷ []), bitsIn-zeros high-first 1, one, run-one, run-none) (zeros-permute v q S)
 
 -- ---- output blocks, one after the other
 
@@ -149,7 +161,7 @@ pub record Squeezing (v : ℕ) (E : List Bool) (n q : ℕ) (out : List ℕ) (S :
   pub sponge : isSponge (variant v) ≡ true
   pub digest : 4 * n ≡ variant v .n
   pub digest-most : n ≤ 64
-  pub block : 4 * q ≡ variant v .r′
+  pub block : 4 * q ≡ outputBits (variant v)
   pub block-least : 0 < q
   pub block-most : q ≤ 64
   pub wanted : p < n
@@ -157,31 +169,32 @@ pub record Squeezing (v : ℕ) (E : List Bool) (n q : ℕ) (out : List ℕ) (S :
   pub kept : out ≡ pack high-first stateRoom (unpack high-first (4 * p) out)
   pub layout : (high-first ≡ order (variant v)) ⊎ ((variant v .n - 4 * p) % 8 ≡ 0)
   pub left : unpack high-first (4 * p) out
-      ++ flatMap (reordered (order (variant v)) high-first)
-      (outputs (permutation (variant v) forward) (variant v .r′) (variant v .n - 4 * p) (blocksFor (variant v .r′) (variant v .n - 4 * p)) S)
-      ≡ squeezed (variant v) E
-  pub ahead : iterate (blocksFor (variant v .r′) (variant v .n - 4 * p) - 1) (permutation (variant v) forward) S
-      ≡ iterate (outputCount (variant v) - 1) (permutation (variant v) forward) E
+      ++ flatMap (turned (order (variant v)))
+      (outputs (permutedState (variant v) forward) (outputBits (variant v)) (variant v .n - 4 * p) (blocksFor (outputBits (variant v)) (variant v .n - 4 * p)) S)
+      ≡ givenOut (variant v .family) (variant v) E
+  pub ahead : iterate (blocksFor (outputBits (variant v)) (variant v .n - 4 * p) - 1) (permutedState (variant v) forward) S
+      ≡ iterate (outputCount (outputBits (variant v)) (variant v .n) - 1) (permutedState (variant v) forward) E
 
-pub squeezing-start : (v : ℕ) → known v ≡ true → isSponge (variant v) ≡ true → (E : List Bool) → length E ≡ variant v .t → (n q : ℕ) → n ≡ variant v .n / 8 * 2 → q ≡ variant v .r′ / 4
+pub squeezing-start : (v : ℕ) → known v ≡ true → isSponge (variant v) ≡ true → (E : List Bool) → length E ≡ variant v .t → (n q : ℕ) → n ≡ variant v .n / 8 * 2 → q ≡ outputBits (variant v) / 4
     → Squeezing v E n q (replicate stateRoom 0) E 0
-unfolding squeezed outputBlocks unpack
+unfolding unpack
 squeezing-start v k z E l n q en eq =
     let H : Variant = variant v in
     let b : Bounds H = bounds v k in
+    let f : Rates H = rates v z in
     record {
       number = k;
       sponge = z;
       digest = omega (arith, b .digest-whole);
       digest-most = omega (arith, b .digest-most);
-      block = omega (arith, b .output-quarters);
-      block-least = omega (arith, b .output-least);
-      block-most = omega (arith, b .output-most);
+      block = omega (arith, f .quarters);
+      block-least = omega (arith, f .least);
+      block-most = omega (arith, f .most);
       wanted = omega (arith, b .digest-least);
       state = l;
       kept = sym (pack-none high-first stateRoom);
       layout = inr (rw sub-zero (b .digest-whole));
-      left = rw sub-zero;
+      left = rw (sub-zero, permuted-same H (is-sponge v z)) (sym (given-outputs v z E l));
       ahead = rw sub-zero;
     }
 
@@ -192,18 +205,21 @@ module _ (v : ℕ) (E : List Bool) (n q : ℕ) (out : List ℕ) (S : List Bool) 
   b : Bounds (variant v)
   b = bounds v (u .number)
 
+  f : Rates (variant v)
+  f = rates v (u .sponge)
+
   pub squeezing-room : length out ≡ stateRoom
   squeezing-room = ap length (u .kept) ∙ length-pack high-first stateRoom _
 
   -- bytes that begin with the bits that the state gives out
-  module _ (s : List ℕ) (ls : length s ≡ stateRoom) (es : take (variant v .r′) (bitsIn high-first s) ≡ take (variant v .r′) (bitsIn high-first (packedState (variant v) S))) where
+  module _ (s : List ℕ) (ls : length s ≡ stateRoom) (es : take (outputBits (variant v)) (bitsIn high-first s) ≡ take (outputBits (variant v)) (bitsIn high-first (packedState (variant v) S))) where
     -- the first m of them
-    given : (m : ℕ) → m ≤ H .r′ → (high-first ≡ order H) ⊎ (m % 8 ≡ 0) → take m (bitsIn high-first s) ≡ reordered (order H) high-first (take m S)
+    given : (m : ℕ) → m ≤ outputBits H → (high-first ≡ order H) ⊎ (m % 8 ≡ 0) → take m (bitsIn high-first s) ≡ turned (order H) (take m S)
     given m hm w =
-        sym (take-take m (H .r′) (bitsIn high-first s) hm)
+        sym (take-take m (outputBits H) (bitsIn high-first s) hm)
         ∙ ap (take m) es
-        ∙ take-take m (H .r′) (bitsIn high-first (packedState H S)) hm
-        ∙ sym (output-bits (order H) (H .t) m S (u .state) (b .state-most) (omega (arith, b .output-fits)) w)
+        ∙ take-take m (outputBits H) (bitsIn high-first (packedState H S)) hm
+        ∙ sym (output-bits (order H) (H .t) m S (u .state) (b .state-most) (omega (arith, f .fits)) w)
 
     pub squeezing-more : (more : List ℕ) (next : List Bool) → p + q < n
         → more ≡ pack high-first stateRoom (unpack high-first (4 * p) out ++ take (4 * q) (bitsIn high-first s))
@@ -211,15 +227,15 @@ module _ (v : ℕ) (E : List Bool) (n q : ℕ) (out : List ℕ) (S : List Bool) 
     unfolding flatMap
     squeezing-more more next h em ex =
         let k = u .number in
-        let stepped : next ≡ permutation H forward S = ex ∙ zero-step H (u .sponge) S blockRoom (omega (arith, b .rate-most)) in
+        let stepped : next ≡ permutedState H forward S = ex ∙ zero-step v (u .sponge) S blockRoom (omega (arith, b .rate-most)) in
         let X : List Bool = unpack high-first (4 * p) out in
         let Y : List Bool = take (4 * q) (bitsIn high-first s) in
         let again : unpack high-first (4 * (p + q)) more ≡ X ++ Y =
         front-again out s squeezing-room ls p q (omega arith) more em in
-        let block : Y ≡ reordered (order H) high-first (take (H .r′) S) =
+        let block : Y ≡ turned (order H) (take (outputBits H) S) =
         given (4 * q) (omega arith) (⊎-elim inl (λ (w : WholeBytes H). inr (rw (u .block) (w .output))) (layouts v k))
-        ∙ ap (λ (m : ℕ). reordered (order H) high-first (take m S)) (u .block) in
-        let rest : H .n - 4 * p - H .r′ ≡ H .n - 4 * (p + q) = omega arith in
+        ∙ ap (λ (m : ℕ). turned (order H) (take m S)) (u .block) in
+        let rest : H .n - 4 * p - outputBits H ≡ H .n - 4 * (p + q) = omega arith in
         record {
           number = k;
           sponge = u .sponge;
@@ -229,28 +245,28 @@ module _ (v : ℕ) (E : List Bool) (n q : ℕ) (out : List ℕ) (S : List Bool) 
           block-least = u .block-least;
           block-most = u .block-most;
           wanted = h;
-          state = ap length stepped ∙ permutation-length v k (u .sponge) forward S (u .state);
+          state = ap length stepped ∙ permuted-length H (is-sponge v (u .sponge)) forward S (u .state);
           kept = front-kept out s squeezing-room ls p q (omega arith) more em;
           layout = ⊎-elim inl (λ e. ⊎-elim inl (λ (w : WholeBytes H). inr (omega arith)) (layouts v k)) (u .layout);
           left =
               rw (again, stepped, block, ← rest, append-assoc)
-              (rw (outputs-more (permutation H forward) (H .r′) (H .n - 4 * p) (omega (arith, b .output-least)) S (omega arith)) at (u .left));
+              (rw (outputs-more (permutedState H forward) (outputBits H) (H .n - 4 * p) (omega (arith, f .least)) S (omega arith)) at (u .left));
           ahead =
               rw (stepped, ← rest)
-              (sym (ahead-more (permutation H forward) (H .r′) (H .n - 4 * p) (omega (arith, b .output-least)) S (omega arith)) ∙ u .ahead);
+              (sym (ahead-more (permutedState H forward) (outputBits H) (H .n - 4 * p) (omega (arith, f .least)) S (omega arith)) ∙ u .ahead);
         }
 
     pub squeezing-last : (last : List ℕ) → n ≤ p + q
         → last ≡ pack high-first stateRoom (unpack high-first (4 * p) out ++ take (4 * (n - p)) (bitsIn high-first s))
-        → last ≡ pack high-first stateRoom (squeezed (variant v) E)
+        → last ≡ pack high-first stateRoom (givenOut (variant v .family) (variant v) E)
     unfolding flatMap
     squeezing-last last h el =
         let m : ℕ = H .n - 4 * p in
         let size : 4 * (n - p) ≡ m = omega arith in
         rw (el, size, given m (omega arith) (u .layout))
         (ap (pack high-first stateRoom)
-        (rw (outputs-last (permutation H forward) (H .r′) m (omega (arith, b .output-least)) S (omega arith) (omega arith), append-nil) at (u .left)))
+        (rw (outputs-last (permutedState H forward) (outputBits H) m (omega (arith, f .least)) S (omega arith) (omega arith), append-nil) at (u .left)))
 
   -- the state that gives the last block
-  pub squeezing-end : n ≤ p + q → S ≡ iterate (outputCount (variant v) - 1) (permutation (variant v) forward) E
-  squeezing-end h = sym (ahead-last (permutation H forward) (H .r′) (H .n - 4 * p) (omega (arith, b .output-least)) S (omega arith) (omega arith)) ∙ u .ahead
+  pub squeezing-end : n ≤ p + q → S ≡ iterate (outputCount (outputBits (variant v)) (variant v .n) - 1) (permutedState (variant v) forward) E
+  squeezing-end h = sym (ahead-last (permutedState H forward) (outputBits H) (H .n - 4 * p) (omega (arith, f .least)) S (omega arith) (omega arith)) ∙ u .ahead

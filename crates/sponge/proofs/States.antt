@@ -8,24 +8,28 @@ use Prim.Native.Nat.{ℕ, _*_, _%_, _^_, _≤_, _<_}
 use native.Mathlib.Omega.{arith}
 use lib.Dec.{lit≤}
 use lib.ListN.{length, getD}
-use Rattle.standard.specs.Bits.{Order, low-first, high-first, bitsIn, pack, unpack, reordered, xorInto}
+use Rattle.standard.specs.Bits.{Order, low-first, high-first, bitsIn, pack, unpack, xorInto, turned}
 use Rattle.standard.specs.Rounds.{Direction, backward}
-use Rattle.standard.specs.Grid.{Grid, window, Small}
+use Rattle.standard.specs.Grid.{Grid}
+use Rattle.standard.specs.ForCode.{window, Small}
 use Rattle.standard.specs.Photon.{photonRounds, matrixOf, bitsOfMatrix, photonPermutation}
 use Rattle.standard.specs.Spongent.{spongentPermutation}
-use Rattle.standard.specs.Sponge.{Variant, isSponge, order, permutation, unstep, stateIn}
+use Rattle.standard.specs.Sponge.{permutation}
+use Rattle.standard.specs.Families.{Variant, isSponge, order, stateIn}
 use Rattle.standard.specs.Variants.{variant, known}
 use Rattle.standard.proofs.Tests.{one-to-five}
 use Rattle.standard.proofs.Tab.{small-window}
 use Rattle.standard.proofs.BitLaws.{length-unpack}
 use Rattle.standard.proofs.PhotonLaws.{photonRounds-state}
 use Rattle.standard.proofs.MatrixLaws.{matrixOf-square, matrixOf-small}
-use Rattle.standard.proofs.Variants.{Bounds, bounds, WholeBytes, layouts, permutation-length}
+use Rattle.standard.proofs.Variants.{Bounds, bounds, WholeBytes, layouts, is-sponge}
 use Rattle.photon.specs.Parameters.{photonOf}
 use Rattle.photon.proofs.ParametersOf.{photon-variant, sound}
 use Rattle.spongent.specs.Parameters.{spongentOf}
 use Rattle.spongent.proofs.ParametersOf.{family-of, bits-of}
 use Rattle.sponge.specs.Layout.{blockRoom, stateRoom, packedState, blockIn, Holds, HoldsBlock}
+use Rattle.sponge.specs.TakenBack.{permutedState, unstep}
+use Rattle.sponge.proofs.TakenBack.{permuted-length}
 use Rattle.sponge.proofs.MatrixImage.{matrix-front}
 use Rattle.sponge.proofs.LayoutLaws.{state-back, taken-bytes}
 
@@ -58,8 +62,8 @@ module _ (v : ℕ) (low : 1 ≤ v) (high : v ≤ 5) (d s : ℕ) (ed : d ≡ phot
 
   pub photon-state : (bytes r : List ℕ) (w : Direction) (g h : Grid) → window d g ≡ matrixOf d s (bitsIn high-first bytes)
       → window (photonOf v .d) h ≡ photonRounds (photonOf v) w (window (photonOf v .d) g) → r ≡ pack high-first stateRoom (bitsOfMatrix s (window d h))
-      → r ≡ packedState (variant v) (permutation (variant v) w (stateIn (variant v) bytes))
-  unfolding permutation photonPermutation stateIn unpack
+      → r ≡ packedState (variant v) (permutedState (variant v) w (stateIn (variant v) bytes))
+  unfolding permutedState permutation photonPermutation stateIn unpack
   photon-state bytes r w g h eg eh er =
       let front = matrix-front (photonOf v .d) (photonOf v .s) (variant v .t) (bitsIn high-first bytes) (state-cells v low high) in
       rw (rw (ed, es) at er, eh, rw (ed, es) at eg, ← front, photon-variant v low high)
@@ -74,8 +78,8 @@ module _ (v : ℕ) (low : 6 ≤ v) (high : v ≤ 10) where
 
   pub spongent-state : (bytes r : List ℕ) (w : Direction)
       → r ≡ pack low-first stateRoom (spongentPermutation (spongentOf v) w (unpack low-first (spongentOf v .t) bytes))
-      → r ≡ packedState (variant v) (permutation (variant v) w (stateIn (variant v) bytes))
-  unfolding permutation stateIn
+      → r ≡ packedState (variant v) (permutedState (variant v) w (stateIn (variant v) bytes))
+  unfolding permutedState permutation stateIn
   spongent-state bytes r w e = rw (family-of v low high, bits-of v low high) e
 
 -- ---- by number
@@ -101,7 +105,7 @@ module _ (v : ℕ) (k : known v ≡ true) where
       (es : Holds v s) (ez : HoldsBlock v z) (ex : (o : Order) → bitsIn o x ≡ xorInto (bitsIn o s) (bitsIn o z)) where
     -- the state with the block in it
     abbrev taken : List Bool
-    taken = xorInto (stateIn (variant v) s) (reordered high-first (order (variant v)) (blockIn (variant v) z))
+    taken = xorInto (stateIn (variant v) s) (turned (order (variant v)) (blockIn (variant v) z))
 
     pub taken-state : x ≡ packedState (variant v) taken
     unfolding stateIn
@@ -115,11 +119,11 @@ module _ (v : ℕ) (k : known v ≡ true) where
 
   -- the permutation taken back, and then the block xored out
   pub taken-back : isSponge (variant v) ≡ true → (s p x z : List ℕ) → length s ≡ stateRoom → length p ≡ stateRoom → length z ≡ blockRoom → ((i : ℕ) → getD x i 0 < 256) → length x ≡ stateRoom
-      → p ≡ packedState (variant v) (permutation (variant v) backward (stateIn (variant v) s)) → HoldsBlock v z
+      → p ≡ packedState (variant v) (permutedState (variant v) backward (stateIn (variant v) s)) → HoldsBlock v z
       → ((o : Order) → bitsIn o x ≡ xorInto (bitsIn o p) (bitsIn o z))
       → x ≡ packedState (variant v) (unstep (variant v) (stateIn (variant v) s) (blockIn (variant v) z))
   unfolding unstep
   taken-back q s p x z ls lp lz hx lx ep ez ex =
-      let S : List Bool = permutation (variant v) backward (stateIn (variant v) s) in
-      let lS : length S ≡ variant v .t = permutation-length v k q backward (stateIn (variant v) s) (state-length s ls) in
+      let S : List Bool = permutedState (variant v) backward (stateIn (variant v) s) in
+      let lS : length S ≡ variant v .t = permuted-length (variant v) (is-sponge v q) backward (stateIn (variant v) s) (state-length s ls) in
       rw (stored p S lS ep) at (taken-state p x z lp lz hx lx (stored-ready p S lS ep) ez ex)

@@ -3,7 +3,7 @@
 use mathlib.Core.Path.{_≡_, refl, sym, ap, ap₂, _∙_, subst}
 use mathlib.Core.Bool.{Bool, true}
 use mathlib.Core.List.{List, [], _∷_, _++_, reverse-reverse}
-use mathlib.Core.Logic.{⊎-elim}
+use mathlib.Core.Logic.{inr, ⊎-elim}
 use Prim.Native.Nat.{ℕ, zero, suc, _+_, _*_, _/_, _%_, _^_, _≤_, _<_}
 use native.Mathlib.Nat.{mul-comm, zero-mul, zero-add, one-mul, add-mul, suc-mul, mul-le-mul-left, mul-le-mul-right, mul-assoc}
 use native.Mathlib.Omega.{arith}
@@ -11,22 +11,22 @@ use lib.Bits.{bitXor}
 use lib.Dec.{lit≤}
 use lib.ListN.{length, getD, take, drop, replicate, length-append}
 use lib.Seq.{take-all, take-at, drop-at, length-take-le}
-use Rattle.standard.specs.Bits.{low-first, high-first, lowBits, ordered, bitsOf, valueOf, bitsIn, pack, unpack, bytesFor, reordered, xorInto}
+use Rattle.standard.specs.Bits.{low-first, high-first, lowBits, ordered, bitsOf, valueOf, bitsIn, pack, unpack, bytesFor, turned, xorInto}
+use Rattle.standard.proofs.Turned.{turned-high, turned-in}
 use Rattle.standard.specs.Rounds.{forward}
-use Rattle.standard.specs.Grid.{at}
+use Rattle.standard.specs.Grid.{at, tab}
 use Rattle.standard.specs.Photon.{matrixOf, bitsOfMatrix, photonRounds, photonPermutation}
 use Rattle.standard.specs.Spongent.{spongentPermutation}
-use Rattle.standard.specs.Sponge.{permutation, spongeStep, stateIn}
+use Rattle.standard.specs.Sponge.{permutation}
+use Rattle.standard.specs.Families.{stateIn}
 use Rattle.standard.specs.Chain.{step}
 use Rattle.standard.specs.Variants.{variant, known}
 use Rattle.standard.proofs.Tests.{lt-or-le, one-to-five, six-to-ten}
 use Rattle.standard.proofs.Tab.{at-grid, grid-cong, grid-self, square-grid}
-use Rattle.standard.proofs.BitLaws.{length-lowBits, lowBits-lowValue, length-bitsOf, length-bitsIn, length-unpack, bitsIn-take, bitsIn-drop}
-use Rattle.standard.proofs.Reordered.{reordered-same}
+use Rattle.standard.proofs.BitLaws.{filled-take, length-lowBits, lowBits-lowValue, length-bitsOf, length-bitsIn, length-unpack, bitsIn-take, bitsIn-drop}
 use Rattle.standard.proofs.MatrixLaws.{length-bitsOfMatrix, matrixOf-square, bits-matrix}
 use Rattle.standard.proofs.PhotonLaws.{State}
-use Rattle.standard.proofs.Sponge.{step-sponge}
-use Rattle.standard.proofs.Variants.{known-low, known-high, sponge-true}
+use Rattle.standard.proofs.Variants.{known-low, known-high, sponge-true, is-sponge}
 use Rattle.shares.specs.Columns.{cellOf, placeIn, placeOf}
 use Rattle.shares.proofs.LookUps.{words-state}
 use Rattle.photon.specs.Parameters.{photonOf}
@@ -39,12 +39,13 @@ use Rattle.spongent.proofs.ParametersOf.{family-of, bits-of, sizes-of}
 use Rattle.spongent.proofs.WordLaws.{length-bytesIn}
 use Rattle.sponge.specs.Cells.{cellIn}
 use Rattle.sponge.specs.Words.{stateInWords}
+use Rattle.sponge.specs.TakenBack.{permutedState}
+use Rattle.sponge.proofs.TakenBack.{step-permutes}
 use Rattle.standard.specs.Lesamnta.{lesamntaStep}
-use Rattle.standard.specs.Grid.{tab}
 use Rattle.standard.proofs.LesamntaLaws as lw
 use Rattle.lesamnta.specs.Words.{stateOf}
 use Rattle.sponge.specs.Layout.{stateRoom, packedState}
-use Rattle.sponge.proofs.MatrixImage.{filled-take, matrix-front}
+use Rattle.sponge.proofs.MatrixImage.{matrix-front}
 use Rattle.sponge.proofs.CellsIntoWords.{Taken, taken-none, taken-row, columns-are, matrix-xor, block-cell}
 
 module _ (v : ℕ) (low : 1 ≤ v) (high : v ≤ 5) where
@@ -53,7 +54,7 @@ module _ (v : ℕ) (low : 1 ≤ v) (high : v ≤ 5) where
       → Taken (placeOf (photonOf v)) (photonOf v .s) (photonOf v .d) bytes c q w x
       → matrixIn v y ≡ photonRounds (photonOf v) forward (matrixIn v x)
       → stateInWords (variant v) y ≡ step (variant v) (stateInWords (variant v) w) (take (variant v .r) (drop from (bitsIn high-first bytes)))
-  unfolding stateInWords spongeStep permutation photonPermutation
+  unfolding stateInWords permutedState permutation photonPermutation
   block-stepped bytes w x y c from q begins room rate u e =
       let p = photonOf v in
       let k : State p (matrixIn v w) = words-state p (sound v low high) (placeOf p) (rising-places v low high) w in
@@ -65,7 +66,7 @@ module _ (v : ℕ) (low : 1 ≤ v) (high : v ≤ 5) where
       (λ i j hi hj. matrix-xor (p .d) (p .s) (matrixIn v w) (k .square) (k .small) B i j hi hj
       ∙ ap₂ bitXor (at-grid (p .d) (λ a b. cellOf (placeOf p) (p .s) a (getD w b 0)) i j hi hj) (block-cell bytes (p .s) c from q begins room (i * p .d + j) (omega (arith, sound v low high .nibble)))
       ∙ sym (u .cell i j hi hj)) in
-      rw (step-sponge (variant v) (sponge-true v low (omega arith)), photon-variant v low high, reordered-same, rate, taken, e)
+      rw (step-permutes (variant v) (is-sponge v (sponge-true v low (omega arith))), photon-variant v low high, turned-high, rate, taken, e)
 
 first-place : (v : ℕ) → 1 ≤ v → v ≤ 5 → 0 ≡ placeOf (photonOf v) 0
 unfolding photonOf variant
@@ -215,13 +216,14 @@ bytes-low (b ∷ bytes) =
     (filled-take 8 (X ++ rest) (omega (arith, size, length-append X rest)) ∙ take-at X rest 8 size) (drop-at X rest 8 size)
     ∙ ap₂ (λ (x y : List Bool). x ++ y) (byte-low b) (bytes-low bytes)
 
-reordered-bytes : (bytes : List ℕ) → reordered high-first low-first (bitsIn high-first bytes) ≡ bitsIn low-first bytes
-unfolding reordered unpack
-reordered-bytes bytes =
+turned-bytes : (bytes : List ℕ) → turned low-first (bitsIn high-first bytes) ≡ bitsIn low-first bytes
+unfolding unpack
+turned-bytes bytes =
     let bs : List Bool = bitsIn high-first bytes in
     let size : length bs ≡ 8 * length bytes = length-bitsIn high-first bytes in
     let count : bytesFor (length bs) ≡ length bytes = omega arith in
-    ap (λ (n : ℕ). take (length bs) (bitsIn low-first (pack high-first n bs))) count
+    turned-in bs low-first (inr (omega arith))
+    ∙ ap (λ (n : ℕ). take (length bs) (bitsIn low-first (pack high-first n bs))) count
     ∙ ap (take (length bs)) (bytes-low bytes)
     ∙ take-all (length bs) (bitsIn low-first bytes) (omega (arith, size, length-bitsIn low-first bytes))
 
@@ -230,14 +232,14 @@ pub spongent-stepped : (v : ℕ) → 6 ≤ v → v ≤ 10 → (bytes : List ℕ)
     → unpack low-first (spongentOf v .t) (bytesIn y)
     ≡ spongentPermutation (spongentOf v) forward (xorInto (unpack low-first (spongentOf v .t) (bytesIn w)) (bitsIn low-first (take (variant v .r / 8) (drop (m / 2) bytes))))
     → stateInWords (variant v) y ≡ step (variant v) (stateInWords (variant v) w) (take (variant v .r) (drop (4 * m) (bitsIn high-first bytes)))
-unfolding stateInWords spongeStep permutation
+unfolding stateInWords permutedState permutation
 spongent-stepped v low high bytes m room even w y e =
     let q : ℕ = variant v .r / 8 in
     let rate : 8 * q ≡ variant v .r = omega (arith, whole-rate v low high) in
     let place : 8 * (m / 2) ≡ 4 * m = omega (arith, even (whole-rate v low high)) in
     let block : take (variant v .r) (drop (4 * m) (bitsIn high-first bytes)) ≡ bitsIn high-first (take q (drop (m / 2) bytes)) =
     ap₂ (λ (a b : ℕ). take a (drop b (bitsIn high-first bytes))) (sym rate) (sym place) ∙ ap (take (8 * q)) (bitsIn-drop high-first (m / 2) bytes) ∙ bitsIn-take high-first q (drop (m / 2) bytes) in
-    rw (step-sponge (variant v) (sponge-true v (omega arith) high), family-of v low high, block, reordered-bytes) e
+    rw (step-permutes (variant v) (is-sponge v (sponge-true v (omega arith) high)), family-of v low high, block, turned-bytes) e
 
 -- ---- the state of the words that are made from bytes
 

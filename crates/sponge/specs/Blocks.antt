@@ -1,4 +1,4 @@
--- Blocks of a bit string that comes in bytes: half bytes, held ones with bytes behind them, and the first blocks, with zeros where the bits end.
+-- For the code: blocks of a bit string that comes in bytes: half bytes, held ones with bytes behind them, and the first blocks, with zeros where the bits end.
 -- Assumes nothing.
 use mathlib.Core.Bool.{Bool, cond}
 use mathlib.Core.List.{List, _++_}

@@ -1,4 +1,4 @@
--- The cells of a PHOTON state, one after the other, row by row.
+-- For the code: the cells of a PHOTON state, one after the other, row by row.
 -- Assumes nothing.
 use mathlib.Core.List.{List}
 use Prim.Native.Nat.{ℕ, _*_, _/_, _%_}

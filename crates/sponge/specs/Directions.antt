@@ -1,4 +1,4 @@
--- The direction that a call asks for, in the standard's terms.
+-- For the code: the direction that a call asks for, in the standard's terms.
 -- Assumes nothing.
 use Rattle.standard.specs.Rounds as rounds
 use Rattle.standard.specs.Rounds.{forward, backward}

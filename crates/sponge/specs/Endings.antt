@@ -1,4 +1,4 @@
--- How a padded message ends, as the code makes it: blocks of its bits with the padding's 1 bit and zeros behind them, and in Lesamnta-LW a block with the length.
+-- For the code: how a padded message ends: blocks of its bits with the padding's 1 bit and zeros behind them, and in Lesamnta-LW a block with the length.
 -- Assumes nothing.
 use mathlib.Core.Bool.{Bool, false, cond}
 use mathlib.Core.List.{List, [], _∷_, _++_}
@@ -6,7 +6,7 @@ use Prim.Native.Nat.{ℕ, _+_, _/_, _%_}
 use lib.Dec.{eqb}
 use lib.ListN.{replicate}
 use Rattle.standard.specs.Bits.{high-first, bitsOf}
-use Rattle.standard.specs.Sponge.{Variant, isSponge}
+use Rattle.standard.specs.Families.{Variant, isSponge}
 
 -- how many blocks the n bits of a message fill with the 1 bit behind them. In Lesamnta-LW the 1 bit that would begin a block stands in the length's.
 abbrev pub markedCount : Variant → ℕ → ℕ

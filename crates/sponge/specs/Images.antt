@@ -11,7 +11,8 @@ use Rattle.answers.specs.Checks.{Check, unless, firstRefusal}
 use Rattle.answers.specs.Outputs.{whenDone}
 use Rattle.standard.specs.Bits.{bitsIn}
 use Rattle.standard.specs.Rounds.{Direction}
-use Rattle.standard.specs.Sponge.{Variant, isSponge, order, permutation, imageSize, imageOf, stateIn}
+use Rattle.standard.specs.Sponge.{permutation}
+use Rattle.standard.specs.Families.{Family, sponge, lesamnta, Variant, isSponge, order, imageSize, imageOf, stateIn}
 use Rattle.standard.specs.Variants.{variant, known}
 use Rattle.sponge.specs.Layout.{clear}
 
@@ -27,7 +28,11 @@ imageChecks v bytes = unless (known v) UnknownVariant ∷ unless (isSponge (vari
 unfoldable pub imageStatus : ℕ → List ℕ → Status
 imageStatus v bytes = firstRefusal (imageChecks v bytes)
 
--- the image of the permuted state; refused bytes stay
+-- by family: the image of the permuted state. Lesamnta-LW, which 17 refuses, has no permutation, and its bytes stay.
+abbrev pub permutedBytes : Family → Variant → Direction → List ℕ → List ℕ
+permutedBytes (sponge P r′) H w bytes = imageOf H (permutation P w (stateIn H bytes))
+permutedBytes lesamnta H w bytes = bytes
+
+-- the bytes after the operation; refused ones stay
 unfoldable pub permutedImage : ℕ → Direction → List ℕ → List ℕ
-permutedImage v w bytes =
-    whenDone (imageStatus v bytes) (imageOf (variant v) (permutation (variant v) w (stateIn (variant v) bytes))) bytes
+permutedImage v w bytes = whenDone (imageStatus v bytes) (permutedBytes (variant v .family) (variant v) w bytes) bytes

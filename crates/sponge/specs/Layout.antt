@@ -5,7 +5,7 @@ use mathlib.Core.Bool.{Bool, true, not, _&&_}
 use mathlib.Core.List.{List, [], _∷_}
 use Prim.Native.Nat.{ℕ}
 use Rattle.standard.specs.Bits.{high-first, pack, unpack}
-use Rattle.standard.specs.Sponge.{Variant, order, stateIn}
+use Rattle.standard.specs.Families.{Variant, order, stateIn}
 use Rattle.standard.specs.Variants.{variant}
 
 -- the bytes that have room for the state of every variant, for a block and for a digest

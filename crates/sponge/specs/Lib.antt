@@ -6,5 +6,6 @@ pub mod Messages
 pub mod Parts
 pub mod Endings
 pub mod Directions
+pub mod TakenBack
 pub mod Images
 pub mod Words

@@ -1,4 +1,4 @@
--- States in words, as the look-ups of each family hold them, and the tables that they look up.
+-- For the code: states in words, as the look-ups of each family hold them, and the tables that they look up.
 -- Assumes nothing.
 use mathlib.Core.Path.{_≡_}
 use mathlib.Core.Bool.{Bool, cond}
@@ -8,7 +8,8 @@ use lib.ListN.{length}
 use Rattle.standard.specs.Bits.{low-first, high-first, unpack, pack}
 use Rattle.standard.specs.Photon.{bitsOfMatrix}
 use Rattle.standard.specs.Spongent.{nibbles}
-use Rattle.standard.specs.Sponge.{Family, photon, spongent, lesamnta, Variant, givenOut}
+use Rattle.standard.specs.Families.{photon, spongent, Family, sponge, lesamnta, Variant}
+use Rattle.standard.specs.Chain.{givenOut}
 use Rattle.shares.specs.Columns.{matrixOfWords, placeOf}
 use Rattle.shares.specs.Tables.{Entries, Pairs}
 use Rattle.photon.specs.Parameters.{photonOf}
@@ -19,8 +20,8 @@ use Rattle.sponge.specs.Layout.{stateRoom, packedState}
 
 -- by family: PHOTON's matrix has a column in each word, SPONGENT's bytes stand in order, eight to a word, and Lesamnta-LW's words are its own
 abbrev pub stateOfWords : Family → List ℕ → List Bool
-stateOfWords (photon p) words = bitsOfMatrix (p .s) (matrixOfWords (placeOf p) p words)
-stateOfWords (spongent p) words = unpack low-first (p .t) (bytesIn words)
+stateOfWords (sponge (photon p) r′) words = bitsOfMatrix (p .s) (matrixOfWords (placeOf p) p words)
+stateOfWords (sponge (spongent p) r′) words = unpack low-first (p .t) (bytesIn words)
 stateOfWords lesamnta words = stateOf words
 
 -- the state of a variant that words hold

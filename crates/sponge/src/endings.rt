@@ -3,7 +3,7 @@ ghost use mathlib.Core.Path.{_≡_};
 ghost use mathlib.Core.Bool.{true, cond};
 ghost use Prim.Native.Nat.{_%_};
 ghost use lib.Dec.{eqb};
-ghost use Rattle.standard.specs.Sponge.{stateIn};
+ghost use Rattle.standard.specs.Families.{stateIn};
 ghost use Rattle.standard.specs.Chain.{run};
 ghost use Rattle.standard.specs.Variants.{variant, known};
 ghost use Rattle.sponge.specs.Layout.{packedState, packedBlock, Holds};

@@ -6,10 +6,11 @@ ghost use Prim.Native.Nat.{_+_, _-_, _%_, _≤_};
 ghost use lib.ListN.{length, take, drop, replicate};
 ghost use Rattle.standard.specs.Bits.{high-first, bitsIn};
 ghost use Rattle.standard.specs.Rounds.{forward, backward};
-ghost use Rattle.standard.specs.Sponge.{isSponge, permutation, imageOf, stateIn};
+ghost use Rattle.standard.specs.Families.{isSponge, imageOf, stateIn};
 ghost use Rattle.standard.specs.Variants.{variant, known};
 ghost use Rattle.sponge.specs.Layout.{stateRoom, clear};
 ghost use Rattle.sponge.specs.Directions.{directionOf};
+ghost use Rattle.sponge.specs.TakenBack.{permutedState};
 ghost use Rattle.sponge.specs.Images.{isImage, imageStatus, permutedImage};
 use crate::sizes;
 use crate::sizes::STATE_BYTES;
@@ -83,7 +84,7 @@ pub fn is_image(v: u8, image: &[u8]) -> bool
 fn permute_state(v: u8, image: &mut [u8], way: Direction)
     requires { ⌜ (known v ≡ true) × (isSponge (variant v) ≡ true) ⌝ }
     requires { ⌜ isImage (variant v) (now image) ≡ true ⌝ }
-    ensures { λ _. ⌜ now (image .exit) ≡ imageOf (variant v) (permutation (variant v) (directionOf way) (stateIn (variant v) (now (image .entry)))) ⌝ }
+    ensures { λ _. ⌜ now (image .exit) ≡ imageOf (variant v) (permutedState (variant v) (directionOf way) (stateIn (variant v) (now (image .entry)))) ⌝ }
 {
     let s = at_front(image);
     let r = step::permuted(v, s, way);

@@ -3,14 +3,14 @@ ghost use mathlib.Core.Path.{_≡_};
 ghost use Prim.Native.Nat.{ℕ, _+_, _-_, _^_, _≤_, _<_};
 ghost use lib.ListN.{getD};
 ghost use Rattle.standard.specs.Bits.{high-first, bitsIn, pack};
-ghost use Rattle.standard.specs.Rounds.{direction};
-ghost use Rattle.standard.specs.Sponge.{permutation, stateIn};
+ghost use Rattle.standard.specs.ForCode.{direction, window, Small};
+ghost use Rattle.standard.specs.Families.{stateIn};
 ghost use Rattle.standard.specs.Variants.{variant};
 ghost use Rattle.sponge.specs.Layout.{stateRoom, packedState};
+ghost use Rattle.sponge.specs.TakenBack.{permutedState};
 ghost use mathlib.Core.Logic.{_⊎_};
 ghost use Rattle.photon.specs.Parameters.{photonOf};
 ghost use Rattle.sponge.specs.Cells.{cellIn, nth};
-ghost use Rattle.standard.specs.Grid.{window, Small};
 ghost use Rattle.standard.specs.Photon.{matrixOf, bitsOfMatrix};
 use crate::sizes::STATE_BYTES;
 
@@ -123,7 +123,7 @@ fn cell_bits(v: usize) -> usize
 // PHOTON on the bytes that hold a state: as a matrix, permuted, and back.
 pub fn permuted(v: usize, s: [u8; STATE_BYTES], back: bool) -> [u8; STATE_BYTES]
     requires { ⌜ (1 ≤ v) × (v ≤ 5) ⌝ }
-    ensures { λ r. ⌜ r ≡ packedState (variant v) (permutation (variant v) (direction back) (stateIn (variant v) s)) ⌝ }
+    ensures { λ r. ⌜ r ≡ packedState (variant v) (permutedState (variant v) (direction back) (stateIn (variant v) s)) ⌝ }
 {
     let d = photon::size_of(v);
     let w = cell_bits(v);

@@ -4,11 +4,13 @@ ghost use mathlib.Core.Bool.{true, false};
 ghost use mathlib.Core.List.{[], _∷_, _++_};
 ghost use Prim.Native.Nat.{_*_, _^_, _≤_};
 ghost use lib.ListN.{length};
-ghost use Rattle.standard.specs.Sponge.{isSponge, stateIn};
+ghost use Rattle.standard.specs.Rounds.{forward};
+ghost use Rattle.standard.specs.Families.{isSponge, stateIn};
 ghost use Rattle.standard.specs.Chain.{run};
 ghost use Rattle.standard.specs.Variants.{variant, known};
 ghost use Rattle.sponge.specs.Layout.{packedState, Holds};
 ghost use Rattle.sponge.specs.Blocks.{heldThen, firstBlocks};
+ghost use Rattle.sponge.specs.TakenBack.{permutedState};
 ghost use Rattle.sponge.specs.Words.{TableOf, outcome};
 use crate::blocks;
 use crate::sizes::STATE_BYTES;
@@ -136,6 +138,15 @@ pub fn outcome_after(
         return outcome_boxes(s, held, p, piece, last, count);
     }
     outcome_spread(v, s, held, p, piece, last, count, digest)
+}
+
+// The permutation of a sponge by look-ups: the step of a block of zeros. It promises what `step::permuted` does by the standard's steps.
+pub fn permuted_by_words(v: u8, s: [u8; STATE_BYTES]) -> [u8; STATE_BYTES]
+    requires { ⌜ (known v ≡ true) × (isSponge (variant v) ≡ true) ⌝ }
+    ensures { λ r. ⌜ r ≡ packedState (variant v) (permutedState (variant v) forward (stateIn (variant v) s)) ⌝ }
+{
+    let none: [u8; 0] = [];
+    outcome_after(v, s, &none, 0, &none, 0, 1, false)
 }
 
 // The state after the first `count` blocks. A piece that fills no block needs no table.

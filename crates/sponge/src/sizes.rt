@@ -2,9 +2,10 @@
 ghost use mathlib.Core.Path.{_≡_};
 ghost use mathlib.Core.Bool.{true};
 ghost use Prim.Native.Nat.{_+_, _*_, _/_, _≤_};
-ghost use Rattle.standard.specs.Sponge.{isSponge, imageSize};
+ghost use Rattle.standard.specs.Families.{isSponge, imageSize};
 ghost use Rattle.standard.specs.Chain.{blockCount};
 ghost use Rattle.standard.specs.Variants.{variant, known};
+ghost use Rattle.standard.specs.ForCode.{outputBits};
 ghost use Rattle.answers.specs.Outputs.{mostBits};
 ghost use Rattle.sponge.specs.Layout.{stateRoom};
 ghost use Rattle.sponge.specs.Endings.{markedCount};
@@ -17,7 +18,7 @@ pub const BLOCK_BYTES: usize = 16;
 pub const DIGEST_BYTES: usize = 32;
 
 // Tables 1 and 9 and Lesamnta-LW by a variant's number, 0 for no variant: the bits of the state (t), of a block that is taken in (r), of
-// one that is given out (r') and of the digest (n).
+// one that is given out (r'; Lesamnta-LW gives its state out at once) and of the digest (n).
 const SIZES: [[u32; 4]; 12] = [
     [0, 0, 0, 0],
     [100, 20, 16, 80],
@@ -30,7 +31,7 @@ const SIZES: [[u32; 4]; 12] = [
     [176, 16, 16, 160],
     [240, 16, 16, 224],
     [272, 16, 16, 256],
-    [256, 128, 256, 256],
+    [256, 128, 0, 256],
 ];
 
 struct Sizes {
@@ -53,11 +54,14 @@ pub fn is_known(v: u32) -> bool
 pub fn is_sponge(v: u8) -> bool
     ensures { λ r. ⌜ r ≡ isSponge (variant v) ⌝ }
 {
-    v != 11
+    if v < 1 {
+        return false;
+    }
+    v <= 10
 }
 
 fn sizes_of(v: u8) -> Sizes
-    ensures { λ r. ⌜ (r .state ≡ variant v .t) × (r .block ≡ variant v .r) × (r .output ≡ variant v .r′) × (r .digest ≡ variant v .n) ⌝ }
+    ensures { λ r. ⌜ (r .state ≡ variant v .t) × (r .block ≡ variant v .r) × (r .output ≡ outputBits (variant v)) × (r .digest ≡ variant v .n) ⌝ }
     ensures { λ r. ⌜ r .state ≤ 8 * stateRoom ⌝ }
 {
     if 11 < v {
@@ -129,7 +133,7 @@ pub fn digest_bytes(v: u8) -> usize
 
 // The half bytes that an output block gives.
 pub fn output_halves(v: u8) -> usize
-    ensures { λ r. ⌜ r ≡ variant v .r′ / 4 ⌝ }
+    ensures { λ r. ⌜ r ≡ outputBits (variant v) / 4 ⌝ }
 {
     sizes_of(v).output as usize / 4
 }

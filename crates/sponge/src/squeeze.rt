@@ -6,9 +6,13 @@ ghost use Prim.Native.Nat.{_+_, _-_, _*_, _≤_, _<_};
 ghost use lib.ListN.{length, take};
 ghost use Rattle.standard.specs.Bits.{high-first, bitsIn, pack, unpack};
 ghost use Rattle.standard.specs.Rounds.{forward, iterate};
-ghost use Rattle.standard.specs.Sponge.{isSponge, permutation, outputCount, squeezed};
+ghost use Rattle.standard.specs.Sponge.{outputCount};
+ghost use Rattle.standard.specs.Families.{isSponge};
+ghost use Rattle.standard.specs.Chain.{givenOut};
+ghost use Rattle.standard.specs.ForCode.{outputBits};
 ghost use Rattle.standard.specs.Variants.{variant, known};
 ghost use Rattle.sponge.specs.Layout.{stateRoom};
+ghost use Rattle.sponge.specs.TakenBack.{permutedState};
 ghost use Rattle.sponge.specs.Words.{stateInWords, TableOf};
 use crate::sizes;
 use crate::sizes::BLOCK_BYTES;
@@ -33,9 +37,9 @@ fn put_front(out: &mut [u8], p: usize, s: &[u8], q: usize)
 pub fn squeezed(v: u8, w: &mut [u64; 8], table: &[u64]) -> [u8; STATE_BYTES]
     requires { ⌜ (known v ≡ true) × (isSponge (variant v) ≡ true) ⌝ }
     requires { ⌜ TableOf v (now table) ⌝ }
-    ensures { λ r. ⌜ r ≡ pack high-first stateRoom (squeezed (variant v) (stateInWords (variant v) (now (w .entry)))) ⌝ }
+    ensures { λ r. ⌜ r ≡ pack high-first stateRoom (givenOut (variant v .family) (variant v) (stateInWords (variant v) (now (w .entry)))) ⌝ }
     ensures { λ _. ⌜ stateInWords (variant v) (now (w .exit))
-        ≡ iterate (outputCount (variant v) - 1) (permutation (variant v) forward) (stateInWords (variant v) (now (w .entry))) ⌝ }
+        ≡ iterate (outputCount (outputBits (variant v)) (variant v .n) - 1) (permutedState (variant v) forward) (stateInWords (variant v) (now (w .entry))) ⌝ }
 {
     let n = sizes::digest_bytes(v) * 2;
     let q = sizes::output_halves(v);

@@ -4,11 +4,13 @@ ghost use mathlib.Core.Bool.{true};
 ghost use Prim.Native.Nat.{_≤_};
 ghost use lib.ListN.{length};
 ghost use Rattle.standard.specs.Bits.{Order, bitsIn, xorInto};
-ghost use Rattle.standard.specs.Rounds.{direction};
-ghost use Rattle.standard.specs.Sponge.{isSponge, permutation, startState, unstep, stateIn};
+ghost use Rattle.standard.specs.ForCode.{direction};
+ghost use Rattle.standard.specs.Families.{isSponge, stateIn};
+ghost use Rattle.standard.specs.Chain.{startState};
 ghost use Rattle.standard.specs.Variants.{variant, known};
 ghost use Rattle.sponge.specs.Layout.{stateRoom, packedState, blockIn, Holds, HoldsBlock};
 ghost use Rattle.sponge.specs.Directions.{directionOf};
+ghost use Rattle.sponge.specs.TakenBack.{permutedState, unstep};
 use crate::matrix;
 use crate::sizes;
 use crate::sizes::BLOCK_BYTES;
@@ -48,7 +50,7 @@ pub fn xored(s: [u8; STATE_BYTES], b: &[u8]) -> [u8; STATE_BYTES]
 pub fn permuted(v: u8, s: [u8; STATE_BYTES], way: Direction) -> [u8; STATE_BYTES]
     requires { ⌜ (known v ≡ true) × (isSponge (variant v) ≡ true) ⌝ }
     requires { ⌜ Holds v s ⌝ }
-    ensures { λ r. ⌜ r ≡ packedState (variant v) (permutation (variant v) (directionOf way) (stateIn (variant v) s)) ⌝ }
+    ensures { λ r. ⌜ r ≡ packedState (variant v) (permutedState (variant v) (directionOf way) (stateIn (variant v) s)) ⌝ }
 {
     let back = is_backward(way);
     if v <= 5 {

@@ -1,4 +1,4 @@
-// States in words, as the look-ups of both families hold them: from bytes and back, and the block step.
+// States in words, as the look-ups of each family hold them: from bytes and back, and the block step.
 ghost use mathlib.Core.Path.{_≡_};
 ghost use mathlib.Core.Bool.{true, cond};
 ghost use mathlib.Core.List.{_++_, flatMap};
@@ -9,9 +9,10 @@ ghost use lib.ListN.{length, getD, take, drop};
 ghost use Rattle.standard.specs.Bits.{high-first, bitsOf, bitsIn, pack, unpack};
 ghost use Rattle.standard.specs.Grid.{tab};
 ghost use Rattle.standard.specs.Photon.{matrixOf, bitsOfMatrix};
-ghost use Rattle.standard.specs.Sponge.{isSponge, stateIn};
+ghost use Rattle.standard.specs.Families.{isSponge, stateIn};
 ghost use Rattle.standard.specs.Chain.{step};
 ghost use Rattle.standard.specs.Variants.{variant, known};
+ghost use Rattle.standard.specs.ForCode.{outputBits};
 ghost use Rattle.shares.specs.Columns.{placeIn};
 ghost use Rattle.photon.specs.Parameters.{photonOf};
 ghost use Rattle.photon.specs.Words.{matrixIn};
@@ -283,7 +284,7 @@ pub fn bytes_of(v: u8, w: &[u64; 8]) -> [u8; STATE_BYTES]
 // The bytes of a sponge's first bits, as many as are given out: the rows that have them, and zeros for the others.
 pub fn front_of(v: u8, w: &[u64; 8]) -> [u8; STATE_BYTES]
     requires { ⌜ (known v ≡ true) × (isSponge (variant v) ≡ true) ⌝ }
-    ensures { λ r. ⌜ take (variant v .r′) (bitsIn high-first r) ≡ take (variant v .r′) (bitsIn high-first (packedState (variant v) (stateInWords (variant v) (now (w .entry))))) ⌝ }
+    ensures { λ r. ⌜ take (outputBits (variant v)) (bitsIn high-first r) ≡ take (outputBits (variant v)) (bitsIn high-first (packedState (variant v) (stateInWords (variant v) (now (w .entry))))) ⌝ }
 {
     if v == 1 {
         return image4(1, w, 5, 1);

@@ -10,7 +10,8 @@ use lib.ListN.{length, getD, drop, replicate}
 use lib.Seq.{drop-length}
 use Rattle.standard.specs.Bits.{low-first, bitsIn}
 use Rattle.standard.specs.Rounds.{Direction, inTurn, rounds}
-use Rattle.standard.specs.Spongent.{SpongentParameters, reversal, steppedCounter, steppedReversed, lCounters, counterIn, spongentRound, spongentPermutation}
+use Rattle.standard.specs.Spongent.{SpongentParameters, lCounters, spongentRound, spongentPermutation}
+use Rattle.standard.specs.Counters.{reversal, steppedCounter, steppedReversed, counterIn}
 use Rattle.standard.proofs.CounterSteps.{within, stepped-lt, stepped-reversed}
 use Rattle.standard.proofs.CounterRounds.{SoundCounter, length-lCounters, counterIn-lt, counterIn-next}
 use Rattle.spongent.proofs.ParametersOf.{Sizes}

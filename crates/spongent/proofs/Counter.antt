@@ -8,7 +8,8 @@ use native.Mathlib.Nat.{mul-one, div-one, mul-mod-left}
 use native.Mathlib.Omega.{arith}
 use lib.Bits.{bitXor}
 use Rattle.standard.specs.Bits.{bit, digit}
-use Rattle.standard.specs.Spongent.{tapped, nextCounter, previousCounter, nextReversed, previousReversed}
+use Rattle.standard.specs.Spongent.{tapped, nextCounter}
+use Rattle.standard.specs.Counters.{previousCounter, nextReversed, previousReversed}
 use Rattle.standard.proofs.BitLaws.{digit-bit, bit-xor, xor-false, false-xor}
 use Rattle.standard.proofs.CounterSteps.{next-suc}
 use Rattle.spongent.specs.Parameters.{tapsOf}

@@ -5,9 +5,10 @@ use mathlib.Core.Path.{_≡_, ap, _∙_}
 use Prim.Native.Nat.{ℕ, _-_, _%_, _^_, _≤_, _<_}
 use native.Mathlib.Omega.{arith}
 use Rattle.standard.specs.Rounds.{Direction, forward, opposite, iterate}
-use Rattle.standard.specs.Spongent.{SpongentParameters, reversal, steppedCounter, steppedReversed, counterIn}
+use Rattle.standard.specs.Spongent.{SpongentParameters}
+use Rattle.standard.specs.Counters.{reversal, steppedCounter, steppedReversed, counterIn}
 use Rattle.standard.proofs.CounterSteps.{stepped-undo, reversed-undo}
-use Rattle.standard.proofs.CounterRounds.{SoundCounter, first-counter, counter-in-each-round, reversed-in-each-round}
+use Rattle.standard.proofs.CounterRounds.{SoundCounter, first-counter, counter-stepped, reversed-stepped}
 use Rattle.spongent.specs.Parameters.{spongentOf}
 use Rattle.spongent.proofs.ParametersOf.{sound-of}
 
@@ -19,11 +20,11 @@ module _ (v : ℕ) (least : 6 ≤ v) (most : v ≤ 10) where
   sound = sound-of v least most
 
   pub counter-of-round : (way : Direction) (k : ℕ) → k < p .R → counterIn p way k ≡ iterate k (steppedCounter way (p .width) (p .taps)) (counterIn p way 0)
-  counter-of-round = counter-in-each-round p sound
+  counter-of-round = counter-stepped p sound
 
   pub reversed-of-round : (way : Direction) (k : ℕ) → k < p .R
       → reversal (p .t) (counterIn p way k) ≡ iterate k (steppedReversed way (p .t) (p .width) (p .taps)) (reversal (p .t) (counterIn p way 0))
-  reversed-of-round = reversed-in-each-round p sound
+  reversed-of-round = reversed-stepped p sound
 
   -- forward, the first round has the reversal of Table 9's first value
   pub reversed-from-first : (k : ℕ) → k < p .R → reversal (p .t) (counterIn p forward k) ≡ iterate k (steppedReversed forward (p .t) (p .width) (p .taps)) (reversal (p .t) (p .first))

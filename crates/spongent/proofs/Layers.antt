@@ -10,9 +10,10 @@ use lib.Bits.{bitXor}
 use lib.ListN.{length, getD, set, take, drop, replicate, length-set}
 use lib.Seq.{length-take-le, take-at, drop-at}
 use Rattle.standard.specs.Bits.{low-first, high-first, lowBits, lowValue, ordered, bitsOf, bitsIn, xorInto}
-use Rattle.standard.specs.Spongent.{reversal, cAddition, sBoxLayer}
+use Rattle.standard.specs.Spongent.{cAddition, sBoxLayer}
+use Rattle.standard.specs.Counters.{reversal}
 use Rattle.standard.proofs.BitLaws.{length-lowBits, lowValue-lowBits, lowBits-lowValue, lowBits-add, lowValue-append, lowValue-of, bitsIn-append, bitsIn-take, bitsIn-drop, bitsIn-xor, xorInto-behind, xorInto-front, xorInto-append, xorInto-nil, length-xorInto, length-bitsOf, length-bitsIn, lowBits-byte, high-byte}
-use Rattle.standard.proofs.SpongentLaws.{length-sBoxLayer}
+use Rattle.standard.proofs.SpongentLaws.{sBoxLayer-none, sBoxLayer-more, length-sBoxLayer}
 use Rattle.arrays.proofs.Mapped.{mapped}
 
 -- ---- sBoxLayer
@@ -23,8 +24,11 @@ byteBy box b = lowValue (sBoxLayer box (lowBits 8 b))
 
 two-nibbles : (box : List ℕ) (x y : ℕ)
     → sBoxLayer box (lowBits 4 x ++ lowBits 4 y) ≡ lowBits 4 (getD box (lowValue (lowBits 4 x)) 0) ++ lowBits 4 (getD box (lowValue (lowBits 4 y)) 0)
-unfolding sBoxLayer lowBits
-two-nibbles box x y = refl
+unfolding lowBits
+two-nibbles box x y =
+    sBoxLayer-more box _ _ _ _ (lowBits 4 y)
+    ∙ ap (λ (l : List Bool). lowBits 4 (getD box (lowValue (lowBits 4 x)) 0) ++ l)
+    (sBoxLayer-more box _ _ _ _ [] ∙ ap (λ (l : List Bool). lowBits 4 (getD box (lowValue (lowBits 4 y)) 0) ++ l) (sBoxLayer-none box) ∙ append-nil (lowBits 4 (getD box (lowValue (lowBits 4 y)) 0)))
 
 pub byte-nibbles : (box : List ℕ) → ((x : ℕ) → x < 16 → getD box x 0 < 16) → (b : ℕ) → b < 256 → getD box (b % 16) 0 + 16 * getD box (b / 16) 0 ≡ byteBy box b
 unfolding lowBits
@@ -38,14 +42,14 @@ byte-nibbles box h b hb =
     sym (ap lowValue e ∙ rw (lowValue-lowBits 4 lo (h (b % 16) (omega arith)), lowValue-lowBits 4 hi (h (b / 16) (omega arith))) at sum)
 
 first-byte : (box : List ℕ) (b : ℕ) (l : List Bool) → sBoxLayer box (lowBits 8 b ++ l) ≡ sBoxLayer box (lowBits 8 b) ++ sBoxLayer box l
-unfolding sBoxLayer lowBits
-first-byte box b l = refl
+unfolding lowBits
+first-byte box b l = rw (sBoxLayer-more, sBoxLayer-more, sBoxLayer-more, sBoxLayer-more, sBoxLayer-none)
 
 sBoxLayer-bytes : (box bytes : List ℕ) → bitsIn low-first (map (byteBy box) bytes) ≡ sBoxLayer box (bitsIn low-first bytes)
-unfolding bitsIn bitsOf ordered sBoxLayer
-sBoxLayer-bytes box [] = refl
+unfolding bitsIn bitsOf ordered
+sBoxLayer-bytes box [] = sym (sBoxLayer-none box)
 sBoxLayer-bytes box (b ∷ bytes) =
-    let size : length (sBoxLayer box (lowBits 8 b)) ≡ 8 = length-sBoxLayer box (lowBits 8 b) ∙ length-lowBits 8 b in
+    let size : length (sBoxLayer box (lowBits 8 b)) ≡ 8 = length-sBoxLayer box (lowBits 8 b) (rw length-lowBits refl) ∙ length-lowBits 8 b in
     rw (rw size at (lowBits-lowValue (sBoxLayer box (lowBits 8 b))), sBoxLayer-bytes box bytes) (sym (first-byte box b (bitsIn low-first bytes)))
 
 -- the first n bytes replaced

@@ -12,7 +12,8 @@ use lib.ListN.{length, getD, set, take, drop, replicate, length-set}
 use lib.Seq.{length-take-le}
 use Rattle.standard.specs.Bits.{low-first, bitsIn, unpack}
 use Rattle.standard.specs.Rounds.{forward}
-use Rattle.standard.specs.Spongent.{nibbles, reversal, cAddition, sBoxLayer, pLayer, spongentRound}
+use Rattle.standard.specs.Spongent.{nibbles, cAddition, sBoxLayer, pLayer, spongentRound}
+use Rattle.standard.specs.Counters.{reversal}
 use Rattle.standard.proofs.BitLaws.{length-bitsIn}
 use Rattle.standard.proofs.SpongentLaws.{length-sBoxLayer, length-cAddition}
 use Rattle.standard.proofs.Reversal.{reversal-lt}
@@ -50,7 +51,8 @@ module _ (n : ℕ) (least : 0 < n) (most : n ≤ 36) (box : List ℕ) (small : (
       let s′ : List ℕ = mapped (byteBy box) n s in
       let L : List Bool = bitsIn low-first s in
       let x : List Bool = sBoxLayer box (take t L) in
-      let lx : length x ≡ t = length-sBoxLayer box (take t L) ∙ length-take-le t L (omega (arith, length-bitsIn low-first s)) in
+      let lt : length (take t L) ≡ t = length-take-le t L (omega (arith, length-bitsIn low-first s)) in
+      let lx : length x ≡ t = length-sBoxLayer box (take t L) (omega arith) ∙ lt in
       moved-bits t (omega arith) (omega arith) (omega arith) s′ (bytesIn r) (length-mapped (byteBy box) n s ∙ ls) (length-bytesIn r)
       (λ j l.
       let i : ℕ = j % n in

@@ -7,16 +7,18 @@ use Prim.Native.Nat.{ℕ, _-_, _%_, _≤_, _<_}
 use native.Mathlib.Omega.{arith}
 use lib.ListN.{getD}
 use Rattle.standard.specs.Rounds.{forward, backward}
-use Rattle.standard.specs.Spongent.{SpongentParameters, tapped, nextCounter, counters, lCounters, counterIn}
-use Rattle.standard.specs.Sponge.{spongent}
+use Rattle.standard.specs.Spongent.{SpongentParameters, tapped, nextCounter, counters, lCounters}
+use Rattle.standard.specs.Counters.{counterIn}
+use Rattle.standard.specs.Families.{spongent, sponge}
+use Rattle.standard.specs.ForCode.{outputBits}
 use Rattle.standard.specs.Variants.{variant}
 use Rattle.standard.proofs.Tests.{six-to-ten}
 use Rattle.standard.proofs.CounterRounds.{SoundCounter, sound88, sound136, sound176, sound240, sound272}
 use Rattle.spongent.specs.Parameters.{spongentOf, tapsOf}
 
-pub family-of : (v : ℕ) → 6 ≤ v → v ≤ 10 → variant v .family ≡ spongent (spongentOf v)
+pub family-of : (v : ℕ) → 6 ≤ v → v ≤ 10 → variant v .family ≡ sponge (spongent (spongentOf v)) (outputBits (variant v))
 unfolding variant spongentOf
-family-of = six-to-ten (λ v. variant v .family ≡ spongent (spongentOf v)) refl refl refl refl refl
+family-of = six-to-ten (λ v. variant v .family ≡ sponge (spongent (spongentOf v)) (outputBits (variant v))) refl refl refl refl refl
 
 pub bits-of : (v : ℕ) → 6 ≤ v → v ≤ 10 → variant v .t ≡ spongentOf v .t
 unfolding variant spongentOf

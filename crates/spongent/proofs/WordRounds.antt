@@ -7,7 +7,8 @@ use native.Mathlib.Omega.{arith}
 use lib.ListN.{length}
 use Rattle.standard.specs.Bits.{low-first, unpack}
 use Rattle.standard.specs.Rounds.{forward}
-use Rattle.standard.specs.Spongent.{nextCounter, reversal, nextReversed, steppedCounter, steppedReversed, counterIn, spongentRound}
+use Rattle.standard.specs.Spongent.{nextCounter, spongentRound}
+use Rattle.standard.specs.Counters.{reversal, nextReversed, steppedCounter, steppedReversed, counterIn}
 use Rattle.standard.specs.Variants.{variant}
 use Rattle.standard.proofs.CounterRounds.{SoundCounter}
 use Rattle.spongent.specs.Parameters.{spongentOf, tapsOf}

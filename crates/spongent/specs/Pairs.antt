@@ -1,4 +1,4 @@
--- Pairs of bits, in which the code moves bits. pLayer takes bit b of each nibble, one nibble after the other, to plane b, a quarter of the state, and the four planes
+-- For the code: pairs of bits, in which the code moves bits. pLayer takes bit b of each nibble, one nibble after the other, to plane b, a quarter of the state, and the four planes
 -- lie one behind the other. A byte has two nibbles, so it gives a pair of bits to each plane.
 -- Assumes nothing.
 use mathlib.Core.Path.{_≡_}

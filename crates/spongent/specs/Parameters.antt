@@ -1,11 +1,11 @@
--- The parameters of SPONGENT by the number of a variant, and the taps by the width of the counter.
+-- For the code: the parameters of SPONGENT by the number of a variant, and the taps by the width of the counter.
 -- Assumes nothing.
 use mathlib.Core.Bool.{cond}
 use mathlib.Core.List.{List, [], _∷_}
 use Prim.Native.Nat.{ℕ}
 use lib.Dec.{eqb}
 use Rattle.standard.specs.Spongent.{SpongentParameters}
-use Rattle.standard.specs.Sponge.{Family, photon, spongent, lesamnta}
+use Rattle.standard.specs.Families.{photon, spongent, Family, sponge, lesamnta}
 use Rattle.standard.specs.Variants.{variant}
 
 abbrev noParameters : SpongentParameters
@@ -13,8 +13,8 @@ noParameters = record { t = 0; R = 0; width = 0; first = 0; taps = [] }
 
 -- the parameters of a family that is SPONGENT; none of the others
 abbrev pub parametersIn : Family → SpongentParameters
-parametersIn (spongent p) = p
-parametersIn (photon p) = noParameters
+parametersIn (sponge (spongent p) r′) = p
+parametersIn (sponge (photon p) r′) = noParameters
 parametersIn lesamnta = noParameters
 
 -- the parameters of the variant v, 6 to 10

@@ -1,4 +1,4 @@
--- The state in eight words of 64 bits, and the table by which the code replaces and moves a byte of it at a time.
+-- For the code: the state in eight words of 64 bits, and the table by which the code replaces and moves a byte of it at a time.
 -- Assumes nothing.
 use mathlib.Core.Path.{_≡_}
 use mathlib.Core.List.{List}

@@ -5,8 +5,9 @@ ghost use mathlib.Core.List.{_++_};
 ghost use Prim.Native.Nat.{ℕ, _+_, _-_, _*_, _/_, _%_, _^_, _<_, _≤_};
 ghost use lib.ListN.{getD, take, drop, replicate};
 ghost use Rattle.standard.specs.Bits.{low-first, bitsIn, lowBits, lowValue, pack, unpack};
-ghost use Rattle.standard.specs.Rounds.{direction};
-ghost use Rattle.standard.specs.Spongent.{sBoxLayer, pLayer, cAddition, nextCounter, previousCounter, reversal, nextReversed, previousReversed, steppedCounter, steppedReversed, counterIn, spongentRound, spongentPermutation};
+ghost use Rattle.standard.specs.ForCode.{direction};
+ghost use Rattle.standard.specs.Spongent.{sBoxLayer, pLayer, cAddition, nextCounter, spongentRound, spongentPermutation};
+ghost use Rattle.standard.specs.Counters.{previousCounter, reversal, nextReversed, previousReversed, steppedCounter, steppedReversed, counterIn};
 ghost use Rattle.spongent.specs.Parameters.{spongentOf, tapsOf};
 ghost use Rattle.spongent.specs.Pairs.{Joined, pairAt, pairOf};
 

@@ -111,6 +111,12 @@ filled-short (suc w) [] h = rw (filled-short w [] (omega arith), sub-zero, sub-z
 filled-short zero (b ∷ bs) h = absurd (not-suc-le-zero h)
 filled-short (suc w) (b ∷ bs) h = rw (filled-short w bs (le-of-suc-le-suc h), suc-sub-suc)
 
+pub filled-take : (w : ℕ) (bs : List Bool) → w ≤ length bs → filled w bs ≡ take w bs
+unfolding filled
+filled-take zero bs h = refl
+filled-take (suc w) [] h = absurd (not-suc-le-zero h)
+filled-take (suc w) (b ∷ bs) h = ap (λ (l : List Bool). b ∷ l) (filled-take w bs (le-of-suc-le-suc h))
+
 pub take-filled : (w : ℕ) (bs : List Bool) → length bs ≤ w → take (length bs) (filled w bs) ≡ bs
 take-filled w bs h = rw (filled-short w bs h) (take-at bs _ (length bs) refl)
 

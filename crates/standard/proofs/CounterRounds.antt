@@ -10,7 +10,8 @@ use lib.Pow.{pow-pos}
 use lib.ListN.{length, getD}
 use Rattle.standard.specs.Bits.{digit}
 use Rattle.standard.specs.Rounds.{Direction, forward, backward, iterate}
-use Rattle.standard.specs.Spongent.{tapped, nextCounter, previousCounter, counters, reversal, steppedCounter, steppedReversed, SpongentParameters, lCounters, counterIn}
+use Rattle.standard.specs.Spongent.{tapped, nextCounter, counters, SpongentParameters, lCounters}
+use Rattle.standard.specs.Counters.{previousCounter, reversal, steppedCounter, steppedReversed, counterIn}
 use Rattle.standard.specs.Variants.{spongent88, spongent136, spongent176, spongent240, spongent272}
 use Rattle.standard.proofs.Undo.{iterate-out}
 use Rattle.standard.proofs.Tab.{getD-reverse}
@@ -95,14 +96,14 @@ steps-of f x n next (suc k) h = next k h ∙ ap f (steps-of f x n next k (omega 
 
 module _ (p : SpongentParameters) (z : SoundCounter p) where
   -- in each round of the permutation, and of its inverse, the counter is the first round's, stepped as many times
-  pub counter-in-each-round : (way : Direction) (k : ℕ) → k < p .R → counterIn p way k ≡ iterate k (steppedCounter way (p .width) (p .taps)) (counterIn p way 0)
-  counter-in-each-round way = steps-of (steppedCounter way (p .width) (p .taps)) (counterIn p way) (p .R) (counterIn-next p z way)
+  pub counter-stepped : (way : Direction) (k : ℕ) → k < p .R → counterIn p way k ≡ iterate k (steppedCounter way (p .width) (p .taps)) (counterIn p way 0)
+  counter-stepped way = steps-of (steppedCounter way (p .width) (p .taps)) (counterIn p way) (p .R) (counterIn-next p z way)
 
   -- and its reversal, which cAddition adds, is the first round's, stepped as many times from its own bits
-  pub reversed-in-each-round : (way : Direction) (k : ℕ) → k < p .R
+  pub reversed-stepped : (way : Direction) (k : ℕ) → k < p .R
       → reversal (p .t) (counterIn p way k) ≡ iterate k (steppedReversed way (p .t) (p .width) (p .taps)) (reversal (p .t) (counterIn p way 0))
-  reversed-in-each-round way k h =
-      ap (reversal (p .t)) (counter-in-each-round way k h)
+  reversed-stepped way k h =
+      ap (reversal (p .t)) (counter-stepped way k h)
       ∙ sym (reversed-after (p .t) (p .width) (p .taps) (z .taps .some) (z .fits) (within (p .width) (p .taps) (z .taps) (p .t) (z .fits)) way k (counterIn p way 0)
       (counterIn-lt p z way 0 (omega arith)))
 

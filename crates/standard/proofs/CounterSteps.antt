@@ -14,7 +14,8 @@ use lib.Pow.{pow-pos, pow-mono, shr-shr, shl-shr, high, low, split, shr-lt}
 use lib.ListN.{getD}
 use Rattle.standard.specs.Bits.{bit, digit, lowBits}
 use Rattle.standard.specs.Rounds.{Direction, forward, backward, opposite, iterate}
-use Rattle.standard.specs.Spongent.{tapped, nextCounter, previousCounter, reversal, mirrored, nextReversed, previousReversed, steppedCounter, steppedReversed}
+use Rattle.standard.specs.Spongent.{tapped, nextCounter}
+use Rattle.standard.specs.Counters.{previousCounter, reversal, mirrored, nextReversed, previousReversed, steppedCounter, steppedReversed}
 use Rattle.standard.proofs.BitLaws.{xor-false, false-xor, bit-digit, digit-bit, digit-lt, lowBits-at, xor-xor}
 use Rattle.standard.proofs.Undo.{All, all-at, all-of}
 use Rattle.standard.proofs.Reversal.{reversal-add, reversal-lt, reversal-first, reversal-last, reversal-zero, lowBits-mod, reversal-mod, reversal-twice, reversal-moved, tapped-mirrored}

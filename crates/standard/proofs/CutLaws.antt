@@ -2,7 +2,7 @@
 -- Assumes nothing.
 use mathlib.Core.Path.{_≡_, refl, sym, ap, _∙_}
 use mathlib.Core.Bool.{Bool}
-use mathlib.Core.List.{List, [], _∷_, _++_, map, flatMap}
+use mathlib.Core.List.{List, [], _∷_, _++_, map, flatMap, append-assoc}
 use Prim.Native.Nat.{ℕ, zero, suc, _+_, _*_, _≤_, _<_, suc-le-suc}
 use native.Mathlib.Nat.{not-suc-le-zero, le-of-suc-le-suc, zero-lt-suc, zero-mul, zero-add, suc-mul, suc-add, mul-zero, mul-suc, mul-le-mul-right}
 use native.Mathlib.Omega.{arith}
@@ -96,3 +96,9 @@ take-drop-take zero w n bs h = take-take w n bs (omega arith)
 take-drop-take (suc a) w zero bs h = absurd (omega arith)
 take-drop-take (suc a) w (suc n) [] h = refl
 take-drop-take (suc a) w (suc n) (b ∷ bs) h = take-drop-take a w n bs (omega arith)
+
+-- a sum of two lists
+pub flatMap-append : {A B : Type 0} (f : A → List B) (xs ys : List A) → flatMap f (xs ++ ys) ≡ flatMap f xs ++ flatMap f ys
+unfolding flatMap
+flatMap-append f [] ys = refl
+flatMap-append f (x ∷ xs) ys = rw (flatMap-append f xs ys, append-assoc)

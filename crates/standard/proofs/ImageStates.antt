@@ -5,7 +5,7 @@ use mathlib.Core.Bool.{Bool}
 use mathlib.Core.List.{List}
 use native.Mathlib.Omega.{arith}
 use lib.ListN.{length}
-use Rattle.standard.specs.Sponge.{Variant, order, imageSize, imageOf, stateIn}
+use Rattle.standard.specs.Families.{Variant, order, imageSize, imageOf, stateIn}
 use Rattle.standard.proofs.BitLaws.{length-pack, unpack-pack}
 
 module _ (H : Variant) where

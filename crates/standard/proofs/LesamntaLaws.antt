@@ -13,10 +13,11 @@ use lib.Pow.{pow-mono}
 use Rattle.standard.specs.Bits.{high-first, bitsOf, valueOf, cut, xorInto}
 use Rattle.standard.specs.Rounds.{Direction, forward, backward, opposite, rounds}
 use Rattle.standard.specs.Lesamnta.{fourWords, bitsOfWords, feistel, mixing, roundKeys, cipherConstants, cipher, lesamntaStart, lesamntaStep, lesamntaPadding, wordOf, bytesR, wordQ, wordG, bytesOf}
+use Rattle.standard.specs.Promises.{CipherUndo}
 use Rattle.standard.proofs.Xor.{xor-twice}
 use Rattle.standard.proofs.Undo.{All, all-at, all-of, getD-map, rounds-keep, rounds-undo}
 use Rattle.standard.proofs.BitLaws.{length-bitsOf, valueOf-bitsOf, bitsOf-valueOf, valueOf-lt, false-xor, xorInto-twice, xorInto-zeros, xorInto-nil, xorInto-append}
-use Rattle.standard.proofs.TakenBack.{difference-of}
+use Rattle.standard.proofs.Differences.{difference-of}
 use Rattle.standard.proofs.HighBits.{value-mod}
 use Rattle.standard.proofs.Tab.{tab-self}
 use Rattle.standard.proofs.CutLaws.{length-cut, cut-at, length-flatMap, map-cut, flatMap-map, flatMap-cut}
@@ -131,15 +132,15 @@ module _ (w : Direction) (key s : List Bool) where
   unfolding cipher
   cipher-length = bits-length 64 _ ∙ ap (λ (n : ℕ). n * 64) (mixed .count)
 
-  -- The cipher and its inverse undo each other, under every key and on every state, in both orders.
-  pub cipher-undo : length s ≡ 256 → cipher (opposite w) key (cipher w key s) ≡ s
-  unfolding cipher
-  cipher-undo e =
-      let ks : List ℕ = roundKeys cipherConstants (fourWords 32 key) in
-      let x : List ℕ = fourWords 64 s in
-      ap (λ (y : List ℕ). bitsOfWords 64 (rounds mixing (opposite w) ks y)) (words-bits 64 (rounds mixing w ks x) mixed)
-      ∙ ap (bitsOfWords 64) (rounds-undo (Four 64) Any mixing mixing-keeps mixing-undo w ks (any ks) x (words-four 64 s))
-      ∙ bits-words 64 s e
+-- the cipher and its inverse undo each other, under every key and on every state, in both orders
+pub cipher-undo : CipherUndo
+unfolding cipher
+cipher-undo w key s e =
+    let ks : List ℕ = roundKeys cipherConstants (fourWords 32 key) in
+    let x : List ℕ = fourWords 64 s in
+    ap (λ (y : List ℕ). bitsOfWords 64 (rounds mixing (opposite w) ks y)) (words-bits 64 (rounds mixing w ks x) (mixed w key s))
+    ∙ ap (bitsOfWords 64) (rounds-undo (Four 64) Any mixing mixing-keeps mixing-undo w ks (any ks) x (words-four 64 s))
+    ∙ bits-words 64 s e
 
 -- ---- the chain's step
 

@@ -1,7 +1,7 @@
 pub mod Tests
 pub mod BitLaws
 pub mod CutLaws
-pub mod Reordered
+pub mod Turned
 pub mod Undo
 pub mod Xor
 pub mod Tab
@@ -16,9 +16,10 @@ pub mod Reversal
 pub mod CounterSteps
 pub mod CounterRounds
 pub mod Streaming
+pub mod Outputs
 pub mod Sponge
 pub mod OneBlock
-pub mod TakenBack
+pub mod Differences
 pub mod LesamntaLaws
 pub mod HighBits
 pub mod PutBits

@@ -11,7 +11,8 @@ use lib.ListN.{length, getD, take, drop, length-map, length-take}
 use lib.Seq.{drop-drop}
 use Rattle.standard.specs.Bits.{high-first, bitsOf, valueOf, cut}
 use Rattle.standard.specs.Rounds.{Direction, opposite}
-use Rattle.standard.specs.Grid.{Grid, at, Square, Small}
+use Rattle.standard.specs.Grid.{Grid, at}
+use Rattle.standard.specs.ForCode.{Square, Small}
 use Rattle.standard.specs.Photon.{PhotonParameters, matrixOf, bitsOfMatrix, photonRounds, photonPermutation}
 use Rattle.standard.proofs.BitLaws.{length-bitsOf, valueOf-bitsOf, bitsOf-valueOf, valueOf-lt}
 use Rattle.standard.proofs.CutLaws.{length-cut, cut-at, cut-fits, flatMap-cut, flatMap-map, length-flatMap, map-cut, take-drop-take}

@@ -3,15 +3,13 @@
 use mathlib.Core.Path.{_≡_, sym, ap, _∙_}
 use mathlib.Core.Bool.{Bool}
 use mathlib.Core.List.{List, [], _∷_}
-use mathlib.Core.Logic.{_↔_, ⊎-elim}
 use Prim.Native.Nat.{ℕ, zero, suc, _+_, _≤_, _<_}
 use native.Mathlib.Nat.{not-suc-le-zero, le-of-suc-le-suc, le-refl}
 use native.Mathlib.Omega.{arith}
 use lib.ListN.{length, take, drop, getD, length-drop}
 use lib.Seq.{ext-getD, getD-take, getD-drop, length-take-le, split-at, take-take}
-use Rattle.standard.specs.Sponge.{Variant}
+use Rattle.standard.specs.Families.{Variant}
 use Rattle.standard.specs.Chain.{step, run, Blocks, DifferAt}
-use Rattle.standard.proofs.Tests.{lt-or-le}
 use Rattle.standard.proofs.Streaming.{Streams, run-append, run-one, run-length}
 use Rattle.standard.proofs.Sponge.{IsSponge, step-state, step-block}
 
@@ -72,9 +70,6 @@ module _ (H : Variant) (g : Streams H) (h : IsSponge H) (s : List Bool) (ls : le
       (run-state H g h (drop (suc i) (take k xs)) _ _ (g .step-length before _ lb) (g .step-length before _ lb)
       (sym (run-split H s xs i k l hk) ∙ e ∙ ey)))
 
-  -- the states after k blocks differ if and only if the changed block is among them
-  pub changed-block : (run H s (take k xs) ≡ run H s (take k ys) → ⊥) ↔ (i < k)
-  changed-block = (
-    λ differ. ⊎-elim (λ l. l) (λ l. absurd (differ (ap (run H s) (same-before xs ys i d k l)))) (lt-or-le i k),
-    differ-after,
-  )
+  -- the states after k blocks are equal before the changed block, and differ from it on
+  pub changed-block : (k ≤ i → run H s (take k xs) ≡ run H s (take k ys)) × (i < k → run H s (take k xs) ≡ run H s (take k ys) → ⊥)
+  changed-block = (λ l. ap (run H s) (same-before xs ys i d k l), differ-after)

@@ -12,8 +12,8 @@ use lib.ListN.{length, take, drop, getD, take-append-drop, length-append, List·
 use lib.Seq.{take-all, take-length, take-append-le, drop-append-le, drop-append-add, take-take, drop-drop, take-at, drop-at, take-append-add}
 use borrow.Author.Tests.{leb-true, eqb-true}
 use Rattle.standard.specs.Bits.{high-first, pack}
-use Rattle.standard.specs.Sponge.{Variant, isSponge, startState}
-use Rattle.standard.specs.Chain.{byteBits, padding, padded, wholeBlocks, blocksOf, DifferAt, endState}
+use Rattle.standard.specs.Families.{Variant, isSponge}
+use Rattle.standard.specs.Chain.{startState, byteBits, padding, padded, wholeBlocks, blocksOf, DifferAt, endState}
 use Rattle.standard.specs.Variants.{variants, variant, known}
 use Rattle.standard.specs.Values.{DifferWithin, inOneBlock, period, offsets, oneBlockOffsets}
 use Rattle.standard.proofs.Tests.{lt-or-le, either}
@@ -22,7 +22,7 @@ use Rattle.standard.proofs.CutLaws.{cut-at, cut-fits, take-drop-take}
 use Rattle.standard.proofs.Streaming.{Streams, length-padded, length-whole, blocks-sized}
 use Rattle.standard.proofs.Sponge.{IsSponge}
 use Rattle.standard.proofs.OneBlock.{changed-block}
-use Rattle.standard.proofs.Variants.{bounds, streams, sponge}
+use Rattle.standard.proofs.Variants.{bounds, streams, is-sponge, sponge-known}
 
 -- ---- strings that differ within a part
 
@@ -185,29 +185,29 @@ module _ (x y : List ℕ) (hx : (i : ℕ) → getD x i 0 < 256) (hy : (i : ℕ) 
 -- ---- the theorems by number, for sponges
 
 -- two messages of bits, of one length or not, whose padded rows have equal count and differ at exactly one block
-pub one-changed-row : (v : ℕ) → known v ≡ true → isSponge (variant v) ≡ true → (i : ℕ) (x y : List Bool) → DifferAt i (blocksOf (variant v) x) (blocksOf (variant v) y)
+pub one-changed-row : (v : ℕ) → isSponge (variant v) ≡ true → (i : ℕ) (x y : List Bool) → DifferAt i (blocksOf (variant v) x) (blocksOf (variant v) y)
     → endState (variant v) x ≡ endState (variant v) y → ⊥
-one-changed-row v k q = changed-row (variant v) (streams v k) (sponge v k q)
+one-changed-row v q = changed-row (variant v) (streams v (sponge-known v q)) (is-sponge v q)
 
 -- two messages of bits of equal length that differ, and only within the block j
-pub one-changed-part : (v : ℕ) → known v ≡ true → isSponge (variant v) ≡ true → (j : ℕ) (x y : List Bool) → DifferWithin (j * variant v .r) (variant v .r) x y
+pub one-changed-part : (v : ℕ) → isSponge (variant v) ≡ true → (j : ℕ) (x y : List Bool) → DifferWithin (j * variant v .r) (variant v .r) x y
     → endState (variant v) x ≡ endState (variant v) y → ⊥
-one-changed-part v k q j x y d = changed-end (variant v) (streams v k) j x y d (sponge v k q)
+one-changed-part v q j x y d = changed-end (variant v) (streams v (sponge-known v q)) j x y d (is-sponge v q)
 
-module _ (v : ℕ) (k : known v ≡ true) (q : isSponge (variant v) ≡ true) (x y : List ℕ) (hx : (i : ℕ) → getD x i 0 < 256) (hy : (i : ℕ) → getD y i 0 < 256) where
+module _ (v : ℕ) (q : isSponge (variant v) ≡ true) (x y : List ℕ) (hx : (i : ℕ) → getD x i 0 < 256) (hy : (i : ℕ) → getD y i 0 < 256) where
   -- two messages of bytes
   pub one-changed-bytes : (j : ℕ) → length x ≡ length y → (x ≡ y → ⊥)
       → take (j * variant v .r) (byteBits x) ≡ take (j * variant v .r) (byteBits y)
       → drop (j * variant v .r + variant v .r) (byteBits x) ≡ drop (j * variant v .r + variant v .r) (byteBits y)
       → endState (variant v) (byteBits x) ≡ endState (variant v) (byteBits y) → ⊥
   one-changed-bytes j l n before behind =
-      one-changed-part v k q j (byteBits x) (byteBits y) (differ-bits x y hx hy (j * variant v .r) (variant v .r) l n before behind)
+      one-changed-part v q j (byteBits x) (byteBits y) (differ-bits x y hx hy (j * variant v .r) (variant v .r) l n before behind)
 
   -- and the end states differ
   pub one-changed-value : (p n : ℕ) → DifferWithin p n x y → inOneBlock (variant v) p n ≡ true
       → endState (variant v) (byteBits x) ≡ endState (variant v) (byteBits y) → ⊥
   one-changed-value p n d e =
-      one-changed-part v k q (8 * p / variant v .r) (byteBits x) (byteBits y) (value-block x y hx hy (variant v) p n d e)
+      one-changed-part v q (8 * p / variant v .r) (byteBits x) (byteBits y) (value-block x y hx hy (variant v) p n d e)
 
 -- ---- at which offsets a value lies in one block
 

@@ -10,7 +10,7 @@ use lib.ListN.{length, take, drop, getD, length-append, drop-of-length-le}
 use lib.Seq.{take-at, drop-at, split-at, length-take-le}
 use lib.Pow.{pow-pos, shr-lt}
 use Rattle.standard.specs.Bits.{high-first, bitsOf, valueOf, bitsIn, pack}
-use Rattle.standard.specs.Sponge.{Family, photon, spongent, lesamnta, Variant, isSponge}
+use Rattle.standard.specs.Families.{photon, spongent, Family, sponge, lesamnta, Variant, isSponge}
 use Rattle.standard.specs.Chain.{byteBits, countedOf, messageBits, blocksOf}
 use Rattle.standard.specs.PartBytes.{beforeLast, lastOf, SameMessage}
 use Rattle.standard.specs.Variants.{variant, known}
@@ -18,7 +18,7 @@ use Rattle.standard.proofs.BitLaws.{length-bitsOf, length-bitsIn, bitsI
 use Rattle.standard.proofs.HighBits.{bits-mod}
 use Rattle.standard.proofs.Streaming.{block-count}
 use Rattle.standard.proofs.Sponge.{sponge-count}
-use Rattle.standard.proofs.Variants.{streams, sponge, rows-tell}
+use Rattle.standard.proofs.Variants.{streams, is-sponge, rows-tell, sponge-known}
 
 -- ---- the bits of a message
 
@@ -67,8 +67,8 @@ module _ (m : List ℕ) (some : 0 < length m) where
 
 -- all eight bits of a byte
 counted-eight : (F : Family) (b : ℕ) → bitsOf high-first 8 (countedOf F 8 b) ≡ bitsOf high-first 8 b
-counted-eight (photon p) b = ap (bitsOf high-first 8) (div-one b)
-counted-eight (spongent p) b = bits-mod high-first 8 b
+counted-eight (sponge (photon p) r′) b = ap (bitsOf high-first 8) (div-one b)
+counted-eight (sponge (spongent p) r′) b = bits-mod high-first 8 b
 counted-eight lesamnta b = ap (bitsOf high-first 8) (div-one b)
 
 -- where all bits count, the message is its whole bytes
@@ -95,15 +95,15 @@ high-lt k b h l =
 
 -- what counts of a byte fits in k bits
 pub counted-lt : (F : Family) (k b : ℕ) → k ≤ 8 → b < 256 → countedOf F k b < 2 ^ k
-counted-lt (photon p) k b h l = high-lt k b h l
-counted-lt (spongent p) k b h l = mod-lt b {m = 2 ^ k} (pow-pos k)
+counted-lt (sponge (photon p) r′) k b h l = high-lt k b h l
+counted-lt (sponge (spongent p) r′) k b h l = mod-lt b {m = 2 ^ k} (pow-pos k)
 counted-lt lesamnta k b h l = high-lt k b h l
 
 -- ---- by number
 
 -- n bits give floor(n / r) + 1 blocks of a sponge
-pub bit-block-count : (v : ℕ) → known v ≡ true → isSponge (variant v) ≡ true → (m : List Bool) → length (blocksOf (variant v) m) ≡ length m / variant v .r + 1
-bit-block-count v k e m = block-count (variant v) m ∙ sponge-count (variant v) (streams v k) (sponge v k e) (length m)
+pub bit-block-count : (v : ℕ) → isSponge (variant v) ≡ true → (m : List Bool) → length (blocksOf (variant v) m) ≡ length m / variant v .r + 1
+bit-block-count v e m = block-count (variant v) m ∙ sponge-count (variant v) (streams v (sponge-known v e)) (is-sponge v e) (length m)
 
 -- Two messages of bytes, of whose last bytes k and l bits count, are one message where their padded rows are equal.
 module _ (v : ℕ) (named : known v ≡ true) (x y : List ℕ) (hx : (i : ℕ) → getD x i 0 < 256) (hy : (i : ℕ) → getD y i 0 < 256) (sx : 0 < length x) (sy : 0 < length y)

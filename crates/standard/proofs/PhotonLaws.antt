@@ -9,7 +9,8 @@ use lib.Bits.{bitXor, xor-lt}
 use lib.ListN.{getD}
 use lib.Pow.{pow-mono}
 use Rattle.standard.specs.Rounds.{Direction, forward, backward, opposite}
-use Rattle.standard.specs.Grid.{Grid, at, grid, window, Square, Small}
+use Rattle.standard.specs.Grid.{Grid, at, grid}
+use Rattle.standard.specs.ForCode.{window, Square, Small}
 use Rattle.standard.specs.Photon.{inFirst, addConstants, subCells, shiftRows, PhotonParameters, photonRound, photonRounds, roundConstants}
 use Rattle.standard.proofs.Tests.{bound-below, entry, Back}
 use Rattle.standard.proofs.Xor.{xor-twice}

@@ -8,7 +8,8 @@ use lib.Dec.{T, leb, ltb, eqb, leb→le, ltb→lt, eqb→eq}
 use lib.ListN.{length, getD}
 use Rattle.standard.specs.Rounds.{Direction, forward, backward, opposite}
 use Rattle.standard.specs.Field.{double, times, mul}
-use Rattle.standard.specs.Photon.{PhotonParameters, aes, unaes}
+use Rattle.standard.specs.Photon.{PhotonParameters, aes}
+use Rattle.standard.specs.Backward.{unaes}
 use Rattle.standard.specs.Variants.{photon100, photon144, photon196, photon256, photon288}
 use Rattle.standard.proofs.Tests.{and-left, and-right, below, every, every-at, same-below, bound-below, Back, entry, tableTests, tables-back}
 use Rattle.standard.proofs.FieldLaws.{Scaled}

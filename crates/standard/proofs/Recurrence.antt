@@ -7,7 +7,8 @@ use Prim.Native.Nat.{ℕ, zero, suc, _+_, _<_, suc-le-suc}
 use native.Mathlib.Nat.{zero-add, suc-add, zero-lt-suc, not-suc-le-zero}
 use native.Mathlib.Omega.{arith}
 use Rattle.standard.specs.Rounds.{iterate}
-use Rattle.standard.specs.Grid.{Grid, tab, at, window, transpose}
+use Rattle.standard.specs.Grid.{Grid, tab, at, transpose}
+use Rattle.standard.specs.ForCode.{window}
 use Rattle.standard.specs.Field.{dot}
 use Rattle.standard.specs.Photon.{serial, columns, mixColumns}
 use Rattle.standard.proofs.Tab.{length-tab, getD-tab, tab-cong, tab-snoc, at-window, window-is}

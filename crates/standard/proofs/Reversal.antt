@@ -11,7 +11,8 @@ use lib.Arith.{digits-mod}
 use lib.Pow.{high}
 use lib.ListN.{length, length-reverse}
 use Rattle.standard.specs.Bits.{low-first, high-first, bit, digit, lowBits, lowValue, ordered, bitsOf, xorInto}
-use Rattle.standard.specs.Spongent.{tapped, reversal, mirrored, cAddition}
+use Rattle.standard.specs.Spongent.{tapped, cAddition}
+use Rattle.standard.specs.Counters.{reversal, mirrored}
 use Rattle.standard.proofs.BitLaws.{length-lowBits, length-bitsOf, digit-bit, lowValue-of, lowValue-lt, lowBits-lowValue, lowBits-add, lowValue-append, zeros-of, reverse-replicate}
 use Rattle.standard.proofs.Undo.{All}
 

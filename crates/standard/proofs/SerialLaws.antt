@@ -7,7 +7,8 @@ use native.Mathlib.Nat.{suc-inj}
 use native.Mathlib.Omega.{arith}
 use lib.ListN.{length, getD, length-append, length-reverse, length-map}
 use Rattle.standard.specs.Rounds.{Direction, forward, backward, opposite, iterate}
-use Rattle.standard.specs.Grid.{Grid, tab, at, transpose, Square, Small}
+use Rattle.standard.specs.Grid.{Grid, tab, at, transpose}
+use Rattle.standard.specs.ForCode.{Square, Small}
 use Rattle.standard.specs.Field.{mul, dot}
 use Rattle.standard.specs.Photon.{serial, columns, mixColumns, unmixColumns}
 use Rattle.standard.proofs.Xor.{xor-twice}

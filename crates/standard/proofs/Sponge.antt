@@ -3,18 +3,18 @@
 use mathlib.Core.Path.{_≡_, refl, sym, ap, _∙_}
 use mathlib.Core.Bool.{Bool, true, false, xor}
 use mathlib.Core.List.{List, [], _∷_, _++_, flatMap}
-use mathlib.Core.Logic.{_⊎_}
 use Prim.Native.Nat.{ℕ, zero, suc, _+_, _-_, _/_, _%_, _*_, _≤_, _<_}
 use native.Mathlib.Nat.{not-suc-le-zero, le-of-suc-le-suc, suc-inj, suc-ne-zero, mul-mod-left, mul-div-left, div-add-mod', mod-lt, add-mul}
 use native.Mathlib.Omega.{arith}
 use lib.ListN.{length, replicate, length-replicate}
-use Rattle.standard.specs.Bits.{high-first, reordered, xorInto}
+use Rattle.standard.specs.Bits.{Order, turned, xorInto}
 use Rattle.standard.specs.Rounds.{Direction, forward, opposite}
-use Rattle.standard.specs.Sponge.{Family, photon, spongent, lesamnta, Variant, spongeOf, isSponge, order, permutation, startState, spongePadding, spongeStep}
-use Rattle.standard.specs.Chain.{paddingOf, padding, padded, blocksOf, blockCount, stepOf, step}
+use Rattle.standard.specs.Sponge.{permutation, spongePadding, spongeStep}
+use Rattle.standard.specs.Families.{Permutation, Family, sponge, Variant, bitOrder, orderOf, order}
+use Rattle.standard.specs.Chain.{startState, paddingOf, padding, padded, blocksOf, blockCount, stepOf, step}
 use Rattle.standard.proofs.Tests.{true-not-false}
 use Rattle.standard.proofs.BitLaws.{length-xorInto, xorInto-twice, xor-back}
-use Rattle.standard.proofs.Reordered.{reordered-injective, length-reordered}
+use Rattle.standard.proofs.Turned.{length-turned, turned-injective}
 use Rattle.standard.proofs.Streaming.{Streams, blocks-join}
 
 -- ---- where a padded string ends
@@ -37,14 +37,26 @@ ends-at (c ∷ x) (d ∷ y) a b e =
 
 -- ---- sponges
 
--- A sponge: padding and block step are the sponge's, a block fits the state and can be laid out in its order, and the permutation keeps the state's size and is undone by its inverse.
+-- A sponge over a permutation: a block fits the state, and the permutation keeps the state's size and is undone by its inverse.
 pub record IsSponge (H : Variant) : Type 0 where
-  pub padding-is : (n : ℕ) → padding H n ≡ spongePadding (H .r) n
-  pub step-is : (s b : List Bool) → step H s b ≡ spongeStep H s b
+  pub inner : Permutation
+  pub rate : ℕ
+  pub family-is : H .family ≡ sponge inner rate
   pub fits : H .r ≤ H .t
-  pub layout : (high-first ≡ order H) ⊎ (H .r % 8 ≡ 0)
-  pub keeps : (w : Direction) (s : List Bool) → length s ≡ H .t → length (permutation H w s) ≡ H .t
-  pub undoes : (w : Direction) (s : List Bool) → length s ≡ H .t → permutation H (opposite w) (permutation H w s) ≡ s
+  pub keeps : (w : Direction) (s : List Bool) → length s ≡ H .t → length (permutation inner w s) ≡ H .t
+  pub undoes : (w : Direction) (s : List Bool) → length s ≡ H .t → permutation inner (opposite w) (permutation inner w s) ≡ s
+
+module _ (H : Variant) (h : IsSponge H) where
+  pub padding-sponge : (n : ℕ) → padding H n ≡ spongePadding (H .r) n
+  unfolding padding
+  padding-sponge n = ap (λ (f : Family). paddingOf f (H .r) n) (h .family-is)
+
+  pub step-sponge : (s b : List Bool) → step H s b ≡ spongeStep (h .inner) s b
+  unfolding step
+  step-sponge s b = ap (λ (f : Family). stepOf f s b) (h .family-is)
+
+  pub order-sponge : order H ≡ bitOrder (h .inner)
+  order-sponge = ap orderOf (h .family-is)
 
 -- ---- xor into a state
 
@@ -70,8 +82,8 @@ state-injective b s u e = sym (xorInto-twice s b) ∙ ap (λ (x : List Bool). xo
 -- ---- the step
 
 module _ (H : Variant) (h : IsSponge H) where
-  permutation-injective : (w : Direction) (s u : List Bool) → length s ≡ H .t → length u ≡ H .t → permutation H w s ≡ permutation H w u → s ≡ u
-  permutation-injective w s u ls lu e = sym (h .undoes w s ls) ∙ ap (permutation H (opposite w)) e ∙ h .undoes w u lu
+  permutation-injective : (w : Direction) (s u : List Bool) → length s ≡ H .t → length u ≡ H .t → permutation (h .inner) w s ≡ permutation (h .inner) w u → s ≡ u
+  permutation-injective w s u ls lu e = sym (h .undoes w s ls) ∙ ap (permutation (h .inner) (opposite w)) e ∙ h .undoes w u lu
 
   -- a state with a block in it has the state's size
   taken-length : (s b : List Bool) → length s ≡ H .t → length (xorInto s b) ≡ H .t
@@ -79,25 +91,24 @@ module _ (H : Variant) (h : IsSponge H) where
 
   pub step-length : (s b : List Bool) → length s ≡ H .t → length (step H s b) ≡ H .t
   unfolding spongeStep
-  step-length s b ls = rw (h .step-is) (h .keeps forward _ (taken-length s _ ls))
+  step-length s b ls = rw (step-sponge H h) (h .keeps forward _ (taken-length s _ ls))
 
   -- the step loses nothing of the state
   pub step-state : (b s u : List Bool) → length s ≡ H .t → length u ≡ H .t → step H s b ≡ step H u b → s ≡ u
   unfolding spongeStep
   step-state b s u ls lu e =
-      state-injective _ s u (permutation-injective forward _ _ (taken-length s _ ls) (taken-length u _ lu) (rw (h .step-is s b, h .step-is u b) at e))
+      state-injective _ s u (permutation-injective forward _ _ (taken-length s _ ls) (taken-length u _ lu) (rw (step-sponge H h s b, step-sponge H h u b) at e))
 
   -- nor of the block
   pub step-block : (s a b : List Bool) → length s ≡ H .t → length a ≡ H .r → length b ≡ H .r → step H s a ≡ step H s b → a ≡ b
   unfolding spongeStep
   step-block s a b ls la lb e =
-      let x : List Bool = reordered high-first (order H) a in
-      let y : List Bool = reordered high-first (order H) b in
-      let lx : length x ≡ H .r = length-reordered high-first (order H) a ∙ la in
-      let ly : length y ≡ H .r = length-reordered high-first (order H) b ∙ lb in
-      reordered-injective high-first (order H) (H .r) (h .layout) a b la lb
-      (block-injective s x y (lx ∙ sym ly) (omega (arith, h .fits))
-      (permutation-injective forward _ _ (taken-length s x ls) (taken-length s y ls) (rw (h .step-is s a, h .step-is s b) at e)))
+      let o : Order = bitOrder (h .inner) in
+      let lx : length (turned o a) ≡ H .r = length-turned o a ∙ la in
+      let ly : length (turned o b) ≡ H .r = length-turned o b ∙ lb in
+      turned-injective o a b
+      (block-injective s (turned o a) (turned o b) (lx ∙ sym ly) (omega (arith, h .fits))
+      (permutation-injective forward _ _ (taken-length s (turned o a) ls) (taken-length s (turned o b) ls) (rw (step-sponge H h s a, step-sponge H h s b) at e)))
 
   -- ---- padding
 
@@ -105,7 +116,7 @@ module _ (H : Variant) (h : IsSponge H) where
   unfolding spongePadding
   fills pos n =
       let r : ℕ = H .r in
-      rw (h .padding-is n) (omega (arith, length-replicate (r - 1 - n % r) false, div-add-mod' n r, mod-lt n {m = r} pos, add-mul (n / r) 1 r))
+      rw (padding-sponge H h n) (omega (arith, length-replicate (r - 1 - n % r) false, div-add-mod' n r, mod-lt n {m = r} pos, add-mul (n / r) 1 r))
 
   -- a sponge streams
   pub sponge-streams : 0 < H .r → length (startState H) ≡ H .t → Streams H
@@ -122,7 +133,7 @@ module _ (H : Variant) (h : IsSponge H) where
   pub padded-injective : (x y : List Bool) → padded H x ≡ padded H y → x ≡ y
   unfolding padded spongePadding
   padded-injective x y e =
-      ends-at x y (H .r - 1 - length x % H .r) (H .r - 1 - length y % H .r) (rw (h .padding-is (length x), h .padding-is (length y)) at e)
+      ends-at x y (H .r - 1 - length x % H .r) (H .r - 1 - length y % H .r) (rw (padding-sponge H h (length x), padding-sponge H h (length y)) at e)
 
 module _ (H : Variant) (g : Streams H) (h : IsSponge H) where
   -- and two with one row of blocks
@@ -134,24 +145,3 @@ module _ (H : Variant) (g : Streams H) (h : IsSponge H) where
   pub sponge-count : (n : ℕ) → blockCount H n ≡ n / H .r + 1
   unfolding blockCount
   sponge-count n = rw (fills H h (g .rate-pos) n) (mul-div-left (n / H .r + 1) (g .rate-pos))
-
--- ---- the families
-
--- padding and step of every sponge are the sponge's
-pub padding-sponge : (H : Variant) → isSponge H ≡ true → (n : ℕ) → padding H n ≡ spongePadding (H .r) n
-unfolding padding
-padding-sponge H e n = go (H .family) e
-  where
-    go : (f : Family) → spongeOf f ≡ true → paddingOf f (H .r) n ≡ spongePadding (H .r) n
-    go (photon p) q = refl
-    go (spongent p) q = refl
-    go lesamnta q = absurd (true-not-false (sym q))
-
-pub step-sponge : (H : Variant) → isSponge H ≡ true → (s b : List Bool) → step H s b ≡ spongeStep H s b
-unfolding step
-step-sponge H e s b = go (H .family) e
-  where
-    go : (f : Family) → spongeOf f ≡ true → stepOf f H s b ≡ spongeStep H s b
-    go (photon p) q = refl
-    go (spongent p) q = refl
-    go lesamnta q = absurd (true-not-false (sym q))

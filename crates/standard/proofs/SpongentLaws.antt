@@ -2,18 +2,19 @@
 -- Assumes nothing.
 use mathlib.Core.Path.{_≡_, refl, sym, ap, _∙_}
 use mathlib.Core.Bool.{Bool, true, false, xor}
-use mathlib.Core.List.{List, [], _∷_, _++_}
+use mathlib.Core.List.{List, [], _∷_, _++_, flatMap}
 use mathlib.Core.Logic.{⊎-elim, _⊎_}
 use Prim.Native.Nat.{ℕ, zero, suc, _+_, _-_, _*_, _/_, _%_, _≤_, _<_}
 use native.Mathlib.Nat.{le-of-suc-le-suc, not-suc-le-zero, mul-assoc, mul-comm, div-add-mod', add-mul, mul-add-mod-self-right, mod-eq-of-lt, mod-lt, eq-or-lt-of-le, mul-suc, mul-right-comm, div-lt-iff-lt-mul}
 use native.Mathlib.Omega.{arith}
-use lib.ListN.{length, getD, length-set, length-replicate}
+use lib.ListN.{length, getD, length-set, length-append, length-replicate}
 use lib.Seq.{getD-set-same, getD-set-other, ext-getD}
 use borrow.Author.Tests.{eq-eqb, ne-eqb}
-use Rattle.standard.specs.Bits.{low-first, high-first, lowBits, lowValue, bitsOf, xorInto}
+use Rattle.standard.specs.Bits.{low-first, high-first, lowBits, lowValue, bitsOf, cut, xorInto}
 use Rattle.standard.specs.Rounds.{Direction, forward, backward, opposite}
-use Rattle.standard.specs.Spongent.{cAddition, nibbles, unnibbles, sBoxLayer, goesTo, placed, pLayer, spongentRound, SpongentParameters, lCounters, spongentPermutation}
-use Rattle.standard.proofs.BitLaws.{length-xorInto, xorInto-twice, lowValue-lowBits, lowBits-lowValue, lowValue-lt, xor-false}
+use Rattle.standard.specs.Spongent.{cAddition, nibbles, sBoxLayer, goesTo, placed, pLayer, spongentRound, SpongentParameters, lCounters, spongentPermutation}
+use Rattle.standard.specs.Backward.{unnibbles}
+use Rattle.standard.proofs.BitLaws.{length-lowBits, length-xorInto, xorInto-twice, lowValue-lowBits, lowBits-lowValue, lowValue-lt, xor-false}
 use Rattle.standard.proofs.Tests.{zero-to-three, Back, entry, tables-back}
 use Rattle.standard.proofs.Undo.{All, all-of, rounds-keep, rounds-undo}
 
@@ -126,13 +127,27 @@ module _ (t q : ℕ) (et : t ≡ 4 * q) where
 
 -- ---- sBoxLayer
 
-pub length-sBoxLayer : (box : List ℕ) (s : List Bool) → length (sBoxLayer box s) ≡ length s
-unfolding sBoxLayer lowBits
-length-sBoxLayer box [] = refl
-length-sBoxLayer box (a ∷ []) = refl
-length-sBoxLayer box (a ∷ b ∷ []) = refl
-length-sBoxLayer box (a ∷ b ∷ c ∷ []) = refl
-length-sBoxLayer box (a ∷ b ∷ c ∷ d ∷ s) = ap (λ (n : ℕ). suc (suc (suc (suc n)))) (length-sBoxLayer box s)
+-- nibble by nibble
+pub sBoxLayer-none : (box : List ℕ) → sBoxLayer box [] ≡ []
+unfolding sBoxLayer cut flatMap
+sBoxLayer-none box = refl
+
+pub sBoxLayer-more : (box : List ℕ) (a b c d : Bool) (s : List Bool)
+    → sBoxLayer box (a ∷ b ∷ c ∷ d ∷ s) ≡ lowBits 4 (getD box (lowValue (a ∷ b ∷ c ∷ d ∷ [])) 0) ++ sBoxLayer box s
+unfolding sBoxLayer cut flatMap
+sBoxLayer-more box a b c d s =
+    let one : length (a ∷ b ∷ c ∷ d ∷ s) / 4 ≡ suc (length s / 4) = omega arith in
+    ap (λ (n : ℕ). flatMap (λ z. lowBits 4 (getD box (lowValue z) 0)) (cut 4 n (a ∷ b ∷ c ∷ d ∷ s))) one
+
+pub length-sBoxLayer : (box : List ℕ) (s : List Bool) → length s % 4 ≡ 0 → length (sBoxLayer box s) ≡ length s
+length-sBoxLayer box [] h = ap length (sBoxLayer-none box)
+length-sBoxLayer box (a ∷ []) h = absurd (omega arith)
+length-sBoxLayer box (a ∷ b ∷ []) h = absurd (omega arith)
+length-sBoxLayer box (a ∷ b ∷ c ∷ []) h = absurd (omega arith)
+length-sBoxLayer box (a ∷ b ∷ c ∷ d ∷ s) h =
+    let x : List Bool = lowBits 4 (getD box (lowValue (a ∷ b ∷ c ∷ d ∷ [])) 0) in
+    let four : length x ≡ 4 = length-lowBits 4 (getD box (lowValue (a ∷ b ∷ c ∷ d ∷ [])) 0) in
+    ap length (sBoxLayer-more box a b c d s) ∙ length-append x (sBoxLayer box s) ∙ omega (arith, four, length-sBoxLayer box s (omega arith))
 
 -- the second table takes back the nibbles of the first
 module _ (box unbox : List ℕ) (h : Back 16 (entry box) (entry unbox)) where
@@ -142,17 +157,18 @@ module _ (box unbox : List ℕ) (h : Back 16 (entry box) (entry unbox)) where
       rw (lowValue-lowBits 4 (entry box (lowValue bs)) (h .within (lowValue bs) lt), h .back (lowValue bs) lt) (rw e at (lowBits-lowValue bs))
 
   first-nibble : (y : ℕ) (s : List Bool) → sBoxLayer unbox (lowBits 4 y ++ s) ≡ lowBits 4 (entry unbox (lowValue (lowBits 4 y))) ++ sBoxLayer unbox s
-  unfolding sBoxLayer lowBits
-  first-nibble y s = refl
+  unfolding lowBits
+  first-nibble y s = sBoxLayer-more unbox _ _ _ _ s
 
-  pub sBoxLayer-undo : (s : List Bool) → sBoxLayer unbox (sBoxLayer box s) ≡ s
-  unfolding sBoxLayer
-  sBoxLayer-undo [] = refl
-  sBoxLayer-undo (a ∷ []) = refl
-  sBoxLayer-undo (a ∷ b ∷ []) = refl
-  sBoxLayer-undo (a ∷ b ∷ c ∷ []) = refl
-  sBoxLayer-undo (a ∷ b ∷ c ∷ d ∷ s) =
-      first-nibble (entry box (lowValue (a ∷ b ∷ c ∷ d ∷ []))) (sBoxLayer box s) ∙ rw (nibble-undo (a ∷ b ∷ c ∷ d ∷ []) refl, sBoxLayer-undo s)
+  pub sBoxLayer-undo : (s : List Bool) → length s % 4 ≡ 0 → sBoxLayer unbox (sBoxLayer box s) ≡ s
+  sBoxLayer-undo [] e = ap (sBoxLayer unbox) (sBoxLayer-none box) ∙ sBoxLayer-none unbox
+  sBoxLayer-undo (a ∷ []) e = absurd (omega arith)
+  sBoxLayer-undo (a ∷ b ∷ []) e = absurd (omega arith)
+  sBoxLayer-undo (a ∷ b ∷ c ∷ []) e = absurd (omega arith)
+  sBoxLayer-undo (a ∷ b ∷ c ∷ d ∷ s) e =
+      ap (sBoxLayer unbox) (sBoxLayer-more box a b c d s)
+      ∙ first-nibble (entry box (lowValue (a ∷ b ∷ c ∷ d ∷ []))) (sBoxLayer box s)
+      ∙ rw (nibble-undo (a ∷ b ∷ c ∷ d ∷ []) refl, sBoxLayer-undo s (omega arith))
 
 pub nibbles-back : Back 16 (entry nibbles) (entry unnibbles)
 nibbles-back = tables-back 16 nibbles unnibbles tt
@@ -189,27 +205,36 @@ cAddition-twice t c s =
 
 -- ---- rounds
 
-pub length-spongentRound : (t : ℕ) (w : Direction) (s : List Bool) (c : ℕ) → length (spongentRound t w s c) ≡ t
-unfolding spongentRound
-length-spongentRound t forward s c = length-pLayer t (t / 4) _
-length-spongentRound t backward s c = simp (length-cAddition, length-sBoxLayer, length-pLayer)
+module _ (t : ℕ) (h : t % 4 ≡ 0) where
+  quarter : t / 4 * 4 ≡ t
+  quarter = omega arith
 
-quarter : (t : ℕ) → t % 4 ≡ 0 → t / 4 * 4 ≡ t
-quarter t h = omega arith
+  -- t bits are whole nibbles
+  nibbles-whole : (s : List Bool) → length s ≡ t → length s % 4 ≡ 0
+  nibbles-whole s e = ap (λ (n : ℕ). n % 4) e ∙ h
 
-pub spongentRound-undo : (t : ℕ) → t % 4 ≡ 0 → (w : Direction) (s : List Bool) (c : ℕ) → length s ≡ t
-    → spongentRound t (opposite w) (spongentRound t w s c) c ≡ s
-unfolding spongentRound
-spongentRound-undo t h forward s c e =
-    rw (pLayer-undo t (t / 4) 4 (quarter t h) (sBoxLayer nibbles (cAddition t c s)) (simp (length-sBoxLayer, length-cAddition) e), sBoxLayer-undo nibbles unnibbles nibbles-back, cAddition-twice)
-spongentRound-undo t h backward s c e =
-    rw (cAddition-twice, sBoxLayer-undo unnibbles nibbles unnibbles-back) (pLayer-undo t 4 (t / 4) (mul-comm 4 (t / 4) ∙ quarter t h) s e)
+  length-replaced : (box : List ℕ) (s : List Bool) → length s ≡ t → length (sBoxLayer box s) ≡ t
+  length-replaced box s e = length-sBoxLayer box s (nibbles-whole s e) ∙ e
+
+  pub length-spongentRound : (w : Direction) (s : List Bool) (c : ℕ) → length (spongentRound t w s c) ≡ t
+  unfolding spongentRound
+  length-spongentRound forward s c = length-pLayer t (t / 4) _
+  length-spongentRound backward s c = length-cAddition t c _ ∙ length-replaced unnibbles (pLayer t 4 s) (length-pLayer t 4 s)
+
+  pub spongentRound-undo : (w : Direction) (s : List Bool) (c : ℕ) → length s ≡ t → spongentRound t (opposite w) (spongentRound t w s c) c ≡ s
+  unfolding spongentRound
+  spongentRound-undo forward s c e =
+      let l : length (cAddition t c s) ≡ t = length-cAddition t c s ∙ e in
+      rw (pLayer-undo t (t / 4) 4 quarter (sBoxLayer nibbles (cAddition t c s)) (length-replaced nibbles (cAddition t c s) l), sBoxLayer-undo nibbles unnibbles nibbles-back (cAddition t c s) (nibbles-whole (cAddition t c s) l), cAddition-twice)
+  spongentRound-undo backward s c e =
+      rw (cAddition-twice, sBoxLayer-undo unnibbles nibbles unnibbles-back (pLayer t 4 s) (nibbles-whole (pLayer t 4 s) (length-pLayer t 4 s)))
+      (pLayer-undo t 4 (t / 4) (mul-comm 4 (t / 4) ∙ quarter) s e)
 
 -- ---- the permutation
 
 module _ (p : SpongentParameters) (h : p .t % 4 ≡ 0) where
   keeps : (w : Direction) (s : List Bool) (c : ℕ) → length s ≡ p .t → Unit {0} → length (spongentRound (p .t) w s c) ≡ p .t
-  keeps w s c e u = length-spongentRound (p .t) w s c
+  keeps w s c e u = length-spongentRound (p .t) h w s c
 
   undo : (w : Direction) (s : List Bool) (c : ℕ) → length s ≡ p .t → Unit {0} → spongentRound (p .t) (opposite w) (spongentRound (p .t) w s c) c ≡ s
   undo w s c e u = spongentRound-undo (p .t) h w s c e

@@ -9,8 +9,8 @@ use native.Mathlib.Omega.{arith}
 use lib.ListN.{length, drop, length-append, length-drop}
 use lib.Seq.{drop-append-le, drop-drop, take-all, length-take-le}
 use Rattle.standard.specs.Bits.{cut}
-use Rattle.standard.specs.Sponge.{Variant, startState}
-use Rattle.standard.specs.Chain.{padding, padded, wholeBlocks, restOf, blocksOf, blockCount, Blocks, step, run, endState}
+use Rattle.standard.specs.Families.{Variant}
+use Rattle.standard.specs.Chain.{startState, padding, padded, wholeBlocks, restOf, blocksOf, blockCount, Blocks, step, run, endState}
 use Rattle.standard.proofs.CutLaws.{length-cut, cut-add, cut-append, cut-join}
 
 -- What streaming asks of a variant: a block has bits, start and step keep the state's size, and padding fills the last block.

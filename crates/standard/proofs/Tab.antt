@@ -8,7 +8,8 @@ use native.Mathlib.Nat.{not-suc-le-zero, le-of-suc-le-suc, zero-lt-suc, eq-or-lt
 use native.Mathlib.Omega.{arith}
 use lib.ListN.{length, getD, length-reverse, List·getD-append}
 use lib.Seq.{getD-at}
-use Rattle.standard.specs.Grid.{Grid, tab, at, grid, cells, window, Square, Small}
+use Rattle.standard.specs.Grid.{Grid, tab, at, grid}
+use Rattle.standard.specs.ForCode.{cells, window, Square, Small}
 
 -- ---- lists made by index
 

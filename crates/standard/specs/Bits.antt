@@ -1,7 +1,7 @@
 -- Bit strings, and the numbers and bytes that they are packed in (clause 4; bytes by the note of 5.2.3 and by 5.3.2). A bit string is a list of Bool, its first bit first.
 -- Assumes nothing.
 use mathlib.Core.Bool.{Bool, true, false, xor}
-use mathlib.Core.List.{List, [], _∷_, _++_, reverse}
+use mathlib.Core.List.{List, [], _∷_, _++_, reverse, flatMap}
 use Prim.Native.Nat.{ℕ, zero, suc, _+_, _*_, _/_, _%_}
 use lib.ListN.{length, take, drop}
 
@@ -63,14 +63,16 @@ pack o (suc n) bs = valueOf o (filled 8 bs) ∷ pack o n (drop 8 bs)
 abbrev pub bytesFor : ℕ → ℕ
 bytesFor n = (n + 7) / 8
 
--- bits that stand in bytes in the order a, read from the same bytes in the order b. For whole bytes, or a = b; a last part of a byte would lose bits.
-unfoldable pub reordered : Order → Order → List Bool → List Bool
-reordered a b bs = unpack b (length bs) (pack a (bytesFor (length bs)) bs)
-
 -- the first n pieces of w bits each
 unfoldable pub cut : ℕ → ℕ → List Bool → List (List Bool)
 cut w zero bs = []
 cut w (suc n) bs = take w bs ∷ cut w n (drop w bs)
+
+-- how the bits of whole bytes, each byte's most significant bit first, stand in a state of either order, and back: as they are, or each byte's bits turned round
+-- (5.2.3, note; 5.3.2)
+unfoldable pub turned : Order → List Bool → List Bool
+turned high-first bs = bs
+turned low-first bs = flatMap reverse (cut 8 (bytesFor (length bs)) bs)
 
 -- the bits b xored into the first bits of s; the others stay
 unfoldable pub xorInto : List Bool → List Bool → List Bool

@@ -1,4 +1,5 @@
--- From a message to its end state and digest, for every family: padding, blocks, a step for each block. What differs between families is by cases on `Family`.
+-- From a message to its end state and digest, for every family: start, padding, blocks, a step for each block, and what is given out.
+-- What differs between families is by cases on `Family`, a line for the sponges and a line for Lesamnta-LW.
 -- A message is a bit string. A message of whole bytes is the case `byteBits`, one that may end inside a byte the case `messageBits`.
 -- Assumes nothing.
 use mathlib.Core.Path.{_≡_}
@@ -6,9 +7,10 @@ use mathlib.Core.Bool.{Bool}
 use mathlib.Core.List.{List, [], _∷_, _++_, foldl}
 use Prim.Native.Nat.{ℕ, _+_, _-_, _*_, _/_, _%_, _^_, _<_}
 use lib.ListN.{length, getD, drop}
-use Rattle.standard.specs.Bits.{high-first, bitsOf, bitsIn, cut}
-use Rattle.standard.specs.Sponge.{Family, photon, spongent, lesamnta, Variant, startState, spongePadding, spongeStep, digestFrom}
-use Rattle.standard.specs.Lesamnta.{lesamntaPadding, lesamntaStep}
+use Rattle.standard.specs.Bits.{high-first, bitsOf, bitsIn, pack, cut}
+use Rattle.standard.specs.Lesamnta.{lesamntaStart, lesamntaPadding, lesamntaStep}
+use Rattle.standard.specs.Families.{photon, spongent, Family, sponge, lesamnta, Variant}
+use Rattle.standard.specs.Sponge.{spongeStart, spongePadding, spongeStep, squeezed}
 
 -- the bits of whole bytes, each byte from its most significant bit on (5.2.3, note; for SPONGENT by Annex B.2; 6.2.1)
 abbrev pub byteBits : List ℕ → List Bool
@@ -16,8 +18,8 @@ byteBits bytes = bitsIn high-first bytes
 
 -- document 02, Q-6 and Q-7: the number that the k counting bits of a byte make, SPONGENT's k low ones and the k high ones of PHOTON and Lesamnta-LW
 abbrev pub countedOf : Family → ℕ → ℕ → ℕ
-countedOf (photon p) k b = b / 2 ^ (8 - k)
-countedOf (spongent p) k b = b % 2 ^ k
+countedOf (sponge (photon p) r′) k b = b / 2 ^ (8 - k)
+countedOf (sponge (spongent p) r′) k b = b % 2 ^ k
 countedOf lesamnta k b = b / 2 ^ (8 - k)
 
 -- The bits of a message of bytes of whose last one k bits count: they join the bit string from the highest of them on, so that eight are the whole byte, and the
@@ -32,8 +34,7 @@ messageBits H (b ∷ c ∷ bs) k = bitsOf high-first 8 b ++ messageBits H (c ∷
 
 -- by family, from the rate and the message's length in bits
 abbrev pub paddingOf : Family → ℕ → ℕ → List Bool
-paddingOf (photon p) r n = spongePadding r n
-paddingOf (spongent p) r n = spongePadding r n
+paddingOf (sponge P r′) r n = spongePadding r n
 paddingOf lesamnta r n = lesamntaPadding n
 
 -- 5.2.3, 5.3.3, 6.2.2: what is added to a message of n bits
@@ -74,17 +75,25 @@ pub record DifferAt (i : ℕ) (xs ys : List (List Bool)) : Type 0 where
   pub differs : getD xs i [] ≡ getD ys i [] → ⊥
   pub elsewhere : (j : ℕ) → (j ≡ i → ⊥) → getD xs j [] ≡ getD ys j []
 
--- ---- steps
+-- ---- start and steps
+
+-- by family: IV, or H(0)
+abbrev pub startOf : Family → Variant → List Bool
+startOf (sponge P r′) H = spongeStart P r′ H
+startOf lesamnta H = lesamntaStart
+
+-- 5.2.3, 5.3.3, 6.2.4: the state before the first block
+unfoldable pub startState : Variant → List Bool
+startState H = startOf (H .family) H
 
 -- by family
-abbrev pub stepOf : Family → Variant → List Bool → List Bool → List Bool
-stepOf (photon p) H s b = spongeStep H s b
-stepOf (spongent p) H s b = spongeStep H s b
-stepOf lesamnta H s b = lesamntaStep s b
+abbrev pub stepOf : Family → List Bool → List Bool → List Bool
+stepOf (sponge P r′) s b = spongeStep P s b
+stepOf lesamnta s b = lesamntaStep s b
 
 -- 5.2.3, 5.3.3, 6.2.4: the block step, from a state and a block to the next state
 unfoldable pub step : Variant → List Bool → List Bool → List Bool
-step H s b = stepOf (H .family) H s b
+step H s b = stepOf (H .family) s b
 
 -- 5.2.3, 5.3.3, 6.2.4: the state after a row of blocks
 unfoldable pub run : Variant → List Bool → List (List Bool) → List Bool
@@ -93,6 +102,17 @@ run H s bs = foldl (step H) s bs
 -- 5.2.3, 5.3.3, 6.2.4: the state after the last block of a message
 unfoldable pub endState : Variant → List Bool → List Bool
 endState H m = run H (startState H) (blocksOf H m)
+
+-- ---- the digest
+
+-- by family, the digest's bits. 6.2.4: the last chaining value is the output of Lesamnta-LW.
+abbrev pub givenOut : Family → Variant → List Bool → List Bool
+givenOut (sponge P r′) H s = squeezed P r′ (H .n) s
+givenOut lesamnta H s = s
+
+-- those bits in bytes
+abbrev pub digestFrom : Variant → List Bool → List ℕ
+digestFrom H s = pack high-first (H .n / 8) (givenOut (H .family) H s)
 
 -- 5.2.3, 5.3.3, 6.2.4: hash(M), in bytes
 unfoldable pub digestOf : Variant → List Bool → List ℕ

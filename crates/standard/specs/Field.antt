@@ -1,7 +1,6 @@
 -- The field GF(2^s) modulo a polynomial (5.2.4.5): a cell is a number below top = 2^s, its bits the coefficients. Sums are XOR.
 -- Assumes nothing.
-use Prim.Native.Nat.{ℕ, zero, suc, _*_, _/_, _%_, _^_, _≤_, _<_}
-use mathlib.Core.Path.{_≡_}
+use Prim.Native.Nat.{ℕ, zero, suc, _*_, _/_, _%_}
 use mathlib.Core.Bool.{cond}
 use mathlib.Core.List.{List, [], _∷_}
 use lib.Dec.{ltb, eqb}
@@ -25,11 +24,3 @@ unfoldable pub dot : ℕ → ℕ → List ℕ → List ℕ → ℕ
 dot top poly [] xs = 0
 dot top poly (z ∷ zs) [] = 0
 dot top poly (z ∷ zs) (x ∷ xs) = bitXor (mul top poly z x) (dot top poly zs xs)
-
--- top is a power of two of at most eight bits, and poly has one bit more
-pub record Modulus (top poly : ℕ) : Type 0 where
-  pub s : ℕ
-  pub is : top ≡ 2 ^ s
-  pub most : top ≤ 256
-  pub low : top ≤ poly
-  pub high : poly < top * 2

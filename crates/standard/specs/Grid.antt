@@ -1,9 +1,8 @@
 -- The state matrix of PHOTON (5.2.4.1): a list of rows, a row a list of cells. S[i,j] is `at g i j`.
 -- Assumes nothing.
-use Prim.Native.Nat.{ℕ, zero, suc, _<_}
-use mathlib.Core.Path.{_≡_}
+use Prim.Native.Nat.{ℕ, zero, suc}
 use mathlib.Core.List.{List, [], _∷_}
-use lib.ListN.{getD, length}
+use lib.ListN.{getD}
 
 abbrev pub Grid : Type 0
 Grid = List (List ℕ)
@@ -21,23 +20,6 @@ at g i j = getD (getD g i []) j 0
 abbrev pub grid : ℕ → (ℕ → ℕ → ℕ) → Grid
 grid d f = tab d (λ i. tab d (f i))
 
--- for the code, whose matrix has eight rows and columns: the first d cells of a row
-abbrev pub cells : ℕ → List ℕ → List ℕ
-cells d row = tab d (λ j. getD row j 0)
-
--- for the code: the first d rows and columns of g
-unfoldable pub window : ℕ → Grid → Grid
-window d g = tab d (λ i. cells d (getD g i []))
-
 -- rows become columns
 unfoldable pub transpose : ℕ → Grid → Grid
 transpose d g = grid d (λ i j. at g j i)
-
--- d rows of d cells
-pub record Square (d : ℕ) (g : Grid) : Type 0 where
-  pub rows : length g ≡ d
-  pub cols : (i : ℕ) → i < d → length (getD g i []) ≡ d
-
--- each cell of the first d rows and columns is below top
-pub record Small (d top : ℕ) (g : Grid) : Type 0 where
-  pub cell : (i j : ℕ) → i < d → j < d → at g i j < top

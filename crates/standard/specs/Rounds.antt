@@ -1,21 +1,16 @@
--- A permutation made of rounds, and the rounds taken back: one statement for both directions and both families.
+-- A permutation or a cipher made of rounds, and the rounds taken back: one statement for both directions and all families.
 -- Assumes nothing.
-use mathlib.Core.Bool.{Bool, true, false}
 use mathlib.Core.List.{List, foldl, reverse}
 use Prim.Native.Nat.{ℕ, zero, suc}
 
--- the permutation itself, or its inverse
+-- The permutation itself, or its inverse. What is said of `backward`, here and in every clause, need not be believed: `permutation-undo` and `cipher-undo`
+-- say that it takes the forward steps back.
 pub data Direction : Type 0 where
   forward backward : Direction
 
 abbrev pub opposite : Direction → Direction
 opposite forward = backward
 opposite backward = forward
-
--- for the code: the direction that a flag asks for
-abbrev pub direction : Bool → Direction
-direction false = forward
-direction true = backward
 
 -- the constants in the order in which the rounds use them: the inverse begins with the last
 abbrev pub inTurn : Direction → List ℕ → List ℕ

@@ -6,7 +6,7 @@ use mathlib.Core.List.{List, [], _∷_, _++_}
 use Prim.Native.Nat.{ℕ, zero, suc, _+_, _*_, _/_, _%_}
 use lib.Dec.{leb, eqb}
 use lib.ListN.{length, take, drop}
-use Rattle.standard.specs.Sponge.{Variant}
+use Rattle.standard.specs.Families.{Variant}
 
 -- two strings, of bits or of bytes, that are of equal length and differ, and only in the n places from p on
 pub record DifferWithin {A : Type 0} (p n : ℕ) (x y : List A) : Type 0 where

@@ -6,9 +6,10 @@ use mathlib.Core.List.{List, [], _∷_}
 use Prim.Native.Nat.{ℕ}
 use lib.Dec.{ltb}
 use lib.ListN.{length, getD}
-use Rattle.standard.specs.Photon.{PhotonParameters, present, unpresent, aes, unaes}
+use Rattle.standard.specs.Backward.{unpresent, unaes}
+use Rattle.standard.specs.Photon.{PhotonParameters, present, aes}
 use Rattle.standard.specs.Spongent.{SpongentParameters}
-use Rattle.standard.specs.Sponge.{photon, spongent, lesamnta, Variant}
+use Rattle.standard.specs.Families.{photon, spongent, sponge, lesamnta, Variant}
 
 -- Table 1; `unz` is no part of it (docs/DECISIONS.md, D-5)
 
@@ -44,25 +45,25 @@ spongent240 = record { t = 240; R = 120; width = 7; first = 0x01; taps = 6 ∷ 5
 abbrev pub spongent272 : SpongentParameters
 spongent272 = record { t = 272; R = 140; width = 8; first = 0x9e; taps = 7 ∷ 3 ∷ 2 ∷ 1 ∷ [] }
 
--- what stands where there is no variant
+-- what stands where there is no variant, and is no sponge
 abbrev pub none : Variant
-none = record { t = 0; r = 0; r′ = 0; n = 0; family = spongent (record { t = 0; R = 0; width = 0; first = 0; taps = [] }) }
+none = record { t = 0; r = 0; n = 0; family = lesamnta }
 
 -- the variants by number, from 1 on
 abbrev pub variants : List Variant
 variants =
     none
-    ∷ record { t = 100; r = 20; r′ = 16; n = 80; family = photon photon100 }
-    ∷ record { t = 144; r = 16; r′ = 16; n = 128; family = photon photon144 }
-    ∷ record { t = 196; r = 36; r′ = 36; n = 160; family = photon photon196 }
-    ∷ record { t = 256; r = 32; r′ = 32; n = 224; family = photon photon256 }
-    ∷ record { t = 288; r = 32; r′ = 32; n = 256; family = photon photon288 }
-    ∷ record { t = 88; r = 8; r′ = 8; n = 88; family = spongent spongent88 }
-    ∷ record { t = 136; r = 8; r′ = 8; n = 128; family = spongent spongent136 }
-    ∷ record { t = 176; r = 16; r′ = 16; n = 160; family = spongent spongent176 }
-    ∷ record { t = 240; r = 16; r′ = 16; n = 224; family = spongent spongent240 }
-    ∷ record { t = 272; r = 16; r′ = 16; n = 256; family = spongent spongent272 }
-    ∷ record { t = 256; r = 128; r′ = 256; n = 256; family = lesamnta }
+    ∷ record { t = 100; r = 20; n = 80; family = sponge (photon photon100) 16 }
+    ∷ record { t = 144; r = 16; n = 128; family = sponge (photon photon144) 16 }
+    ∷ record { t = 196; r = 36; n = 160; family = sponge (photon photon196) 36 }
+    ∷ record { t = 256; r = 32; n = 224; family = sponge (photon photon256) 32 }
+    ∷ record { t = 288; r = 32; n = 256; family = sponge (photon photon288) 32 }
+    ∷ record { t = 88; r = 8; n = 88; family = sponge (spongent spongent88) 8 }
+    ∷ record { t = 136; r = 8; n = 128; family = sponge (spongent spongent136) 8 }
+    ∷ record { t = 176; r = 16; n = 160; family = sponge (spongent spongent176) 16 }
+    ∷ record { t = 240; r = 16; n = 224; family = sponge (spongent spongent240) 16 }
+    ∷ record { t = 272; r = 16; n = 256; family = sponge (spongent spongent272) 16 }
+    ∷ record { t = 256; r = 128; n = 256; family = lesamnta }
     ∷ []
 
 -- the variant of a number, and `none` where there is none

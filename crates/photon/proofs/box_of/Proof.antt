@@ -1,7 +1,8 @@
 -- `photon::box_of` meets its contract: variant 5 has the 8-bit box, and the others the 4-bit box. Assumes nothing.
 use native.Mathlib.Omega.{arith}
 use borrow.Author.Needs.{needs}
-use Rattle.standard.specs.Photon.{aes, unaes}
+use Rattle.standard.specs.Photon.{aes}
+use Rattle.standard.specs.Backward.{unaes}
 use Rattle.standard.specs.Variants.{variant}
 use Rattle.photon.specs.Parameters.{photonOf}
 use Rattle.photon.proofs.ParametersOf.{present-of}

@@ -2,8 +2,7 @@
 use mathlib.Core.Path.{_≡_, refl, _∙_}
 use Prim.Native.Nat.{_-_, _^_, _≤_, _<_}
 use native.Mathlib.Omega.{arith}
-use Rattle.standard.specs.Rounds.{direction}
-use Rattle.standard.specs.Grid.{window, Small}
+use Rattle.standard.specs.ForCode.{direction, window, Small}
 use Rattle.photon.specs.Parameters.{photonOf}
 use Rattle.photon.proofs.ParametersOf.{sound}
 use Rattle.photon.proofs.RoundsOf.{round-small, constant-lt, first, first-more, first-all}

@@ -3,7 +3,7 @@
 use mathlib.Core.Path.{_≡_, sym, ap, _∙_}
 use Prim.Native.Nat.{ℕ}
 use native.Mathlib.Omega.{arith}
-use Rattle.standard.specs.Spongent.{nextReversed}
+use Rattle.standard.specs.Counters.{nextReversed}
 use Rattle.spongent.specs.Parameters.{tapsOf}
 use Rattle.spongent.proofs.Counter.{next-reversed-6, next-reversed-7, next-reversed-8}
 use borrow.Author.Needs.{needs}

@@ -7,7 +7,8 @@ use Prim.Native.Nat.{ℕ, _-_, _≤_, _<_}
 use native.Mathlib.Omega.{arith}
 use lib.ListN.{take, replicate, take-append-drop}
 use Rattle.standard.specs.Bits.{low-first, bitsIn, unpack}
-use Rattle.standard.specs.Rounds.{Direction, direction}
+use Rattle.standard.specs.Rounds.{Direction}
+use Rattle.standard.specs.ForCode.{direction}
 use Rattle.standard.specs.Spongent.{spongentRound}
 use Rattle.standard.proofs.BitLaws.{image-rest}
 use Rattle.standard.proofs.SpongentLaws.{length-spongentRound}
@@ -15,7 +16,7 @@ use Rattle.standard.proofs.Reversal.{reversal-low}
 use Rattle.arrays.proofs.Elements.{bytes-lt}
 use Rattle.spongent.specs.Parameters.{spongentOf}
 use Rattle.spongent.proofs.Layers.{first-bits, other-bits}
-use Rattle.spongent.proofs.ParametersOf.{sizes-of, sound-of, tabled}
+use Rattle.spongent.proofs.ParametersOf.{quarters, sizes-of, sound-of, tabled}
 use Rattle.spongent.proofs.Carried.{Carried, carried-first, carried-next, Left, left-first, left-next, left-none, Held}
 use Rattle.spongent.proofs.Image.{permuted-image}
 use borrow.Author.Needs.{needs}
@@ -105,10 +106,10 @@ loop-again c =
       record {
         size = omega arith;
         bytes = bytes-lt 36 out _ (round .ok);
-        zeros = other-bits t (bitsIn low-first out) y (replicate (288 - t) false) (length-spongentRound t w x counter) after;
+        zeros = other-bits t (bitsIn low-first out) y (replicate (288 - t) false) (length-spongentRound t (quarters z) w x counter) after;
       },
       left-next (spongentOf v) z sound w (unpack low-first t (s .args .s)) x (take t (bitsIn low-first out)) k counter more (u .counter more)
-          (first-bits t (bitsIn low-first out) y (replicate (288 - t) false) (length-spongentRound t w x counter) after) (l .loop .inv .2),
+          (first-bits t (bitsIn low-first out) y (replicate (288 - t) false) (length-spongentRound t (quarters z) w x counter) after) (l .loop .inv .2),
       carried-next (spongentOf v) z sound w k (l .loop .counter) (l .loop .reversed) _ _ stepped reversed u,
     )
 

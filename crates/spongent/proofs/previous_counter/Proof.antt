@@ -3,7 +3,7 @@
 use mathlib.Core.Path.{_≡_, sym, ap, _∙_}
 use Prim.Native.Nat.{ℕ, _^_, _<_}
 use native.Mathlib.Omega.{arith}
-use Rattle.standard.specs.Spongent.{previousCounter}
+use Rattle.standard.specs.Counters.{previousCounter}
 use Rattle.spongent.specs.Parameters.{tapsOf}
 use Rattle.spongent.proofs.Counter.{previous-6, previous-7, previous-8}
 use borrow.Author.Needs.{needs}

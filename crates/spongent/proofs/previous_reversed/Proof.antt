@@ -3,7 +3,7 @@
 use mathlib.Core.Path.{_≡_, sym, ap, _∙_}
 use Prim.Native.Nat.{ℕ, _-_, _%_, _^_}
 use native.Mathlib.Omega.{arith}
-use Rattle.standard.specs.Spongent.{previousReversed}
+use Rattle.standard.specs.Counters.{previousReversed}
 use Rattle.spongent.specs.Parameters.{tapsOf}
 use Rattle.spongent.proofs.Counter.{previous-reversed-6, previous-reversed-7, previous-reversed-8}
 use borrow.Author.Needs.{needs}

@@ -9,8 +9,9 @@ use lib.ListN.{length, take, replicate, take-append-drop}
 use lib.Seq.{length-take-le}
 use borrow.Author.Needs.{needs}
 use Rattle.standard.specs.Bits.{low-first, bitsIn}
-use Rattle.standard.specs.Rounds.{direction}
-use Rattle.standard.specs.Spongent.{nibbles, unnibbles, cAddition, sBoxLayer, pLayer, spongentRound}
+use Rattle.standard.specs.ForCode.{direction}
+use Rattle.standard.specs.Spongent.{nibbles, cAddition, sBoxLayer, pLayer, spongentRound}
+use Rattle.standard.specs.Backward.{unnibbles}
 use Rattle.standard.proofs.BitLaws.{length-bitsIn}
 use Rattle.standard.proofs.Tests.{bound-below}
 use Rattle.standard.proofs.SpongentLaws.{length-pLayer, length-sBoxLayer, length-cAddition}
@@ -29,7 +30,7 @@ returns c =
     let p : List Bool = pLayer t 4 x in
     let lp : length p ≡ t = length-pLayer t 4 x in
     let eq = layer-after t _ p z lp (c .before .before .before .moved-back .ensures) (sBoxLayer unnibbles) (t / 8) _ en (c .before .substituted .ensures) in
-    let lq : length (sBoxLayer unnibbles p) ≡ t = length-sBoxLayer unnibbles p ∙ lp in
+    let lq : length (sBoxLayer unnibbles p) ≡ t = length-sBoxLayer unnibbles p (omega arith) ∙ lp in
     let er = layer-after t _ (sBoxLayer unnibbles p) z lq eq (cAddition (8 * (t / 8)) (a .counter)) (t / 8) _ en (c .with-counter .ensures) in
     rw (c .before .before .before .before .if1 .taken) (rw en at er)
 
@@ -55,7 +56,7 @@ returns-2 c =
     ∙ ap (λ (m : ℕ). cAddition m (a .counter) x ++ z) en in
     let eq : Q ≡ q ++ z = layer-after t P p z lp ep (sBoxLayer nibbles) n Q en (c .before .substituted2 .ensures) in
     c .moved .ensures
-    ∙ ap (λ (l : List Bool). pLayer t (t / 4) l ++ z) (first-bits t Q q z (length-sBoxLayer nibbles p ∙ lp) eq)
+    ∙ ap (λ (l : List Bool). pLayer t (t / 4) l ++ z) (first-bits t Q q z (length-sBoxLayer nibbles p (omega arith) ∙ lp) eq)
     ∙ ap (λ (b : Bool). spongentRound t (direction b) x (a .counter) ++ z) (sym (c .before .before .before .before .if1 .left))
 
 pub round-spec : {M : Type 1} → statement M

@@ -1,7 +1,7 @@
 -- `stepped_counter` steps either way.
 -- Assumes nothing.
 use mathlib.Core.Path.{_∙_}
-use Rattle.standard.specs.Spongent.{steppedCounter}
+use Rattle.standard.specs.Counters.{steppedCounter}
 use borrow.Author.Needs.{needs}
 use Rattle.spongent.proofs.stepped_counter.Statement.{statement}
 use Rattle.spongent.proofs.stepped_counter.Tie as tie

@@ -1,7 +1,7 @@
 -- `stepped_reversed` steps either way.
 -- Assumes nothing.
 use mathlib.Core.Path.{_∙_}
-use Rattle.standard.specs.Spongent.{steppedReversed}
+use Rattle.standard.specs.Counters.{steppedReversed}
 use borrow.Author.Needs.{needs}
 use Rattle.spongent.proofs.stepped_reversed.Statement.{statement}
 use Rattle.spongent.proofs.stepped_reversed.Tie as tie

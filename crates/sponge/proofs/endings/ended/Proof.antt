@@ -4,7 +4,7 @@ use mathlib.Core.Bool.{Bool, cond}
 use mathlib.Core.List.{List, [], _∷_}
 use native.Mathlib.Omega.{arith}
 use borrow.Author.Needs.{needs}
-use Rattle.standard.specs.Sponge.{stateIn}
+use Rattle.standard.specs.Families.{stateIn}
 use Rattle.standard.specs.Chain.{run}
 use Rattle.standard.specs.Variants.{variant}
 use Rattle.standard.proofs.Streaming.{run-none}

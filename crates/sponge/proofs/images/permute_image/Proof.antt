@@ -3,7 +3,7 @@ use mathlib.Core.Path.{_≡_, sym, _∙_}
 use mathlib.Core.Bool.{true}
 use native.Mathlib.Omega.{arith}
 use borrow.Author.Tests.{not-true, not-false}
-use Rattle.standard.specs.Sponge.{isSponge}
+use Rattle.standard.specs.Families.{isSponge}
 use Rattle.standard.specs.Variants.{variant, known}
 use Rattle.standard.proofs.Variants.{known-high}
 use Rattle.sponge.specs.Directions.{directionOf}

@@ -5,7 +5,7 @@ use native.Mathlib.Omega.{arith}
 use lib.ListN.{getD}
 use lib.Seq.{ext-getD}
 use Rattle.standard.specs.Bits.{high-first, pack}
-use Rattle.standard.specs.Grid.{window}
+use Rattle.standard.specs.ForCode.{window}
 use Rattle.standard.specs.Photon.{bitsOfMatrix}
 use Rattle.standard.proofs.BitLaws.{length-pack}
 use Rattle.arrays.proofs.Upto.{Upto, upto-none, upto-more}

@@ -1,6 +1,6 @@
 -- `sponge::matrix::permuted` meets its contract: read as a matrix, permuted, and written back. Assumes nothing.
 use native.Mathlib.Omega.{arith}
-use Rattle.standard.specs.Rounds.{direction}
+use Rattle.standard.specs.ForCode.{direction}
 use Rattle.photon.proofs.ParametersOf.{sound, fits}
 use Rattle.sponge.proofs.States.{cell-width, matrix-ready, rounds-ready, photon-state}
 use borrow.Author.Needs.{needs}

@@ -5,7 +5,7 @@ use Prim.Native.Nat.{ℕ}
 use native.Mathlib.Omega.{arith}
 use Rattle.standard.proofs.Variants.{known-low, known-high}
 use borrow.Author.Needs.{needs}
-use Rattle.standard.specs.Sponge.{stateIn}
+use Rattle.standard.specs.Families.{stateIn}
 use Rattle.standard.specs.Chain.{run}
 use Rattle.standard.specs.Variants.{variant}
 use Rattle.sponge.specs.Blocks.{heldThen, firstBlocks}

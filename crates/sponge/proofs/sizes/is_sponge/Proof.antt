@@ -1,25 +1,20 @@
--- `sponge::sizes::is_sponge` meets its contract: 11 is none. Assumes nothing.
-use mathlib.Core.Path.{_≡_, sym, ap, _∙_}
-use mathlib.Core.Bool.{not}
-use mathlib.Core.Logic.{⊎-elim}
-use Prim.Native.Nat.{ℕ}
-use lib.Dec.{eqb}
-use borrow.Author.Tests.{eqb-true, eqb-false}
-use Rattle.standard.specs.Sponge.{isSponge}
-use Rattle.standard.specs.Variants.{variant}
-use Rattle.standard.proofs.Tests.{either}
-use Rattle.standard.proofs.Variants.{eleven-not, others-sponge}
+-- `sponge::sizes::is_sponge` meets its contract: 1 to 10 are. Assumes nothing.
+use mathlib.Core.Path.{sym}
+use native.Mathlib.Omega.{arith}
+use borrow.Author.Tests.{le-leb, lt-leb}
+use Rattle.standard.proofs.Variants.{sponge-is}
 use Rattle.sponge.proofs.sizes.is_sponge.Statement.{statement}
 use Rattle.sponge.proofs.sizes.is_sponge.Tie as tie
 
-but-eleven : (v : ℕ) → not (eqb v 11) ≡ isSponge (variant v)
-but-eleven v =
-    ⊎-elim (λ e. ap not e ∙ sym (eleven-not v (eqb-true v 11 e)))
-    (λ e. ap not e ∙ sym (others-sponge v (eqb-false v 11 e)))
-    (either (eqb v 11))
-
 returns : tie.Need-returns
-returns c = but-eleven (c .args .v)
+returns c =
+    let v = c .before .args .v in
+    sym (rw (sponge-is v, lt-leb 1 v (omega arith)))
+
+returns-2 : tie.Need-returns-2
+returns-2 c =
+    let v = c .before .args .v in
+    rw (sponge-is v, le-leb 1 v (omega arith))
 
 pub is-sponge-spec : {M : Type 1} → statement M
-is-sponge-spec = tie.close (tie.spec returns)
+is-sponge-spec = tie.close (tie.spec returns returns-2)

@@ -1,6 +1,6 @@
 -- `sponge::step::permuted` meets its contract: the family of the number does the work. Assumes nothing.
 use native.Mathlib.Omega.{arith}
-use Rattle.standard.specs.Rounds.{direction}
+use Rattle.standard.specs.ForCode.{direction}
 use Rattle.standard.proofs.Variants.{known-low, sponge-high}
 use Rattle.sponge.proofs.States.{spongent-ready, spongent-state}
 use borrow.Author.Needs.{needs}
@@ -11,7 +11,7 @@ permuted-requires-2 : tie.Need-permuted-requires-2
 permuted-requires-2 c κs =
     let start = c .before .before in
     let a = start .args in
-    let high = sponge-high (a .v) (start .pre .0 .0) (start .pre .0 .1) in
+    let high = sponge-high (a .v) (start .pre .0 .1) in
     ((omega arith, high), spongent-ready (a .v) (omega arith) high (a .s) (start .pre .1))
 
 returns-2 : tie.Need-returns-2
@@ -19,7 +19,7 @@ returns-2 c =
     let start = c .before .before .before in
     let a = start .args in
     rw (← c .before .before .is-backward .ensures)
-    (spongent-state (a .v) (omega arith) (sponge-high (a .v) (start .pre .0 .0) (start .pre .0 .1)) (a .s) (c .permuted2 .result) (direction (c .before .before .is-backward .result)) (c .permuted2 .ensures))
+    (spongent-state (a .v) (omega arith) (sponge-high (a .v) (start .pre .0 .1)) (a .s) (c .permuted2 .result) (direction (c .before .before .is-backward .result)) (c .permuted2 .ensures))
 
 pub permuted-spec : {M : Type 1} → statement M
 permuted-spec =

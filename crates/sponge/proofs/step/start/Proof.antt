@@ -8,7 +8,8 @@ use lib.Dec.{leb, lit<, leb→le}
 use lib.ListN.{getD, set, replicate}
 use Rattle.standard.specs.Bits.{lowBits, lowValue, ordered, bitsOf, valueOf, filled, pack}
 use Rattle.standard.specs.Lesamnta.{bitsOfWords, lesamntaStart}
-use Rattle.standard.specs.Sponge.{startState, imageSize}
+use Rattle.standard.specs.Chain.{startState}
+use Rattle.standard.specs.Families.{imageSize}
 use Rattle.standard.specs.Variants.{variant, known}
 use Rattle.standard.proofs.Tests.{one-to-five, six-to-ten}
 use Rattle.standard.proofs.Variants.{bounds, tested, known-low, known-high}

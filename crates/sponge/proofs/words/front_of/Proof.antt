@@ -34,7 +34,7 @@ returns-6 : tie.Need-returns-6
 returns-6 c =
     let s = c .before .before .before .before .before .before in
     let low = known-low (s .args .v) (s .pre .0) in
-    spongent-front (s .args .v) (omega (arith, low)) (sponge-high (s .args .v) (s .pre .0) (s .pre .1)) (s .args .w .now) _ (c .image .ensures)
+    spongent-front (s .args .v) (omega (arith, low)) (sponge-high (s .args .v) (s .pre .1)) (s .args .w .now) _ (c .image .ensures)
 
 pub front-of-spec : {M : Type 1} → statement M
 front-of-spec =

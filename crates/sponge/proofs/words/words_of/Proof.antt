@@ -4,7 +4,7 @@ use Prim.Native.Nat.{ℕ}
 use native.Mathlib.Omega.{arith}
 use lib.Dec.{lit≤}
 use borrow.Author.Needs.{needs}
-use Rattle.standard.specs.Sponge.{stateIn}
+use Rattle.standard.specs.Families.{stateIn}
 use Rattle.standard.specs.Variants.{variant}
 use Rattle.standard.proofs.Variants.{known-high, known-low}
 use Rattle.sponge.specs.Words.{stateInWords}
