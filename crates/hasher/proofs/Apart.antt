@@ -8,7 +8,7 @@ use native.Mathlib.Omega.{arith}
 use lib.ListN.{length, take, drop, getD}
 use lib.Seq.{take-at}
 use Rattle.standard.specs.Bits.{high-first}
-use Rattle.standard.specs.Sponge.{Variant, isSponge, imageSize, imageOf}
+use Rattle.standard.specs.Families.{Variant, isSponge, imageSize, imageOf}
 use Rattle.standard.specs.Chain.{byteBits, messageBits, blocksOf, DifferAt, endState}
 use Rattle.standard.specs.Variants.{variant, known}
 use Rattle.standard.specs.Values.{DifferWithin, inOneBlock}
@@ -95,14 +95,14 @@ module _ (v : ℕ) (k : known v ≡ true) (x y : List ℕ) where
 
   -- Of a sponge: two messages of bytes within the limit, of one length or not, whose padded rows have equal count and differ at exactly one block, are told apart.
   pub row-told : isSponge (variant v) ≡ true → length x ≤ most → length y ≤ most → (i : ℕ) → DifferAt i (blocksOf (variant v) (byteBits x)) (blocksOf (variant v) (byteBits y)) → ToldApart v x y
-  row-told q fx fy i d = ends-tell fx fy (one-changed-row v k q i (byteBits x) (byteBits y) d)
+  row-told q fx fy i d = ends-tell fx fy (one-changed-row v q i (byteBits x) (byteBits y) d)
 
   module _ (q : isSponge (variant v) ≡ true) (few : length x ≤ most) where
     -- Of a sponge: two messages of bytes of equal length within the limit whose bits differ, and only within the block j, are told apart.
     pub block-told : (j : ℕ) → DifferWithin (j * variant v .r) (variant v .r) (byteBits x) (byteBits y) → ToldApart v x y
     block-told j d =
         ends-tell few (omega (arith, d .size, length-bitsIn high-first x, length-bitsIn high-first y))
-        (one-changed-part v k q j (byteBits x) (byteBits y) d)
+        (one-changed-part v q j (byteBits x) (byteBits y) d)
 
     -- Of a sponge: two messages of bytes within the limit that differ only in the n bytes from p on, which lie in one block, are told apart.
     pub value-told : ((i : ℕ) → getD x i 0 < 256) → ((i : ℕ) → getD y i 0 < 256) → (p n : ℕ) → DifferWithin p n x y → inOneBlock (variant v) p n ≡ true
@@ -137,9 +137,9 @@ module _ (v : ℕ) (named : known v ≡ true) (x y : List ℕ) (k l : ℕ) (nx :
 
     -- Of a sponge: two messages that may end inside a byte, whose padded rows have equal count and differ at exactly one block, are told apart.
     pub bits-row-told : isSponge (variant v) ≡ true → (i : ℕ) → DifferAt i (blocksOf (variant v) (messageBits (variant v) x k)) (blocksOf (variant v) (messageBits (variant v) y l)) → ToldApartBits v x k y l
-    bits-row-told q i d = bits-ends-tell (one-changed-row v named q i X Y d)
+    bits-row-told q i d = bits-ends-tell (one-changed-row v q i X Y d)
 
   -- Of a sponge: two of one bit length within the limit whose bits differ, and only within the block j, are told apart.
   pub bits-block-told : isSponge (variant v) ≡ true → length (messageBits (variant v) x k) ≤ mostBits → (j : ℕ)
       → DifferWithin (j * variant v .r) (variant v .r) (messageBits (variant v) x k) (messageBits (variant v) y l) → ToldApartBits v x k y l
-  bits-block-told q fx j d = bits-ends-tell fx (omega (arith, d .size)) (one-changed-part v named q j X Y d)
+  bits-block-told q fx j d = bits-ends-tell fx (omega (arith, d .size)) (one-changed-part v q j X Y d)

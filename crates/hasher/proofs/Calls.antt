@@ -9,7 +9,7 @@ use lib.Dec.{ltb}
 use lib.ListN.{length, take, drop}
 use borrow.Author.Tests.{ltb-false, not-true, lt-ltb, le-ltb, eqb-true}
 use native.Mathlib.Omega.{arith}
-use Rattle.standard.specs.Chain.{byteBits, messageBits, run, endState}
+use Rattle.standard.specs.Chain.{byteBits, messageBits, run, endState, givenOut}
 use Rattle.standard.specs.Variants.{known, variant}
 use Rattle.answers.specs.declared.Refusal.{Refusal}
 use Rattle.answers.specs.declared.Refusal.the-variants.{UnknownVariant, TooLong, BadBitNumber, InsideByte}
@@ -19,7 +19,7 @@ use Rattle.answers.specs.Checks.{firstRefusal, Pass}
 use Rattle.answers.specs.Outputs.{most, mostBits, whenDone, written}
 use Rattle.answers.proofs.Rows.{passing-says, row-second, row-both}
 use Rattle.standard.specs.Bits.{high-first, pack}
-use Rattle.standard.specs.Sponge.{Variant, isSponge, order, givenOut, imageSize, imageOf}
+use Rattle.standard.specs.Families.{Variant, isSponge, order, imageSize, imageOf}
 use Rattle.standard.proofs.BitLaws.{length-pack, take-pack}
 use Rattle.standard.proofs.PartBytes.{bits-length}
 use Rattle.standard.proofs.Tests.{lt-or-le, either}

@@ -12,7 +12,7 @@ use lib.ListN.{length, take, length-append, drop}
 use borrow.Author.Tests.{lt-ltb}
 use Rattle.standard.specs.Chain.{byteBits, messageBits, endState, digestOf}
 use Rattle.standard.specs.Bits.{high-first}
-use Rattle.standard.specs.Sponge.{Variant}
+use Rattle.standard.specs.Families.{Variant}
 use Rattle.standard.specs.Variants.{variant, known}
 use Rattle.standard.proofs.BitLaws.{length-bitsIn}
 use Rattle.standard.proofs.PartBytes.{bits-behind}

@@ -5,8 +5,8 @@ use mathlib.Core.List.{List, [], _∷_, _++_}
 use Prim.Native.Nat.{ℕ, _/_}
 use lib.Dec.{ltb}
 use lib.ListN.{length}
-use Rattle.standard.specs.Sponge.{Variant, digestFrom, imageSize, imageOf}
-use Rattle.standard.specs.Chain.{byteBits, messageBits, endState}
+use Rattle.standard.specs.Families.{Variant, imageSize, imageOf}
+use Rattle.standard.specs.Chain.{digestFrom, byteBits, messageBits, endState}
 use Rattle.standard.specs.Variants.{variant}
 use Rattle.answers.specs.declared.Refusal.the-variants.{Malformed, WrongStage, OutputTooShort}
 use Rattle.answers.specs.declared.Status.{Status}

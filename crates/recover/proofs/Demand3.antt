@@ -14,7 +14,7 @@ use Rattle.answers.specs.declared.Status.the-variants.{Done, Refused}
 use Rattle.answers.specs.Checks.{firstRefusal}
 use Rattle.answers.proofs.Rows.{passing-says}
 use Rattle.standard.specs.Bits.{high-first, pack}
-use Rattle.standard.specs.Sponge.{Variant, stateIn}
+use Rattle.standard.specs.Families.{Variant, stateIn}
 use Rattle.standard.specs.Chain.{byteBits, messageBits}
 use Rattle.standard.specs.Variants.{variant, known}
 use Rattle.recover.specs.Leading.{NoneLeads, OnlyLeads}

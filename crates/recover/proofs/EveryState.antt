@@ -13,7 +13,7 @@ use Rattle.answers.specs.declared.Status.the-variants.{Done, Refused}
 use Rattle.answers.specs.Checks.{firstRefusal}
 use Rattle.answers.specs.Outputs.{most, mostBits}
 use borrow.Author.Tests.{le-ltb, eq-eqb}
-use Rattle.standard.specs.Sponge.{Variant, isSponge, imageOf}
+use Rattle.standard.specs.Families.{Variant, isSponge, imageOf}
 use Rattle.standard.specs.Chain.{byteBits, messageBits, blocksOf, endState}
 use Rattle.standard.specs.Variants.{variant, known}
 use Rattle.sponge.specs.Parts.{isBitNumber, messageChecks, messageBitsChecks}

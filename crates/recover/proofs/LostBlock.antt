@@ -16,8 +16,8 @@ use Rattle.answers.specs.Outputs.{written}
 use Rattle.answers.proofs.Statuses.{not-done}
 use Rattle.answers.proofs.Rows.{row-second, row-both}
 use Rattle.standard.specs.Bits.{high-first, pack}
-use Rattle.standard.specs.Sponge.{Variant, startState, imageOf, stateIn}
-use Rattle.standard.specs.Chain.{blocksOf, blockCount, run, endState}
+use Rattle.standard.specs.Families.{Variant, imageOf, stateIn}
+use Rattle.standard.specs.Chain.{startState, blocksOf, blockCount, run, endState}
 use Rattle.standard.specs.Variants.{variant, known}
 use Rattle.standard.proofs.BitLaws.{length-pack}
 use Rattle.standard.proofs.Tests.{either, true-not-false}

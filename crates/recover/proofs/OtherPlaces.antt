@@ -13,7 +13,7 @@ use Rattle.answers.specs.Checks.{Check, firstRefusal}
 use Rattle.answers.specs.Outputs.{most, mostBits}
 use Rattle.answers.proofs.Statuses.{not-done}
 use Rattle.answers.proofs.Rows.{row-first, row-second}
-use Rattle.standard.specs.Sponge.{isSponge}
+use Rattle.standard.specs.Families.{isSponge}
 use Rattle.standard.specs.Chain.{byteBits, messageBits, blocksOf, blockCount}
 use Rattle.standard.specs.Variants.{variant, known}
 use Rattle.standard.proofs.Streaming.{block-count}

@@ -16,7 +16,7 @@ use Rattle.answers.proofs.ByteLaws.{take-bytes, drop-bytes, append-bytes, numbe
 use Rattle.standard.specs.Values.{DifferWithin, inOneBlock}
 use Rattle.standard.proofs.CutLaws.{take-drop-take}
 use Rattle.standard.proofs.OneValue.{differ-part, differ-append, differ-behind, one-changed-row}
-use Rattle.standard.specs.Sponge.{isSponge, imageSize}
+use Rattle.standard.specs.Families.{isSponge, imageSize}
 use Rattle.standard.specs.Chain.{byteBits, blocksOf, DifferAt, endState}
 use Rattle.standard.specs.Variants.{variant}
 use Rattle.hasher.specs.declared.Wanted.the-variants.{EndState}
@@ -202,7 +202,7 @@ module _ (v : ℕ) (list x out list′ y out′ : List ℕ) (dx : listStatus v l
   pub list-row-told : isSponge (variant v) ≡ true → (i : ℕ) → DifferAt i (blocksOf (variant v) (byteBits (messageOf list x))) (blocksOf (variant v) (byteBits (messageOf list′ y)))
       → (endState (variant v) (byteBits (messageOf list x)) ≡ endState (variant v) (byteBits (messageOf list′ y)) → ⊥) × Apart
   list-row-told q i d = (
-    one-changed-row v (ax .message .named) q i (byteBits (messageOf list x)) (byteBits (messageOf list′ y)) d,
+    one-changed-row v q i (byteBits (messageOf list x)) (byteBits (messageOf list′ y)) d,
     lists-told (row-told v (ax .message .named) (messageOf list x) (messageOf list′ y) q (ax .message .few) (ay .message .few) i d),
   )
 
