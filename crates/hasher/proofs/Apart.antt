@@ -7,7 +7,7 @@ use Prim.Native.Nat.{ℕ, _*_, _/_, _≤_}
 use native.Mathlib.Omega.{arith}
 use lib.ListN.{length, take, drop}
 use lib.Seq.{take-at}
-use Rattle.standard.specs.Sponge.{Variant, imageSize, imageOf}
+use Rattle.standard.specs.Families.{Variant, imageSize, imageOf}
 use Rattle.standard.specs.Chain.{endState}
 use Rattle.standard.specs.Messages.{Given, bytes, givenBits}
 use Rattle.standard.specs.Variants.{variant, known}

@@ -9,7 +9,7 @@ use lib.Dec.{ltb}
 use lib.ListN.{length, take, drop}
 use borrow.Author.Tests.{ltb-false, not-true, lt-ltb, le-ltb, eqb-true}
 use native.Mathlib.Omega.{arith}
-use Rattle.standard.specs.Chain.{run, endState}
+use Rattle.standard.specs.Chain.{run, endState, givenOut}
 use Rattle.standard.specs.Messages.{Given, givenBits}
 use Rattle.standard.specs.Variants.{known, variant}
 use Rattle.answers.specs.declared.Refusal.{Refusal}
@@ -20,7 +20,7 @@ use Rattle.answers.specs.Checks.{firstRefusal}
 use Rattle.answers.specs.Outputs.{mostBits, whenDone, written}
 use Rattle.answers.proofs.Rows.{passing-says, row-second, row-both}
 use Rattle.standard.specs.Bits.{high-first, pack}
-use Rattle.standard.specs.Sponge.{Variant, isSponge, order, givenOut, imageSize, imageOf}
+use Rattle.standard.specs.Families.{Variant, isSponge, order, imageSize, imageOf}
 use Rattle.standard.proofs.BitLaws.{length-pack, take-pack}
 use Rattle.standard.proofs.Tests.{lt-or-le, either}
 use Rattle.standard.proofs.Variants.{Bounds, bounds, not-sponge}

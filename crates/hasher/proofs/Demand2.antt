@@ -10,7 +10,7 @@ use native.Mathlib.Omega.{arith}
 use lib.ListN.{length, take, drop, length-append}
 use borrow.Author.Tests.{eqb-true, eq-eqb}
 use Rattle.standard.specs.Bits.{high-first, bitsIn}
-use Rattle.standard.specs.Sponge.{Variant}
+use Rattle.standard.specs.Families.{Variant}
 use Rattle.standard.specs.Chain.{byteBits, endState, digestOf}
 use Rattle.standard.specs.Messages.{Given, bytes, givenBits}
 use Rattle.standard.specs.Variants.{variant, known}

@@ -9,7 +9,7 @@ use native.Mathlib.Omega.{arith}
 use lib.ListN.{length, length-append}
 use borrow.Author.Tests.{eqb-true, eq-eqb}
 use Rattle.standard.specs.Bits.{high-first, bitsIn, unpack}
-use Rattle.standard.specs.Sponge.{Variant, order}
+use Rattle.standard.specs.Families.{Variant, order}
 use Rattle.standard.specs.Chain.{byteBits, padding, wholeBlocks, restOf, run}
 use Rattle.standard.specs.Variants.{known}
 use Rattle.standard.proofs.BitLaws.{length-pack, unpack-pack, length-bitsIn, bitsIn-append}

@@ -11,7 +11,7 @@ use Rattle.answers.specs.declared.Status.{Status}
 use Rattle.answers.specs.declared.Status.the-variants.{Done}
 use Rattle.answers.specs.Outputs.{whenDone}
 use Rattle.standard.specs.Bits.{high-first, pack}
-use Rattle.standard.specs.Sponge.{Variant}
+use Rattle.standard.specs.Families.{Variant}
 use Rattle.standard.specs.Chain.{byteBits, step, run}
 use Rattle.standard.specs.Messages.{bytes}
 use Rattle.standard.proofs.BitLaws.{length-bitsIn, pack-bitsIn}

@@ -9,7 +9,7 @@ use native.Mathlib.Omega.{arith}
 use lib.ListN.{length, take, drop, getD, replicate, length-append, take-append-drop}
 use lib.Seq.{take-add, take-append-le, drop-append-le}
 use Rattle.standard.specs.Bits.{high-first, bitsOf, bitsIn, unpack, filled}
-use Rattle.standard.specs.Sponge.{Variant, stateIn}
+use Rattle.standard.specs.Families.{Variant, stateIn}
 use Rattle.standard.specs.Chain.{padding, wholeBlocks, restOf, run}
 use Rattle.standard.proofs.BitLaws.{length-bitsOf, length-unpack, bitsIn-drop, filled-short, pack-none}
 use Rattle.standard.proofs.Streaming.{Streams, length-rest, run-append, run-length}

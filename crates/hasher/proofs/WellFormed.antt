@@ -12,7 +12,7 @@ use lib.ListN.{length, take, drop, getD, replicate, length-drop, take-append-dro
 use lib.Seq.{drop-at}
 use borrow.Author.Tests.{leb-true, le-leb, eqb-true}
 use Rattle.standard.specs.Bits.{Order, high-first, bitsIn, pack, unpack}
-use Rattle.standard.specs.Sponge.{order, stateIn}
+use Rattle.standard.specs.Families.{order, stateIn}
 use Rattle.standard.specs.Variants.{known}
 use Rattle.standard.proofs.Tests.{and-true, either}
 use Rattle.standard.proofs.BitLaws.{length-bitsIn, length-unpack, image-eq}

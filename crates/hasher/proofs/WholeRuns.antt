@@ -6,8 +6,8 @@ use mathlib.Core.List.{List, [], _∷_, _++_}
 use Prim.Native.Nat.{ℕ, _^_, _≤_}
 use native.Mathlib.Omega.{arith}
 use lib.ListN.{length}
-use Rattle.standard.specs.Sponge.{Variant, isSponge, startState, stateIn}
-use Rattle.standard.specs.Chain.{padded, blocksOf, run, endState}
+use Rattle.standard.specs.Families.{Variant, isSponge, stateIn}
+use Rattle.standard.specs.Chain.{startState, padded, blocksOf, run, endState}
 use Rattle.standard.specs.Variants.{variant, known}
 use Rattle.standard.proofs.Streaming.{run-append, run-length, run-none}
 use Rattle.standard.proofs.Variants.{streams}

@@ -5,7 +5,7 @@ use mathlib.Core.Bool.{Bool, true}
 use mathlib.Core.List.{List, _++_}
 use Prim.Native.Nat.{ℕ, _+_, _*_, _≤_, _<_}
 use lib.ListN.{length, drop, getD}
-use Rattle.standard.specs.Sponge.{isSponge}
+use Rattle.standard.specs.Families.{isSponge}
 use Rattle.standard.specs.Chain.{byteBits, blocksOf, DifferAt, digestOf}
 use Rattle.standard.specs.Messages.{Given, bytes, givenBits}
 use Rattle.standard.specs.Variants.{variant, known}

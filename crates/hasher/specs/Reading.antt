@@ -5,8 +5,8 @@ use mathlib.Core.List.{List, [], _∷_, _++_}
 use Prim.Native.Nat.{ℕ, _/_}
 use lib.Dec.{ltb}
 use lib.ListN.{length}
-use Rattle.standard.specs.Sponge.{Variant, digestFrom, imageSize, imageOf}
-use Rattle.standard.specs.Chain.{endState}
+use Rattle.standard.specs.Families.{Variant, imageSize, imageOf}
+use Rattle.standard.specs.Chain.{digestFrom, endState}
 use Rattle.standard.specs.Messages.{Given, givenBits}
 use Rattle.standard.specs.Variants.{variant}
 use Rattle.answers.specs.declared.Refusal.the-variants.{Malformed, WrongStage, OutputTooShort}

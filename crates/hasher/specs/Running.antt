@@ -7,8 +7,8 @@ use Prim.Native.Nat.{ℕ, _+_, _%_}
 use lib.Dec.{eqb, ltb, leb}
 use lib.ListN.{length, drop, replicate}
 use Rattle.standard.specs.Bits.{high-first, bitsIn, unpack}
-use Rattle.standard.specs.Sponge.{Variant, order, startState, stateIn}
-use Rattle.standard.specs.Chain.{padding, wholeBlocks, restOf, run}
+use Rattle.standard.specs.Families.{Variant, order, stateIn}
+use Rattle.standard.specs.Chain.{startState, padding, wholeBlocks, restOf, run}
 use Rattle.standard.specs.Messages.{Given, givenBits}
 use Rattle.standard.specs.Variants.{variant, known}
 use Rattle.answers.specs.declared.Refusal.the-variants.{UnknownVariant, Malformed, WrongStage, TooLong, InsideByte}

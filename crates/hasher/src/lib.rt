@@ -5,7 +5,7 @@ ghost use mathlib.Core.List.{[], _∷_, _++_};
 ghost use Prim.Native.Nat.{_+_, _-_, _*_, _/_, _%_, _≤_, _<_};
 ghost use lib.ListN.{length, take, drop, getD, replicate};
 ghost use Rattle.standard.specs.Bits.{high-first, bitsOf, bitsIn};
-ghost use Rattle.standard.specs.Sponge.{stateIn};
+ghost use Rattle.standard.specs.Families.{stateIn};
 ghost use Rattle.standard.specs.Chain.{messageBits, endState};
 ghost use Rattle.standard.specs.Messages.{bytes, partial, givenBits};
 ghost use Rattle.standard.specs.Variants.{variant, known};

@@ -15,8 +15,8 @@ use Rattle.answers.specs.Checks.{firstRefusal}
 use Rattle.answers.specs.Outputs.{written}
 use Rattle.answers.proofs.Rows.{row-second}
 use Rattle.standard.specs.Bits.{high-first, pack}
-use Rattle.standard.specs.Sponge.{Variant, isSponge, startState, imageOf}
-use Rattle.standard.specs.Chain.{blocksOf, blockCount, run, endState}
+use Rattle.standard.specs.Families.{Variant, isSponge, imageOf}
+use Rattle.standard.specs.Chain.{startState, blocksOf, blockCount, run, endState}
 use Rattle.standard.specs.Messages.{Given, givenBits}
 use Rattle.standard.specs.Variants.{variant}
 use Rattle.standard.proofs.BitLaws.{length-pack}

@@ -8,9 +8,9 @@ use Prim.Native.Nat.{ℕ, _-_, _%_}
 use native.Mathlib.Omega.{arith}
 use lib.ListN.{length, take, drop, replicate, take-append-drop}
 use lib.Seq.{take-at, drop-at, length-take-le}
-use Rattle.standard.specs.Bits.{high-first, reordered}
-use Rattle.standard.specs.Sponge.{Variant, order}
-use Rattle.standard.proofs.Reordered.{length-reordered, reordered-undo}
+use Rattle.standard.specs.Bits.{turned}
+use Rattle.standard.proofs.Turned.{length-turned, turned-twice}
+use Rattle.standard.specs.Families.{Variant, order}
 use Rattle.recover.specs.Leading.{endStateWith, sameBits, leading, OnlyLeads}
 use Rattle.recover.specs.Difference.{difference}
 use Rattle.recover.proofs.Passing.{same-refl, same-eq, passing-none, passing-one}
@@ -22,7 +22,7 @@ InBlock H D = drop (H .r) D ≡ replicate (H .t - H .r) false
 
 -- the block that it is
 abbrev pub blockFrom : Variant → List Bool → List Bool
-blockFrom H D = reordered (order H) high-first (take (H .r) D)
+blockFrom H D = turned (order H) (take (H .r) D)
 
 module _ {H : Variant} {m : List Bool} {place : ℕ} {s : List Bool} (h : Searches H m place s) where
   abbrev D : List Bool
@@ -35,30 +35,23 @@ module _ {H : Variant} {m : List Bool} {place : ℕ} {s : List Bool} (h : Search
   front = length-take-le (H .r) D (omega (arith, h .size, h .fits))
 
   block-length : length B ≡ H .r
-  block-length = length-reordered (order H) high-first (take (H .r) D) ∙ front
-
-  -- bits in the order of the state, put back
-  there : (b : List Bool) → length b ≡ H .r → reordered (order H) high-first (reordered high-first (order H) b) ≡ b
-  there b l = reordered-undo high-first (order H) b (⊎-elim inl (λ q. inr (ap (λ (n : ℕ). n % 8) l ∙ q)) (h .layout))
-
-  back : (b : List Bool) → length b ≡ H .r → reordered high-first (order H) (reordered (order H) high-first b) ≡ b
-  back b l = reordered-undo (order H) high-first b (⊎-elim (λ q. inl (sym q)) (λ q. inr (ap (λ (n : ℕ). n % 8) l ∙ q)) (h .layout))
+  block-length = length-turned (order H) (take (H .r) D) ∙ front
 
   -- ---- a block that leads there
 
   module _ (b : List Bool) (l : length b ≡ H .r) (e : endStateWith H m place b ≡ s) where
     -- laid out in the order of the state
     abbrev laid : List Bool
-    laid = reordered high-first (order H) b
+    laid = turned (order H) b
 
     lc : length laid ≡ H .r
-    lc = length-reordered high-first (order H) b ∙ l
+    lc = length-turned (order H) b ∙ l
 
     -- is the difference
     pub leads-same : b ≡ B
     leads-same =
-        sym (there b l)
-        ∙ ap (reordered (order H) high-first) (sym (ap (take (H .r)) (h .tells b l e) ∙ take-at laid _ (H .r) lc))
+        sym (turned-twice (order H) b)
+        ∙ ap (turned (order H)) (sym (ap (take (H .r)) (h .tells b l e) ∙ take-at laid _ (H .r) lc))
 
     -- which then does not reach past it
     pub leads-short : InBlock H D
@@ -69,7 +62,7 @@ module _ {H : Variant} {m : List Bool} {place : ℕ} {s : List Bool} (h : Search
   pub block-leads : InBlock H D → endStateWith H m place B ≡ s
   block-leads z =
       h .finds B block-length
-      (sym (take-append-drop (H .r) D) ∙ ap₂ (λ (x y : List Bool). x ++ y) (sym (back (take (H .r) D) front)) z)
+      (sym (take-append-drop (H .r) D) ∙ ap₂ (λ (x y : List Bool). x ++ y) (sym (turned-twice (order H) (take (H .r) D))) z)
 
   pub only : InBlock H D → OnlyLeads H m place s B
   only z = record { size = block-length; leads = block-leads z; others = λ c l n e. n (leads-same c l e) }

@@ -13,7 +13,7 @@ use Rattle.answers.specs.Checks.{firstRefusal}
 use Rattle.answers.proofs.Statuses.{not-done}
 use Rattle.answers.proofs.Rows.{row-second, row-both}
 use Rattle.standard.specs.Bits.{high-first, pack}
-use Rattle.standard.specs.Sponge.{Variant, stateIn}
+use Rattle.standard.specs.Families.{Variant, stateIn}
 use Rattle.standard.specs.Chain.{blockCount}
 use Rattle.standard.specs.Messages.{Given, givenBits}
 use Rattle.standard.specs.Variants.{variant, known}

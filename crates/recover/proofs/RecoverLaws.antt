@@ -19,7 +19,7 @@ use Rattle.answers.proofs.Statuses.{kept}
 use Rattle.answers.proofs.Rows.{passing-says, row-first, row-second}
 use Rattle.answers.proofs.ByteLaws.{take-bytes}
 use Rattle.standard.specs.Bits.{high-first, bitsIn, pack, unpack}
-use Rattle.standard.specs.Sponge.{Variant, order, stateIn}
+use Rattle.standard.specs.Families.{Variant, order, stateIn}
 use Rattle.standard.specs.Chain.{blocksOf, blockCount}
 use Rattle.standard.specs.Messages.{Given, givenBits}
 use Rattle.sponge.specs.Messages.{messageChecks}

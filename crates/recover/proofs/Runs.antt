@@ -12,16 +12,19 @@ use lib.ListN.{length, take, drop, getD, replicate, length-append, length-drop, 
 use lib.Seq.{drop-cons, drop-length, take-take, take-append-le, drop-append-le}
 use Rattle.standard.specs.Bits.{Order, high-first, bitsIn, unpack, pack, filled, xorInto}
 use Rattle.standard.specs.Rounds.{backward}
-use Rattle.standard.specs.Sponge.{Variant, isSponge, order, permutation, startState, spongePadding, unstep, unrun, stateIn}
-use Rattle.standard.specs.Chain.{padded, wholeBlocks, blocksOf, blockCount, run}
+use Rattle.standard.specs.Sponge.{spongePadding}
+use Rattle.standard.specs.Families.{Variant, isSponge, order, stateIn}
+use Rattle.standard.specs.Chain.{startState, padded, wholeBlocks, blocksOf, blockCount, run}
 use Rattle.standard.specs.Variants.{variant, known}
 use Rattle.standard.proofs.BitLaws.{length-filled, length-unpack, length-pack, pack-whole, bitsIn-append, bitsIn-zeros, bitsIn-drop, length-xorInto, xorInto-append, xorInto-zeros}
 use Rattle.standard.proofs.LesamntaLaws.{cipher-length}
-use Rattle.standard.proofs.TakenBack.{unrun-one, unrun-none, unrun-length, wanted-length}
+use Rattle.standard.proofs.Sponge.{padding-sponge}
 use Rattle.standard.proofs.Streaming.{Streams, block-count, run-length}
 use Rattle.standard.proofs.PartBytes.{bit-block-count}
-use Rattle.standard.proofs.Variants.{bounds, streams, sponge}
+use Rattle.standard.proofs.Variants.{bounds, streams, is-sponge}
 use Rattle.sponge.specs.Layout.{stateRoom, packedState, packedBlock, blockIn, Holds}
+use Rattle.sponge.specs.TakenBack.{permutedState, unstep, unrun}
+use Rattle.sponge.proofs.TakenBack.{unrun-one, unrun-none, unrun-length, wanted-length}
 use Rattle.sponge.specs.Blocks.{heldThen, firstBlocks}
 use Rattle.sponge.proofs.BlockRows.{withOne, length-first, first-take, marked-at, marked-blocks, heldThen-alone}
 use Rattle.sponge.specs.Endings.{markedCount, lengthBlocks}
@@ -90,11 +93,11 @@ module _ (v : ℕ) (k : known v ≡ true) {front : List ℕ} {last n : ℕ} (h :
 
   module _ (q : isSponge (variant v) ≡ true) (e : List Bool) (le : length e ≡ H .t) where
     count : length bs ≡ length M / H .r + 1
-    count = bit-block-count v k q M
+    count = bit-block-count v q M
 
     row : bs ≡ wholeBlocks (H .r) (M ++ spongePadding (H .r) (length M))
     unfolding blocksOf padded
-    row = ap (λ (p : List Bool). wholeBlocks (H .r) (M ++ p)) (sponge v k q .padding-is (length M))
+    row = ap (λ (p : List Bool). wholeBlocks (H .r) (M ++ p)) (padding-sponge H (is-sponge v q) (length M))
 
     block-at : (j : ℕ) → j < length bs → getD bs j [] ≡ filled (H .r) (drop (j * H .r) (bitsIn high-first bytes))
     block-at j l = ap (λ (x : List (List Bool)). getD x j []) row ∙ marked-at (H .r) (streams v k .rate-pos) M bytes (h .marked) j (omega (arith, count))
@@ -104,10 +107,10 @@ module _ (v : ℕ) (k : known v ≡ true) {front : List ℕ} {last n : ℕ} (h :
     before j = unrun H e (drop j bs)
 
     before-size : (j : ℕ) → length (before j) ≡ H .t
-    before-size j = unrun-length H (sponge v k q) (drop j bs) e le
+    before-size j = unrun-length H (is-sponge v q) (drop j bs) e le
 
     pub back-start : (j : ℕ) → j ≡ length bs → e ≡ before j
-    back-start j p = sym (ap before p ∙ ap (unrun H e) (drop-length bs) ∙ unrun-none H (sponge v k q) e)
+    back-start j p = sym (ap before p ∙ ap (unrun H e) (drop-length bs) ∙ unrun-none H (is-sponge v q) e)
 
     -- the same place, as the loop counts it before and behind a turn
     pub back-at : (i j : ℕ) → i ≡ j → (s : List ℕ) → s ≡ packedState H (before i) → s ≡ packedState H (before j)
@@ -128,7 +131,7 @@ module _ (v : ℕ) (k : known v ≡ true) {front : List ℕ} {last n : ℕ} (h :
         (block-read v k x B (length-filled (H .r) (drop (j * H .r) (bitsIn high-first bytes))) block ∙ sym (block-at j l))
         ∙ ap (packedState H)
         (sym (ap (unrun H e) (drop-cons bs j [] l ∙ ap (λ (n : ℕ). getD bs j [] ∷ drop n bs) (sym (add-one j)))
-        ∙ unrun-one H (sponge v k q) e (getD bs j []) (drop (j + 1) bs)))
+        ∙ unrun-one H (is-sponge v q) e (getD bs j []) (drop (j + 1) bs)))
 
 -- ---- the difference of the two states
 
@@ -169,15 +172,15 @@ module _ (v : ℕ) (k : known v ≡ true) {front : List ℕ} {last n : ℕ} (h :
 
     -- of a sponge: permuted back, and xored
     pub difference-held : isSponge (variant v) ≡ true → (y z r : List ℕ) → y ≡ packedState K (stateBehind K m place e)
-        → z ≡ packedState K (permutation K backward (stateIn K y))
+        → z ≡ packedState K (permutedState K backward (stateIn K y))
         → ((i : ℕ) → getD r i 0 < 256) → length r ≡ stateRoom → ((o : Order) → bitsIn o r ≡ xorInto (bitsIn o x) (bitsIn o z))
         → r ≡ packedState K (difference K m place e)
     difference-held q y z r ey ez hr lr er =
         let g : Streams K = streams v k in
-        states-xored v k x z r (stateBefore K m place) (permutation K backward (stateBehind K m place e)) before-long
-        (wanted-length K g (sponge v k q) (startState K) (g .start-length) (blocksOf K m) place within e le)
+        states-xored v k x z r (stateBefore K m place) (permutedState K backward (stateBehind K m place e)) before-long
+        (wanted-length K g (is-sponge v q) (startState K) (g .start-length) (blocksOf K m) place within e le)
         hr lr before-held
-        (ez ∙ ap (λ (u : List Bool). packedState K (permutation K backward u)) (stored v k y (stateBehind K m place e) (unrun-length K (sponge v k q) _ e le) ey))
+        (ez ∙ ap (λ (u : List Bool). packedState K (permutedState K backward u)) (stored v k y (stateBehind K m place e) (unrun-length K (is-sponge v q) _ e le) ey))
         er
         ∙ ap (packedState K) (sym (between-sponge (K .family) q K (stateBefore K m place) (stateBehind K m place e)))
 

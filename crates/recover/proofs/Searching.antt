@@ -11,40 +11,40 @@ use lib.Dec.{eqb}
 use lib.ListN.{length, take, drop, replicate}
 use lib.Seq.{set-split, drop-length}
 use borrow.Author.Tests.{eqb-true}
-use Rattle.standard.specs.Bits.{high-first, reordered, xorInto}
+use Rattle.standard.specs.Bits.{turned, xorInto}
+use Rattle.standard.proofs.Turned.{length-turned, turned-high}
 use Rattle.standard.specs.Rounds.{backward}
-use Rattle.standard.specs.Sponge.{Family, photon, spongent, lesamnta, Variant, spongeOf, isSponge, order, permutation, startState, unrun}
+use Rattle.standard.specs.Families.{Family, sponge, lesamnta, Variant, spongeOf, isSponge, order}
+use Rattle.standard.specs.Chain.{startState, blocksOf, step, run}
 use Rattle.standard.specs.Lesamnta.{cipher}
-use Rattle.standard.specs.Chain.{blocksOf, step, run}
 use Rattle.standard.specs.Variants.{variant, known}
 use Rattle.standard.proofs.Tests.{either, true-not-false}
 use Rattle.standard.proofs.BitLaws.{length-xorInto}
-use Rattle.standard.proofs.Reordered.{length-reordered, reordered-same}
 use Rattle.standard.proofs.Streaming.{Streams, run-append, run-one, run-none, run-length}
 use Rattle.standard.proofs.Sponge.{IsSponge}
-use Rattle.standard.proofs.TakenBack.{difference-of, difference-back, before-length, wanted-length, leads-to, leads-from}
+use Rattle.standard.proofs.Differences.{difference-of, difference-back}
 use Rattle.standard.proofs.LesamntaLaws as lw
-use Rattle.standard.proofs.Variants.{streams, sponge, not-sponge}
+use Rattle.standard.proofs.Variants.{streams, is-sponge, not-sponge}
+use Rattle.sponge.specs.TakenBack.{permutedState, unrun}
+use Rattle.sponge.proofs.TakenBack.{before-length, wanted-length, leads-to, leads-from}
 use Rattle.recover.specs.Leading.{endStateWith}
 use Rattle.recover.specs.Difference.{stateBefore, stateBehind, between, difference}
 use Rattle.recover.specs.Recovering.{searchable}
 
 -- a block and zeros behind it, laid out in the order of the state
 abbrev pub alone : Variant → List Bool → List Bool
-alone H b = reordered high-first (order H) b ++ replicate (H .t - H .r) false
+alone H b = turned (order H) b ++ replicate (H .t - H .r) false
 
 pub record Searches (H : Variant) (m : List Bool) (place : ℕ) (s : List Bool) : Type 0 where
   pub fits : H .r ≤ H .t
-  pub layout : (high-first ≡ order H) ⊎ (H .r % 8 ≡ 0)
   pub size : length (difference H m place s) ≡ H .t
   pub tells : (b : List Bool) → length b ≡ H .r → endStateWith H m place b ≡ s → difference H m place s ≡ alone H b
   pub finds : (b : List Bool) → length b ≡ H .r → difference H m place s ≡ alone H b → endStateWith H m place b ≡ s
 
 -- ---- a sponge, at every place
 
-pub between-sponge : (f : Family) → spongeOf f ≡ true → (H : Variant) (s e : List Bool) → between f H s e ≡ xorInto s (permutation H backward e)
-between-sponge (photon p) q H s e = refl
-between-sponge (spongent p) q H s e = refl
+pub between-sponge : (f : Family) → spongeOf f ≡ true → (H : Variant) (s e : List Bool) → between f H s e ≡ xorInto s (permutedState H backward e)
+between-sponge (sponge P r′) q H s e = refl
 between-sponge lesamnta q H s e = absurd (true-not-false (sym q))
 
 module _ (H : Variant) (g : Streams H) (h : IsSponge H) (q : isSponge H ≡ true) (m : List Bool) (place : ℕ) (within : place < length (blocksOf H m)) (s : List Bool) (ls : length s ≡ H .t) where
@@ -52,7 +52,7 @@ module _ (H : Variant) (g : Streams H) (h : IsSponge H) (q : isSponge H ≡ true
   S = stateBefore H m place
 
   abbrev Z : List Bool
-  Z = permutation H backward (stateBehind H m place s)
+  Z = permutedState H backward (stateBehind H m place s)
 
   lS : length S ≡ H .t
   lS = before-length H g h (startState H) (g .start-length) (blocksOf H m) place within s ls
@@ -68,17 +68,16 @@ module _ (H : Variant) (g : Streams H) (h : IsSponge H) (q : isSponge H ≡ true
   sponge-searches =
       record {
         fits = h .fits;
-        layout = h .layout;
         size = ap length D-is ∙ length-xorInto S Z ∙ lS;
         tells = λ b l e.
-            let laid : List Bool = reordered high-first (order H) b in
-            let lc : length laid ≡ H .r = length-reordered high-first (order H) b ∙ l in
+            let laid : List Bool = turned (order H) b in
+            let lc : length laid ≡ H .r = length-turned (order H) b ∙ l in
             D-is
             ∙ difference-of S laid Z (omega (arith, lS, lc, h .fits)) (leads-to H g h (startState H) (g .start-length) (blocksOf H m) place within s ls b e)
             ∙ ap (λ (n : ℕ). laid ++ replicate n false) (ap₂ (λ (x y : ℕ). x - y) lS lc);
         finds = λ b l e.
             leads-from H g h (startState H) (g .start-length) (blocksOf H m) place within s ls b
-            (difference-back S (reordered high-first (order H) b) Z (H .t - H .r) (lS ∙ sym lZ) (sym D-is ∙ e));
+            (difference-back S (turned (order H) b) Z (H .t - H .r) (lS ∙ sym lZ) (sym D-is ∙ e));
       }
 
 -- ---- Lesamnta-LW, at the last place
@@ -120,15 +119,14 @@ module _ (m : List Bool) (place : ℕ) (last : suc place ≡ length (blocksOf (v
       let here : (x : List Bool) → List Bool = λ x. xorInto (cipher backward (take 128 B) x) (replicate 128 false ++ drop 128 B) in
       record {
         fits = omega arith;
-        layout = inl refl;
         size = length-xorInto (cipher backward (take 128 B) (stateBehind E m place s)) (replicate 128 false ++ drop 128 B) ∙ lw.cipher-length backward (take 128 B) (stateBehind E m place s);
         tells = λ b l e.
             ap here behind-is
             ∙ lw.step-found B s lB ls b l (sym (one-step b) ∙ e)
-            ∙ ap (λ (x : List Bool). x ++ replicate 128 false) (sym (reordered-same high-first b));
+            ∙ ap (λ (x : List Bool). x ++ replicate 128 false) (sym (turned-high b));
         finds = λ b l e.
             one-step b
-            ∙ lw.step-finds B s lB ls b l (sym (ap here behind-is) ∙ e ∙ ap (λ (x : List Bool). x ++ replicate 128 false) (reordered-same high-first b));
+            ∙ lw.step-finds B s lB ls b l (sym (ap here behind-is) ∙ e ∙ ap (λ (x : List Bool). x ++ replicate 128 false) (turned-high b));
       }
 
 -- ---- by number
@@ -144,7 +142,7 @@ way v k m place e =
 pub searches : (v : ℕ) → known v ≡ true → (m : List Bool) (place : ℕ) → place < length (blocksOf (variant v) m)
     → searchable (variant v) (length (blocksOf (variant v) m)) place ≡ true → (s : List Bool) → length s ≡ variant v .t → Searches (variant v) m place s
 searches v k m place within e s ls =
-    ⊎-elim (λ q. sponge-searches (variant v) (streams v k) (sponge v k q) q m place within s ls)
+    ⊎-elim (λ q. sponge-searches (variant v) (streams v k) (is-sponge v q) q m place within s ls)
     (λ w. subst (λ (n : ℕ). suc place ≡ length (blocksOf (variant n) m) → length s ≡ variant n .t → Searches (variant n) m place s) (sym (not-sponge v k (w .0)))
     (λ last l. lesamnta-searches m place last s l) (w .1) ls)
     (way v k m place e)

@@ -5,8 +5,8 @@ use mathlib.Core.Bool.{Bool, true, false, cond, not, xor, _&&_}
 use mathlib.Core.List.{List, [], _∷_, _++_, map}
 use Prim.Native.Nat.{ℕ, zero, suc}
 use lib.ListN.{length, set}
-use Rattle.standard.specs.Sponge.{Variant, startState}
-use Rattle.standard.specs.Chain.{blocksOf, run}
+use Rattle.standard.specs.Families.{Variant}
+use Rattle.standard.specs.Chain.{startState, blocksOf, run}
 
 -- the end state of a message with the block b at a place among its padded blocks; its own block there is ignored
 unfoldable pub endStateWith : Variant → List Bool → ℕ → List Bool → List Bool

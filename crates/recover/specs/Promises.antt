@@ -11,7 +11,7 @@ use Rattle.answers.specs.declared.Status.the-variants.{Done, Refused}
 use Rattle.answers.specs.Checks.{firstRefusal}
 use Rattle.answers.specs.Outputs.{mostBits}
 use Rattle.standard.specs.Bits.{high-first, pack}
-use Rattle.standard.specs.Sponge.{isSponge, imageOf, stateIn}
+use Rattle.standard.specs.Families.{isSponge, imageOf, stateIn}
 use Rattle.standard.specs.Chain.{blocksOf, endState}
 use Rattle.standard.specs.Messages.{Given, givenBits}
 use Rattle.standard.specs.Variants.{variant, known}

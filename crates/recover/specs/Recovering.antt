@@ -6,7 +6,7 @@ use Prim.Native.Nat.{ℕ, suc}
 use lib.Dec.{ltb, eqb}
 use lib.ListN.{length}
 use Rattle.standard.specs.Bits.{high-first, pack, bytesFor}
-use Rattle.standard.specs.Sponge.{Variant, isSponge, stateIn}
+use Rattle.standard.specs.Families.{Variant, isSponge, stateIn}
 use Rattle.standard.specs.Chain.{blockCount}
 use Rattle.standard.specs.Messages.{Given, givenBits}
 use Rattle.standard.specs.Variants.{variant}

@@ -5,7 +5,7 @@ ghost use mathlib.Core.Bool.{true};
 ghost use mathlib.Core.List.{_++_};
 ghost use Prim.Native.Nat.{_<_};
 ghost use lib.ListN.{length, drop, replicate};
-ghost use Rattle.standard.specs.Sponge.{isSponge, stateIn};
+ghost use Rattle.standard.specs.Families.{isSponge, stateIn};
 ghost use Rattle.standard.specs.Chain.{blocksOf, blockCount};
 ghost use Rattle.standard.specs.Messages.{bytes, partial};
 ghost use Rattle.standard.specs.Variants.{variant, known};

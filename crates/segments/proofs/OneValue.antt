@@ -16,7 +16,7 @@ use Rattle.answers.proofs.ByteLaws.{take-bytes, drop-bytes, append-bytes, numbe
 use Rattle.standard.specs.Values.{DifferWithin, inOneBlock}
 use Rattle.standard.proofs.CutLaws.{take-drop-take}
 use Rattle.standard.proofs.OneValue.{differ-part, differ-append, differ-behind, one-changed-row}
-use Rattle.standard.specs.Sponge.{isSponge, imageSize}
+use Rattle.standard.specs.Families.{isSponge, imageSize}
 use Rattle.standard.specs.Bits.{high-first}
 use Rattle.standard.specs.Chain.{byteBits, blocksOf, DifferAt, endState}
 use Rattle.standard.proofs.BitLaws.{length-bitsIn}

@@ -8,7 +8,7 @@ use lib.ListN.{length}
 use Rattle.answers.specs.declared.Status.{Status}
 use Rattle.answers.specs.declared.Status.the-variants.{Done}
 use Rattle.standard.specs.Grid.{tab}
-use Rattle.standard.specs.Sponge.{imageSize}
+use Rattle.standard.specs.Families.{imageSize}
 use Rattle.standard.specs.Variants.{variant}
 use Rattle.hasher.specs.declared.Wanted.the-variants.{EndState}
 use Rattle.hasher.specs.Apart.{Differ}

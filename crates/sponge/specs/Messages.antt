@@ -6,7 +6,7 @@ use mathlib.Core.List.{List, [], _∷_, _++_}
 use Prim.Native.Nat.{ℕ}
 use lib.Dec.{ltb, leb}
 use lib.ListN.{length}
-use Rattle.standard.specs.Sponge.{Variant}
+use Rattle.standard.specs.Families.{Variant}
 use Rattle.standard.specs.Messages.{Given, bytes, partial, givenBits}
 use Rattle.standard.specs.Variants.{variant, known}
 use Rattle.answers.specs.declared.Refusal.the-variants.{UnknownVariant, TooLong, BadBitNumber}

@@ -3,7 +3,7 @@
 use mathlib.Core.Bool.{Bool}
 use mathlib.Core.List.{List}
 use Prim.Native.Nat.{ℕ}
-use Rattle.standard.specs.Sponge.{Variant}
+use Rattle.standard.specs.Families.{Variant}
 use Rattle.standard.specs.Chain.{byteBits, messageBits}
 
 -- bytes all of whose bits count, or bytes of whose last one k bits count

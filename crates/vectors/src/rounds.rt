@@ -6,7 +6,7 @@ use crate::whole;
 use hasher::Wanted;
 ghost use mathlib.Core.Path.{_≡_};
 ghost use Prim.Native.Nat.{_%_, _<_, _≤_};
-ghost use Rattle.standard.specs.Spongent.{reversal};
+ghost use Rattle.standard.specs.Counters.{reversal};
 
 fn given(name: &[u8], v: usize, counter: u8, reversed: u8, state: &[u8])
     requires { ⌜ v ≤ 10 ⌝ }

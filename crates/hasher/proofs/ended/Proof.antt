@@ -4,7 +4,7 @@ use mathlib.Core.List.{[], _∷_}
 use Prim.Native.Nat.{ℕ, _*_, _/_}
 use native.Mathlib.Omega.{arith}
 use borrow.Author.Needs.{needs}
-use Rattle.standard.specs.Sponge.{stateIn}
+use Rattle.standard.specs.Families.{stateIn}
 use Rattle.standard.specs.Chain.{run}
 use Rattle.sponge.specs.Layout.{packedState}
 use Rattle.sponge.specs.Blocks.{heldThen, firstBlocks}

@@ -8,7 +8,7 @@ use native.Mathlib.Omega.{arith}
 use lib.ListN.{length}
 use borrow.Author.Tests.{not-true, not-false}
 use borrow.Author.Needs.{needs}
-use Rattle.standard.specs.Sponge.{isSponge, stateIn}
+use Rattle.standard.specs.Families.{isSponge, stateIn}
 use Rattle.standard.specs.Chain.{blocksOf}
 use Rattle.standard.specs.Variants.{variant}
 use Rattle.standard.proofs.Tests.{true-not-false}

@@ -4,9 +4,10 @@ use mathlib.Core.List.{[], _∷_, _++_}
 use Prim.Native.Nat.{ℕ, suc, _+_, _-_, _/_, _^_, _≤_, _<_}
 use native.Mathlib.Omega.{arith}
 use lib.ListN.{length, drop}
-use Rattle.standard.specs.Sponge.{unrun, stateIn}
+use Rattle.standard.specs.Families.{stateIn}
 use Rattle.standard.specs.Chain.{blocksOf}
 use Rattle.standard.specs.Variants.{variant}
+use Rattle.sponge.specs.TakenBack.{unrun}
 use Rattle.sponge.specs.Layout.{packedState}
 use Rattle.sponge.specs.Blocks.{heldThen}
 use Rattle.sponge.proofs.BlockRuns.{few-halves, block-at-ready}

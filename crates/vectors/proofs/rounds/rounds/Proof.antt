@@ -1,7 +1,7 @@
 -- `vectors::rounds::rounds` is safe and ends: the two counters stay those of a round. Assumes nothing.
 use Prim.Native.Nat.{ℕ, _-_, _≤_}
 use native.Mathlib.Omega.{arith}
-use Rattle.standard.specs.Rounds.{direction}
+use Rattle.standard.specs.ForCode.{direction}
 use Rattle.standard.proofs.Reversal.{reversal-low}
 use Rattle.spongent.specs.Parameters.{spongentOf}
 use Rattle.spongent.proofs.ParametersOf.{sizes-of, sound-of, tabled}
