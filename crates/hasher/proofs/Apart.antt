@@ -103,11 +103,11 @@ module _ (v : ℕ) (k : known v ≡ true) (x y : Given) (fits : Fits x) (fits′
 
 pub row-told : RowTold
 row-told v k q x y fits fits′ few few′ i d =
-    ends-tell v k x y fits fits′ few few′ (one-changed-row v k q i (givenBits (variant v) x) (givenBits (variant v) y) d)
+    ends-tell v k x y fits fits′ few few′ (one-changed-row v q i (givenBits (variant v) x) (givenBits (variant v) y) d)
 
 pub block-told : BlockTold
 block-told v k q x y fits fits′ few j d =
-    ends-tell v k x y fits fits′ few (omega (arith, d .size)) (one-changed-part v k q j (givenBits (variant v) x) (givenBits (variant v) y) d)
+    ends-tell v k x y fits fits′ few (omega (arith, d .size)) (one-changed-part v q j (givenBits (variant v) x) (givenBits (variant v) y) d)
 
 pub value-told : ValueTold
 value-told v k q x y few hx hy p n d o =

@@ -8,8 +8,7 @@ use Prim.Native.Nat.{ℕ, suc, _+_, _*_, _≤_}
 use native.Mathlib.Omega.{arith}
 use lib.ListN.{length}
 use Rattle.standard.specs.Bits.{high-first}
-use Rattle.standard.specs.Chain.{byteBits}
-use Rattle.standard.specs.Messages.{bytes}
+use Rattle.standard.specs.Messages.{byteBits, bytes}
 use Rattle.standard.proofs.BitLaws.{length-bitsIn}
 use Rattle.answers.specs.declared.Status.the-variants.{Done}
 use Rattle.answers.specs.Checks.{firstRefusal}

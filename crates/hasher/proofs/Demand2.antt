@@ -11,8 +11,8 @@ use lib.ListN.{length, take, drop, length-append}
 use borrow.Author.Tests.{eqb-true, eq-eqb}
 use Rattle.standard.specs.Bits.{high-first, bitsIn}
 use Rattle.standard.specs.Families.{Variant}
-use Rattle.standard.specs.Chain.{byteBits, endState, digestOf}
-use Rattle.standard.specs.Messages.{Given, bytes, givenBits}
+use Rattle.standard.specs.Chain.{endState, digestOf}
+use Rattle.standard.specs.Messages.{byteBits, Given, bytes, givenBits}
 use Rattle.standard.specs.Variants.{variant, known}
 use Rattle.standard.proofs.BitLaws.{length-bitsIn, bitsIn-append}
 use Rattle.standard.proofs.Tests.{lt-or-le, either}

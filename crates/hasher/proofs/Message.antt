@@ -10,8 +10,8 @@ use lib.ListN.{length, drop}
 use borrow.Author.Tests.{le-ltb}
 use Rattle.standard.specs.Bits.{high-first}
 use Rattle.standard.specs.Families.{Variant}
-use Rattle.standard.specs.Chain.{startState, byteBits, padding, wholeBlocks, restOf, run, endState}
-use Rattle.standard.specs.Messages.{Given, bytes, givenBits}
+use Rattle.standard.specs.Chain.{startState, padding, wholeBlocks, restOf, run, endState}
+use Rattle.standard.specs.Messages.{byteBits, Given, bytes, givenBits}
 use Rattle.standard.specs.Variants.{variant, known}
 use Rattle.standard.proofs.BitLaws.{length-bitsIn}
 use Rattle.standard.proofs.Streaming.{Streams, end-parts}

@@ -10,7 +10,8 @@ use lib.ListN.{length, length-append}
 use borrow.Author.Tests.{eqb-true, eq-eqb}
 use Rattle.standard.specs.Bits.{high-first, bitsIn, unpack}
 use Rattle.standard.specs.Families.{Variant, order}
-use Rattle.standard.specs.Chain.{byteBits, padding, wholeBlocks, restOf, run}
+use Rattle.standard.specs.Chain.{padding, wholeBlocks, restOf, run}
+use Rattle.standard.specs.Messages.{byteBits}
 use Rattle.standard.specs.Variants.{known}
 use Rattle.standard.proofs.BitLaws.{length-pack, unpack-pack, length-bitsIn, bitsIn-append}
 use Rattle.standard.proofs.Streaming.{Streams, run-append, run-none, run-length, length-rest, whole-append, rest-append, whole-short, rest-short}

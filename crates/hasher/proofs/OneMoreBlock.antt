@@ -12,8 +12,8 @@ use Rattle.answers.specs.declared.Status.the-variants.{Done}
 use Rattle.answers.specs.Outputs.{whenDone}
 use Rattle.standard.specs.Bits.{high-first, pack}
 use Rattle.standard.specs.Families.{Variant}
-use Rattle.standard.specs.Chain.{byteBits, step, run}
-use Rattle.standard.specs.Messages.{bytes}
+use Rattle.standard.specs.Chain.{step, run}
+use Rattle.standard.specs.Messages.{byteBits, bytes}
 use Rattle.standard.proofs.BitLaws.{length-bitsIn, pack-bitsIn}
 use Rattle.standard.proofs.Streaming.{whole-one, run-one, run-none}
 use Rattle.standard.proofs.Variants.{streams, blocks-tell}

@@ -9,7 +9,7 @@ use lib.ListN.{length, take, drop, replicate}
 use lib.Seq.{take-at, drop-at}
 use Rattle.standard.specs.Bits.{high-first, bitsOf, bitsIn, unpack}
 use Rattle.standard.specs.Families.{Variant}
-use Rattle.standard.specs.Chain.{byteBits, countedOf, messageBits}
+use Rattle.standard.specs.Messages.{byteBits, countedOf, messageBits}
 use Rattle.standard.specs.PartBytes.{beforeLast, lastOf}
 use Rattle.standard.proofs.BitLaws.{length-bitsIn, bitsIn-append, bitsIn-zeros}
 use Rattle.standard.proofs.PartBytes.{front-size, bits-are, bits-length}

@@ -8,8 +8,7 @@ use Prim.Native.Nat.{ℕ, _+_, _*_, _≤_, _<_}
 use native.Mathlib.Omega.{arith}
 use lib.ListN.{length, length-append}
 use Rattle.standard.specs.Bits.{high-first}
-use Rattle.standard.specs.Chain.{byteBits}
-use Rattle.standard.specs.Messages.{Given, bytes, givenBits}
+use Rattle.standard.specs.Messages.{byteBits, Given, bytes, givenBits}
 use Rattle.standard.proofs.BitLaws.{length-bitsIn, bitsIn-append}
 use Rattle.answers.specs.declared.Status.the-variants.{Done}
 use Rattle.answers.specs.Outputs.{mostBits}

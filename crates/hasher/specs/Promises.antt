@@ -6,8 +6,8 @@ use mathlib.Core.List.{List, _++_}
 use Prim.Native.Nat.{ℕ, _+_, _*_, _≤_, _<_}
 use lib.ListN.{length, drop, getD}
 use Rattle.standard.specs.Families.{isSponge}
-use Rattle.standard.specs.Chain.{byteBits, blocksOf, DifferAt, digestOf}
-use Rattle.standard.specs.Messages.{Given, bytes, givenBits}
+use Rattle.standard.specs.Chain.{blocksOf, DifferAt, digestOf}
+use Rattle.standard.specs.Messages.{byteBits, Given, bytes, givenBits}
 use Rattle.standard.specs.Variants.{variant, known}
 use Rattle.standard.specs.Values.{DifferWithin, inOneBlock}
 use Rattle.answers.specs.declared.Status.the-variants.{Done}

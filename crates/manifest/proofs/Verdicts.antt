@@ -10,8 +10,8 @@ use lib.Dec.{eqb}
 use lib.ListN.{length, drop, replicate, length-drop, take-append-drop}
 use lib.Seq.{length-take-le}
 use borrow.Author.Tests.{le-leb, lt-leb, ltb-true, eqb-true}
-use Rattle.standard.specs.Chain.{byteBits, digestOf, endState}
-use Rattle.standard.specs.Messages.{bytes}
+use Rattle.standard.specs.Chain.{digestOf, endState}
+use Rattle.standard.specs.Messages.{byteBits, bytes}
 use Rattle.standard.specs.Variants.{variant, known}
 use Rattle.standard.proofs.Tests.{and-true, lt-or-le}
 use Rattle.standard.proofs.Variants.{bounds}

@@ -7,7 +7,8 @@ use Prim.Native.Nat.{ℕ}
 use lib.Dec.{eqb, ltb, leb}
 use lib.ListN.{length}
 use Rattle.answers.specs.Outputs.{most}
-use Rattle.standard.specs.Chain.{byteBits, digestOf}
+use Rattle.standard.specs.Chain.{digestOf}
+use Rattle.standard.specs.Messages.{byteBits}
 use Rattle.standard.specs.Variants.{variant, known}
 use Rattle.manifest.specs.declared.report.Summary.{Summary}
 use Rattle.manifest.specs.Lists.{howMany, same}

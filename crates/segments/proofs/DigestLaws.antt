@@ -17,7 +17,8 @@ use Rattle.answers.specs.Numbers.{inBytes}
 use Rattle.answers.specs.Outputs.{written, most, mostBits}
 use Rattle.answers.proofs.Statuses.{not-done}
 use Rattle.answers.proofs.Rows.{passed-all, passing-says, row-first, row-second, row-both}
-use Rattle.standard.specs.Chain.{byteBits, endState}
+use Rattle.standard.specs.Chain.{endState}
+use Rattle.standard.specs.Messages.{byteBits, bytes}
 use Rattle.standard.specs.Variants.{variant, known}
 use Rattle.hasher.specs.declared.Hasher.{Hasher}
 use Rattle.hasher.specs.declared.Advanced.{Advanced}
@@ -29,7 +30,6 @@ use Rattle.hasher.proofs.Calls.{start-done, Hashable, whole-says, update-done}
 use Rattle.hasher.proofs.Message.{fresh-sized, fresh-open, fresh-whole, calls-read}
 use Rattle.hasher.proofs.UpdateAppend.{update-twice}
 use Rattle.standard.specs.Bits.{high-first, bitsIn}
-use Rattle.standard.specs.Messages.{bytes}
 use Rattle.standard.proofs.BitLaws.{length-bitsIn}
 use Rattle.sponge.specs.declared.parts.Ending.the-variants.{Whole}
 use Rattle.sponge.proofs.PartBytes.{given-limit}

@@ -18,9 +18,9 @@ use Rattle.standard.proofs.CutLaws.{take-drop-take}
 use Rattle.standard.proofs.OneValue.{differ-part, differ-append, differ-behind, one-changed-row}
 use Rattle.standard.specs.Families.{isSponge, imageSize}
 use Rattle.standard.specs.Bits.{high-first}
-use Rattle.standard.specs.Chain.{byteBits, blocksOf, DifferAt, endState}
+use Rattle.standard.specs.Chain.{blocksOf, DifferAt, endState}
+use Rattle.standard.specs.Messages.{byteBits, bytes}
 use Rattle.standard.proofs.BitLaws.{length-bitsIn}
-use Rattle.standard.specs.Messages.{bytes}
 use Rattle.standard.specs.Variants.{variant}
 use Rattle.hasher.specs.declared.Wanted.the-variants.{EndState}
 use Rattle.hasher.specs.Apart.{Differ, ToldApart}
@@ -202,7 +202,7 @@ module _ (v : ℕ) (list x out list′ y out′ : List ℕ) (dx : listStatus v l
 pub list-row-told : ListRowTold
 list-row-told v list x out list′ y out′ dx dy q i d =
     let named = ax v list x out list′ y out′ dx dy .message .asked .named in (
-      one-changed-row v named q i (byteBits (messageOf list x)) (byteBits (messageOf list′ y)) d,
+      one-changed-row v q i (byteBits (messageOf list x)) (byteBits (messageOf list′ y)) d,
       lists-told v list x out list′ y out′ dx dy
           (row-told v named q (bytes (messageOf list x)) (bytes (messageOf list′ y)) refl refl (ax v list x out list′ y out′ dx dy .message .asked .few) (ay v list x out list′ y out′ dx dy .message .asked .few) i d),
     )

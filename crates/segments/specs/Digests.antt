@@ -8,7 +8,8 @@ use Rattle.answers.specs.declared.Refusal.the-variants.{UnknownVariant, TooLong
 use Rattle.answers.specs.declared.Status.{Status}
 use Rattle.answers.specs.Checks.{Check, unless, when, firstRefusal}
 use Rattle.answers.specs.Outputs.{written, most}
-use Rattle.standard.specs.Chain.{byteBits, endState}
+use Rattle.standard.specs.Chain.{endState}
+use Rattle.standard.specs.Messages.{byteBits}
 use Rattle.standard.specs.Variants.{variant, known}
 use Rattle.hasher.specs.declared.Wanted.{Wanted}
 use Rattle.hasher.specs.Reading.{resultOf, roomChecks}

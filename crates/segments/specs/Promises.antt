@@ -10,7 +10,8 @@ use Rattle.answers.specs.declared.Refusal.{Refusal}
 use Rattle.answers.specs.declared.Status.the-variants.{Done, Refused}
 use Rattle.answers.specs.Numbers.{Bytes}
 use Rattle.answers.specs.Refusals.{entry}
-use Rattle.standard.specs.Chain.{byteBits, blocksOf, DifferAt, endState}
+use Rattle.standard.specs.Chain.{blocksOf, DifferAt, endState}
+use Rattle.standard.specs.Messages.{byteBits}
 use Rattle.standard.specs.Families.{isSponge}
 use Rattle.standard.specs.Values.{DifferWithin, inOneBlock}
 use Rattle.standard.specs.Variants.{variant}

@@ -20,8 +20,7 @@ use Rattle.answers.specs.Outputs.{whenDone, most, mostBits}
 use Rattle.answers.proofs.Rows.{passing-says, row-append, row-second, row-both}
 use Rattle.standard.specs.Bits.{high-first, lowBits, ordered, bitsOf, bitsIn, unpack}
 use Rattle.standard.specs.Families.{Variant}
-use Rattle.standard.specs.Chain.{byteBits, countedOf, messageBits}
-use Rattle.standard.specs.Messages.{Given, bytes, partial, givenBits}
+use Rattle.standard.specs.Messages.{byteBits, countedOf, messageBits, Given, bytes, partial, givenBits}
 use Rattle.standard.specs.PartBytes.{beforeLast, lastOf}
 use Rattle.standard.specs.Variants.{variant, known}
 use Rattle.standard.proofs.Tests.{and-true, either, one-to-five, six-to-ten}

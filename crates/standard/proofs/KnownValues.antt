@@ -11,7 +11,8 @@ use Rattle.standard.specs.Photon.{addConstants, subCells, shiftRows, ser
 use Rattle.standard.specs.Spongent.{tapped, nextCounter, counters, lCounters, goesTo}
 use Rattle.standard.specs.Lesamnta.{subBytes, mixColumn, wordQ, bytesR, wordG, shifted, generated, lesamntaPadding, fourWords, bitsOfWords, feistel, mixing, scheduled, roundKeys, cipher, lesamntaStart, lesamntaStep}
 use Rattle.standard.specs.Sponge.{permutation, spongePadding, outputBlocks, squeezed}
-use Rattle.standard.specs.Chain.{startState, messageBits, padding, padded, wholeBlocks, blocksOf, step, run, endState, digestOf}
+use Rattle.standard.specs.Chain.{startState, padding, padded, wholeBlocks, blocksOf, step, run, endState, digestOf}
+use Rattle.standard.specs.Messages.{messageBits}
 use Rattle.standard.specs.Variants.{variant}
 use Rattle.standard.specs.LowestFreeBit.{lowestFreeBit}
 use Rattle.standard.specs.KnownValues.{Row, AllHold}

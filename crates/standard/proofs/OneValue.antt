@@ -13,7 +13,8 @@ use lib.Seq.{take-all, take-length, take-append-le, drop-append-le, drop-append-
 use borrow.Author.Tests.{leb-true, eqb-true}
 use Rattle.standard.specs.Bits.{high-first, pack}
 use Rattle.standard.specs.Families.{Variant, isSponge}
-use Rattle.standard.specs.Chain.{startState, byteBits, padding, padded, wholeBlocks, blocksOf, DifferAt, endState}
+use Rattle.standard.specs.Chain.{startState, padding, padded, wholeBlocks, blocksOf, DifferAt, endState}
+use Rattle.standard.specs.Messages.{byteBits}
 use Rattle.standard.specs.Variants.{variants, variant, known}
 use Rattle.standard.specs.Values.{DifferWithin, inOneBlock, period, offsets, oneBlockOffsets}
 use Rattle.standard.proofs.Tests.{lt-or-le, either}

@@ -11,7 +11,8 @@ use lib.Seq.{take-at, drop-at, split-at, length-take-le}
 use lib.Pow.{pow-pos, shr-lt}
 use Rattle.standard.specs.Bits.{high-first, bitsOf, valueOf, bitsIn, pack}
 use Rattle.standard.specs.Families.{photon, spongent, Family, sponge, lesamnta, Variant, isSponge}
-use Rattle.standard.specs.Chain.{byteBits, countedOf, messageBits, blocksOf}
+use Rattle.standard.specs.Chain.{blocksOf}
+use Rattle.standard.specs.Messages.{byteBits, countedOf, messageBits}
 use Rattle.standard.specs.PartBytes.{beforeLast, lastOf, SameMessage}
 use Rattle.standard.specs.Variants.{variant, known}
 use Rattle.standard.proofs.BitLaws.{length-bitsOf, length-bitsIn, bitsIn-append, pack-bitsIn, valueOf-bitsOf}

@@ -15,7 +15,8 @@ use Rattle.standard.specs.Bits.{high-first, turned}
 use Rattle.standard.specs.Rounds.{Direction, forward, opposite}
 use Rattle.standard.specs.Sponge.{permutation, outputCount, outputBlocks, squeezed}
 use Rattle.standard.specs.Families.{Permutation, photon, spongent, Family, sponge, lesamnta, Variant, spongeOf, isSponge, bitOrder, order, imageSize}
-use Rattle.standard.specs.Chain.{byteBits, startOf, startState, padding, padded, blocksOf, blockCount, step, givenOut}
+use Rattle.standard.specs.Chain.{startOf, startState, padding, padded, blocksOf, blockCount, step, givenOut}
+use Rattle.standard.specs.Messages.{byteBits}
 use Rattle.standard.specs.Spongent.{SpongentParameters}
 use Rattle.standard.specs.Lesamnta.{lesamntaPadding}
 use Rattle.standard.specs.Variants.{none, variants, variant, known}

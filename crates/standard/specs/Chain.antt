@@ -1,34 +1,16 @@
 -- From a message to its end state and digest, for every family: start, padding, blocks, a step for each block, and what is given out.
 -- What differs between families is by cases on `Family`, a line for the sponges and a line for Lesamnta-LW.
--- A message is a bit string. A message of whole bytes is the case `byteBits`, one that may end inside a byte the case `messageBits`.
+-- A message is a bit string; `Messages` has what a caller gives for one.
 -- Assumes nothing.
 use mathlib.Core.Path.{_≡_}
 use mathlib.Core.Bool.{Bool}
 use mathlib.Core.List.{List, [], _∷_, _++_, foldl}
-use Prim.Native.Nat.{ℕ, _+_, _-_, _*_, _/_, _%_, _^_, _<_}
+use Prim.Native.Nat.{ℕ, _+_, _*_, _/_, _<_}
 use lib.ListN.{length, getD, drop}
-use Rattle.standard.specs.Bits.{high-first, bitsOf, bitsIn, pack, cut}
+use Rattle.standard.specs.Bits.{high-first, pack, cut}
 use Rattle.standard.specs.Lesamnta.{lesamntaStart, lesamntaPadding, lesamntaStep}
-use Rattle.standard.specs.Families.{photon, spongent, Family, sponge, lesamnta, Variant}
+use Rattle.standard.specs.Families.{Family, sponge, lesamnta, Variant}
 use Rattle.standard.specs.Sponge.{spongeStart, spongePadding, spongeStep, squeezed}
-
--- the bits of whole bytes, each byte from its most significant bit on (5.2.3, note; for SPONGENT by Annex B.2; 6.2.1)
-abbrev pub byteBits : List ℕ → List Bool
-byteBits bytes = bitsIn high-first bytes
-
--- document 02, Q-6 and Q-7: the number that the k counting bits of a byte make, SPONGENT's k low ones and the k high ones of PHOTON and Lesamnta-LW
-abbrev pub countedOf : Family → ℕ → ℕ → ℕ
-countedOf (sponge (photon p) r′) k b = b / 2 ^ (8 - k)
-countedOf (sponge (spongent p) r′) k b = b % 2 ^ k
-countedOf lesamnta k b = b / 2 ^ (8 - k)
-
--- The bits of a message of bytes of whose last one k bits count: they join the bit string from the highest of them on, so that eight are the whole byte, and the
--- padding's 1 follows them there. SPONGENT's low bits cannot stay in place with the 1 above them: whole bytes are followed by 80 (docs/DECISIONS.md, D-1), which
--- seven 0 bits and a 1 above them would be too (D-22).
-unfoldable pub messageBits : Variant → List ℕ → ℕ → List Bool
-messageBits H [] k = []
-messageBits H (b ∷ []) k = bitsOf high-first k (countedOf (H .family) k b)
-messageBits H (b ∷ c ∷ bs) k = bitsOf high-first 8 b ++ messageBits H (c ∷ bs) k
 
 -- ---- padding
 

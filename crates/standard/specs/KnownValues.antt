@@ -11,7 +11,8 @@ use Rattle.standard.specs.Field.{mul}
 use Rattle.standard.specs.Photon.{serial, aes}
 use Rattle.standard.specs.Spongent.{lCounters, goesTo}
 use Rattle.standard.specs.Lesamnta.{wordQ, wordG, cipherConstants}
-use Rattle.standard.specs.Chain.{byteBits, messageBits, blocksOf, startState, givenOut, digestOf}
+use Rattle.standard.specs.Chain.{blocksOf, startState, givenOut, digestOf}
+use Rattle.standard.specs.Messages.{byteBits, messageBits}
 use Rattle.standard.specs.Variants.{variant, photon100, spongent88}
 use Rattle.standard.specs.LowestFreeBit.{lowestFreeBit}
 

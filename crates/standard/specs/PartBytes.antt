@@ -5,7 +5,7 @@ use mathlib.Core.List.{List}
 use Prim.Native.Nat.{ℕ, _-_}
 use lib.ListN.{length, take, getD}
 use Rattle.standard.specs.Families.{Variant}
-use Rattle.standard.specs.Chain.{countedOf}
+use Rattle.standard.specs.Messages.{countedOf}
 
 -- the bytes before the last one, and the last
 abbrev pub beforeLast : List ℕ → List ℕ

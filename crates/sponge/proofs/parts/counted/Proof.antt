@@ -3,7 +3,7 @@ use mathlib.Core.Path.{_≡_, sym, ap, _∙_, subst}
 use Prim.Native.Nat.{ℕ, _%_, _^_, _<_}
 use native.Mathlib.Omega.{arith}
 use borrow.Author.Needs.{needs}
-use Rattle.standard.specs.Chain.{countedOf}
+use Rattle.standard.specs.Messages.{countedOf}
 use Rattle.standard.specs.Variants.{variant}
 use Rattle.standard.proofs.PartBytes.{counted-lt}
 use Rattle.standard.proofs.Variants.{known-low, known-high}

@@ -7,8 +7,7 @@ use native.Mathlib.Omega.{arith}
 use lib.ListN.{length, take, replicate}
 use borrow.Author.Needs.{needs}
 use Rattle.standard.specs.Bits.{high-first, bitsOf}
-use Rattle.standard.specs.Chain.{messageBits}
-use Rattle.standard.specs.Messages.{givenBits}
+use Rattle.standard.specs.Messages.{messageBits, givenBits}
 use Rattle.standard.specs.Variants.{variant}
 use Rattle.standard.proofs.BitLaws.{length-bitsIn}
 use Rattle.standard.proofs.PartBytes.{bits-eight, bits-length}
