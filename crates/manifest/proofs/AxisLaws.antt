@@ -1,4 +1,5 @@
--- What a manifest holds of an axis, and its axes counted: where the numbers rise, those that it holds are as many as the records, whatever is asked of them besides.
+-- What a manifest holds of an axis, and its axes counted: where the numbers rise, those that it holds are as many as the
+-- records, whatever is asked of them besides.
 -- Assumes nothing.
 use mathlib.Core.Path.{_≡_, refl, sym, ap, ap₂, _∙_}
 use mathlib.Core.Bool.{Bool, true, false, not, _&&_}
@@ -30,12 +31,14 @@ module _ (list : List ℕ) (axis : ℕ) where
   pub held-there : isListed list axis ≡ true → held list axis ≡ some (expectedAt list (recordFor list axis))
   unfolding held isListed recordFor
   held-there e =
-      ap (Option·map (expectedAt list)) (first-found (recordCount list) (λ k. eqb (axisAt list k) axis) (ltb-true (recordFor list axis) (recordCount list) e))
+      ap (Option·map (expectedAt list))
+      (first-found (recordCount list) (λ k. eqb (axisAt list k) axis) (ltb-true (recordFor list axis) (recordCount list) e))
 
   pub held-none : isListed list axis ≡ false → held list axis ≡ none
   unfolding held isListed recordFor
   held-none e =
-      ap (Option·map (expectedAt list)) (first-none (recordCount list) (λ k. eqb (axisAt list k) axis) (ltb-false (recordFor list axis) (recordCount list) e))
+      ap (Option·map (expectedAt list))
+      (first-none (recordCount list) (λ k. eqb (axisAt list k) axis) (ltb-false (recordFor list axis) (recordCount list) e))
 
 module _ (list : List ℕ) (rising : Rising list) where
   -- ---- places
@@ -94,7 +97,8 @@ module _ (list : List ℕ) (rising : Rising list) where
         (λ (e : isListed list axis ≡ true).
         let r : ℕ = recordFor list axis in
         let next : suc r ≡ k = omega (arith, place-next axis k p e) in
-        let here : heldWith axis ≡ q (axisAt list r) = ap (λ (o : Option Expected). isThere o && q axis) (held-there list axis e) ∙ ap q (sym (listed-record list axis e .1)) in
+        let here : heldWith axis ≡ q (axisAt list r) =
+        ap (λ (o : Option Expected). isThere o && q axis) (held-there list axis e) ∙ ap q (sym (listed-record list axis e .1)) in
         count-suc heldWith axis
         ∙ ap₂ _+_ (axes-below axis r (place-own axis e)) (ap digit here)
         ∙ sym (count-suc (λ j. q (axisAt list j)) r)
@@ -112,7 +116,8 @@ module _ (list : List ℕ) (rising : Rising list) where
     place-last = record { within = omega arith; lower = λ j h. axis-below list j h hb; others = λ j h l. absurd (omega arith) }
 
     -- of all axis numbers, as many are held with a property as records have one with it
-    axes-counted : (q : ℕ → Bool) → howMany (λ axis. isThere (held list axis) && q axis) allAxes ≡ countBelow (λ j. q (axisAt list j)) (recordCount list)
+    pub axes-counted : (q : ℕ → Bool)
+        → howMany (λ axis. isThere (held list axis) && q axis) allAxes ≡ countBelow (λ j. q (axisAt list j)) (recordCount list)
     unfolding allAxes
     axes-counted q = axes-below q axisNumbers (recordCount list) place-last
 
@@ -120,10 +125,12 @@ module _ (list : List ℕ) (rising : Rising list) where
     pub listed-records : axisCount (held list) ≡ recordCount list
     unfolding axisCount allAxes
     listed-records =
-        count-same (λ axis. isThere (held list axis)) (λ axis. isThere (held list axis) && true) axisNumbers (λ axis _. sym (and-yes (isThere (held list axis))))
+        count-same (λ axis. isThere (held list axis)) (λ axis. isThere (held list axis) && true) axisNumbers
+        (λ axis _. sym (and-yes (isThere (held list axis))))
         ∙ axes-below (λ axis. true) axisNumbers (recordCount list) place-last
         ∙ count-below (recordCount list)
 
-    pub untold-records : (ts : List Table) → untold (held list) ts ≡ countBelow (λ k. not (isTold ts (axisAt list k))) (recordCount list)
+    pub untold-records : (ts : List Table)
+        → untold (held list) ts ≡ countBelow (λ k. not (isTold ts (axisAt list k))) (recordCount list)
     unfolding untold
     untold-records ts = axes-counted (λ axis. not (isTold ts axis))

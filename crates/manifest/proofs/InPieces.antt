@@ -1,7 +1,7 @@
--- For every manifest that passes and every cutting of a stream into pieces, the counts of the report are those of the installation that the manifest holds and of the
--- stream's bytes.
+-- For every manifest that passes and every cutting of a stream into pieces, the counts of the report are those of the
+-- installation that the manifest holds and of the stream's bytes.
 -- Assumes nothing.
-use mathlib.Core.Path.{_≡_, refl, sym, ap, subst, _∙_}
+use mathlib.Core.Path.{_≡_, refl, sym, ap, _∙_}
 use mathlib.Core.Bool.{Bool, true, false, cond, _&&_}
 use mathlib.Core.List.{List, [], _∷_, _++_, foldl, foldl-append, append-assoc, append-nil}
 use mathlib.Core.Logic.{⊎-elim}
@@ -46,11 +46,21 @@ reportOf list ts s = reportWith true (tallyOf list ts) (reading list s)
 
 -- the counts of a tally
 abbrev countsIn : Tally → Summary
-countsIn y = record { listed = y .listed; tables = tallied y; equal = y .equal; unequal = y .unequal; untold = y .untold; unlisted = y .unlisted }
+countsIn y =
+    record {
+      listed = y .listed;
+      tables = tallied y;
+      equal = y .equal;
+      unequal = y .unequal;
+      untold = y .untold;
+      unlisted = y .unlisted;
+    }
 
 -- no more records await a table than there are
 fewer-await : (list : List ℕ) (ts : List Table) → countBelow (awaits list ts) (recordCount list) ≤ recordCount list
-fewer-await list ts = subst (λ (n : ℕ). countBelow (awaits list ts) (recordCount list) ≤ n) (length-tab (recordCount list) (λ k. k)) (count-most (awaits list ts) (tab (recordCount list) (λ k. k)))
+fewer-await list ts =
+    let n : ℕ = recordCount list in
+    omega (arith, count-most (awaits list ts) (tab n (λ k. k)), length-tab n (λ k. k))
 
 -- the axis that a header names
 header-axis : (s : List ℕ) → axisIn (take 6 s) ≡ axisIn s
@@ -83,7 +93,8 @@ module _ (list : List ℕ) (passes : manifestStatus list ≡ Done) where
   module _ (ts : List Table) (s : List ℕ) (whole : isWhole s ≡ true) (ends : length s ≡ spanOf s) where
     -- the running hash gives the verdict on the table
     judged : isListed list (axisIn s) ≡ true
-        → matches list (recordFor list (axisIn s)) (pastHeader list s .hasher) ≡ isExpected (expectedAt list (recordFor list (axisIn s))) (firstTable s .contents)
+        → matches list (recordFor list (axisIn s)) (pastHeader list s .hasher)
+        ≡ isExpected (expectedAt list (recordFor list (axisIn s))) (firstTable s .contents)
     judged is =
         let c = contents-left s ends in
         ap (λ (n : ℕ). matches list (recordFor list (axisIn s)) (foldl withByte (started (hashedUnder list (axisIn s) n) .hasher) (drop 6 s))) (sym (c .0))
@@ -178,8 +189,7 @@ module _ (list : List ℕ) (passes : manifestStatus list ≡ Done) where
   unfolding countsOver countsSoFar
   counts-tally pieces = ap countsIn (reported-tally pieces)
 
--- For every manifest that passes and every stream, cut into pieces anywhere: a report that is begun with the manifest and takes each piece in turn comes to
--- the counts that are defined from the installation that the manifest holds and the bytes of the stream.
+-- A report in pieces comes to the counts of the installation that the manifest holds and of the stream.
 pub in-pieces : ReportCounts
 unfolding countsOf tallyOf
 in-pieces list hb passes pieces =
@@ -188,8 +198,7 @@ in-pieces list hb passes pieces =
     counts-tally list passes pieces
     ∙ rw (each-counts-once (held list) ts, listed-records list r hb, untold-records list r hb ts)
 
--- Of the counts that a caller finds: equal, unequal and unlisted tables are all that were looked at, those are no more than 65,535, and no more axes are
--- untold than are listed.
+-- What the counts that a caller finds say of one another.
 pub counts-in-pieces : CountsInPieces
 unfolding tallyOf
 counts-in-pieces list passes pieces =
@@ -200,12 +209,15 @@ counts-in-pieces list passes pieces =
 -- Where the stream is cut makes no difference.
 pub cut-anywhere : CutAnywhere
 cut-anywhere list passes xs ys e =
-    counts-tally list passes xs ∙ ap (λ (stream : List ℕ). countsIn (tallyOf list (tablesIn stream))) e ∙ sym (counts-tally list passes ys)
+    counts-tally list passes xs
+    ∙ ap (λ (stream : List ℕ). countsIn (tallyOf list (tablesIn stream))) e
+    ∙ sym (counts-tally list passes ys)
 
 -- After a beginning that was refused the report stays that of nothing.
 pub nothing-read : (list : List ℕ) → (manifestStatus list ≡ Done → ⊥) → (pieces : List (List ℕ)) → reported list pieces ≡ empty
 unfolding reported begun
-nothing-read list n pieces = ap (λ (r : Report). foldl (pieceTaken list) r pieces) (kept (manifestStatus list) (freshReport list) empty n) ∙ stays pieces
+nothing-read list n pieces =
+    ap (λ (r : Report). foldl (pieceTaken list) r pieces) (kept (manifestStatus list) (freshReport list) empty n) ∙ stays pieces
   where
     stays : (ps : List (List ℕ)) → foldl (pieceTaken list) empty ps ≡ empty
     stays [] = refl

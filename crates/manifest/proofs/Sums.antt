@@ -1,4 +1,5 @@
--- What the counts of a report say of one another, for every map from axis numbers and every stream; and two rows of bytes that are the same are equal.
+-- What the counts of a report say of one another, for every map from axis numbers and every stream; and two rows of bytes that
+-- are the same are equal.
 -- Assumes nothing.
 use mathlib.Core.Path.{_≡_, refl, ap₂}
 use mathlib.Core.Bool.{Bool, true, false, cond, false≢true}
@@ -41,11 +42,14 @@ one-of-three unequal = refl
 one-of-three unlisted = refl
 
 -- every table counts once
-pub each-counts-once : (axes : Axes) (ts : List Table) → judged equal axes ts + judged unequal axes ts + judged unlisted axes ts ≡ length ts
+pub each-counts-once : (axes : Axes) (ts : List Table)
+    → judged equal axes ts + judged unequal axes ts + judged unlisted axes ts ≡ length ts
 unfolding judged
 each-counts-once axes =
-    count-three (λ t. sameVerdict equal (verdictOf axes t)) (λ t. sameVerdict unequal (verdictOf axes t)) (λ t. sameVerdict unlisted (verdictOf axes t))
-    (λ t. one-of-three (verdictOf axes t))
+    count-three (has equal) (has unequal) (has unlisted) (λ t. one-of-three (verdictOf axes t))
+  where
+    has : Verdict → Table → Bool
+    has v t = sameVerdict v (verdictOf axes t)
 
 -- No table is what is expected under a variant that is not known.
 pub unknown-expects-none : (e : Expected) (contents : List ℕ) → known (e .variant) ≡ false → isExpected e contents ≡ false

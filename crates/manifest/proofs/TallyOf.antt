@@ -92,14 +92,13 @@ set-tab (suc n) f g (suc i) a e h = ap₂ _∷_ (sym (h 0 (λ q. omega arith))) 
 
 -- ---- verdicts
 
--- one table more
-judged-snoc : (v : Verdict) (axes : Axes) (ts : List Table) (t : Table) → judged v axes (ts ++ t ∷ []) ≡ judged v axes ts + digit (sameVerdict v (verdictOf axes t))
+-- one table more, which has verdict w
+judged-more : (v : Verdict) (axes : Axes) (ts : List Table) (t : Table) (w : Verdict) {b : Bool} → verdictOf axes t ≡ w → sameVerdict v w ≡ b
+    → judged v axes (ts ++ t ∷ []) ≡ judged v axes ts + digit b
 unfolding judged
-judged-snoc v axes ts t = count-snoc (λ u. sameVerdict v (verdictOf axes u)) ts t
-
--- of this verdict, or of none of the others
-judged-more : (v : Verdict) (axes : Axes) (ts : List Table) (t : Table) {w : Verdict} → verdictOf axes t ≡ w → judged v axes (ts ++ t ∷ []) ≡ judged v axes ts + digit (sameVerdict v w)
-judged-more v axes ts t e = judged-snoc v axes ts t ∙ ap (λ (w : Verdict). judged v axes ts + digit (sameVerdict v w)) e
+judged-more v axes ts t w e s =
+    count-snoc (λ u. sameVerdict v (verdictOf axes u)) ts t
+    ∙ ap (λ (c : Bool). howMany (λ u. sameVerdict v (verdictOf axes u)) ts + digit c) (ap (sameVerdict v) e ∙ s)
 
 -- expected or not
 is-equal : (b : Bool) → sameVerdict equal (cond b equal unequal) ≡ b
@@ -149,9 +148,9 @@ module _ (list : List ℕ) (rising : Rising list) (ts : List Table) (t : Table) 
         sym
         (parts-same list
         (count-same (awaits list (ts ++ t ∷ [])) (awaits list ts) (recordCount list) as-before)
-        (judged-more equal (held list) ts t on-no-axis ∙ omega arith)
-        (judged-more unequal (held list) ts t on-no-axis ∙ omega arith)
-        (judged-more unlisted (held list) ts t on-no-axis)
+        (judged-more equal (held list) ts t unlisted on-no-axis refl ∙ omega arith)
+        (judged-more unequal (held list) ts t unlisted on-no-axis refl ∙ omega arith)
+        (judged-more unlisted (held list) ts t unlisted on-no-axis refl)
         (tab-cong 512 _ _ (λ i _. kept-alike list (awaits list (ts ++ t ∷ [])) (awaits list ts) i (as-before i))))
 
   -- ---- of a listed axis
@@ -187,14 +186,15 @@ module _ (list : List ℕ) (rising : Rising list) (ts : List Table) (t : Table) 
     on-its-axis = ap (λ (o : Option Expected). verdictBy o (t .contents)) (held-there list (t .axis) is)
 
     -- The tally of the tables and this one: one more equal or unequal.
-    pub listed-told : withListed (tallyOf list ts) (recordFor list (t .axis)) (isExpected (expectedAt list (recordFor list (t .axis))) (t .contents)) ≡ tallyOf list (ts ++ t ∷ [])
+    pub listed-told : withListed (tallyOf list ts) (recordFor list (t .axis)) (isExpected (expectedAt list (recordFor list (t .axis))) (t .contents))
+        ≡ tallyOf list (ts ++ t ∷ [])
     unfolding tallyOf withListed
     listed-told =
         parts-same list
         one-less
-        (sym (judged-more equal (held list) ts t on-its-axis ∙ ap (λ (b : Bool). judged equal (held list) ts + digit b) (is-equal agrees)))
-        (sym (judged-more unequal (held list) ts t on-its-axis ∙ ap (λ (b : Bool). judged unequal (held list) ts + digit b) (is-unequal agrees)))
-        (sym (judged-more unlisted (held list) ts t on-its-axis ∙ ap (λ (b : Bool). judged unlisted (held list) ts + digit b) (not-unlisted agrees) ∙ omega arith))
+        (sym (judged-more equal (held list) ts t (cond agrees equal unequal) on-its-axis (is-equal agrees)))
+        (sym (judged-more unequal (held list) ts t (cond agrees equal unequal) on-its-axis (is-unequal agrees)))
+        (sym (judged-more unlisted (held list) ts t (cond agrees equal unequal) on-its-axis (not-unlisted agrees) ∙ omega arith))
         struck
 
 -- no table yet

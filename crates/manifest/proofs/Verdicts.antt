@@ -1,4 +1,5 @@
--- The verdict on a listed table: a running hash that took its contents byte by byte matches the record of its axis exactly where the table is what that record expects.
+-- The verdict on a listed table: a running hash that took its contents byte by byte matches the record of its axis exactly
+-- where the table is what that record expects.
 -- Assumes nothing.
 use mathlib.Core.Path.{_≡_, refl, sym, ap, ap₂, _∙_}
 use mathlib.Core.Bool.{Bool, true, false, _&&_}
@@ -142,7 +143,8 @@ module _ (list : List ℕ) (passes : manifestStatus list ≡ Done) (axis : ℕ) 
 
   -- The running hash under the variant of the axis's record, after every byte of the contents, matches that record exactly where the table is
   -- what it expects; past the limit neither.
-  pub verdict : matches list (recordFor list axis) (foldl withByte (started (hashedUnder list axis (length m)) .hasher) m) ≡ isExpected (expectedAt list (recordFor list axis)) m
+  pub verdict : matches list (recordFor list axis) (foldl withByte (started (hashedUnder list axis (length m)) .hasher) m)
+      ≡ isExpected (expectedAt list (recordFor list axis)) m
   unfolding hashedUnder isExpected
   verdict =
       let n = named list passes k here in

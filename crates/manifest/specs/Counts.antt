@@ -23,11 +23,12 @@ pub data Verdict : Type 0 where
   unequal : Verdict
   unlisted : Verdict
 
--- a table is what is expected: within the limit of a message, and with the expected digest under the expected variant. Under a variant that is not
--- known nothing has a digest
+-- a table is what is expected: within the limit of a message, and with the expected digest under the expected variant. Under a
+-- variant that is not known nothing has a digest
 unfoldable pub isExpected : Expected → List ℕ → Bool
 isExpected e contents =
-    known (e .variant) && leb (length contents) most && same (digestOf (variant (e .variant)) (byteBits contents)) (e .digest)
+    known (e .variant) && leb (length contents) most
+    && same (digestOf (variant (e .variant)) (byteBits contents)) (e .digest)
 
 -- the verdict on a table, by what is expected of its axis
 abbrev pub verdictBy : Option Expected → List ℕ → Verdict

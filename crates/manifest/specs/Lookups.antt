@@ -1,5 +1,5 @@
--- Need not be believed: held-there and held-none say that what is looked up so is what the manifest holds, and in-pieces what a report comes to that looks
--- axes up. Manifests in which an axis can be looked up by its number, and the number of its record.
+-- Need not be believed: held-there and held-none say that what is looked up so is what the manifest holds, and in-pieces what a
+-- report comes to that looks axes up. Manifests in which an axis can be looked up by its number, and the number of its record.
 -- Assumes nothing.
 use mathlib.Core.Bool.{Bool, true, cond, _&&_}
 use mathlib.Core.List.{List}
@@ -21,7 +21,8 @@ abbrev pub leastBelow : ℕ → (ℕ → Bool) → ℕ
 leastBelow zero p = 0
 leastBelow (suc n) p = cond (p 0) 0 (suc (leastBelow n (λ k. p (suc k))))
 
--- the record of an axis, which has its number; the record count where there is none. In a manifest that passes no second record has it.
+-- the record of an axis, which has its number; the record count where there is none. In a manifest that passes no second record
+-- has it.
 unfoldable pub recordFor : List ℕ → ℕ → ℕ
 recordFor list axis = leastBelow (recordCount list) (λ k. eqb (axisAt list k) axis)
 

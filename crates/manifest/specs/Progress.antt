@@ -1,6 +1,6 @@
 -- Need not be believed: in-pieces says what the three calls in a row come to.
--- A report in progress: what each byte of the stream makes of it, for the contracts of a report's calls. Total: a report that no stream leads to has
--- its next one too.
+-- A report in progress: what each byte of the stream makes of it, for the contracts of a report's calls. Total: a report that
+-- no stream leads to has its next one too.
 -- Assumes nothing.
 use mathlib.Core.Bool.{Bool, true, false, cond, not, _&&_}
 use mathlib.Core.List.{List, foldl}

@@ -1,4 +1,5 @@
--- What is promised of manifests and reports (document 02, Q-1 and Q-5). Each promise is a type; the theorem of the name below it, in proofs/, has that type.
+-- What is promised of manifests and reports (document 02, Q-1 and Q-5). Each promise is a type; the theorem that its comment
+-- names, in proofs/, has that type.
 -- Assumes nothing.
 use mathlib.Core.Path.{_≡_}
 use mathlib.Core.List.{List, foldl}
@@ -26,16 +27,19 @@ reported list pieces = foldl (pieceTaken list) (begun list .report) pieces
 unfoldable pub countsOver : List ℕ → List (List ℕ) → Summary
 countsOver list pieces = countsSoFar (reported list pieces)
 
--- in-pieces. For every manifest that passes and every stream, cut into pieces anywhere: a report that is begun with the manifest and takes each piece in
--- turn comes to the counts that are defined from the installation that the manifest holds and the bytes of the stream.
+-- in-pieces. For every manifest that passes and every stream, cut into pieces anywhere: a report that is begun with the manifest
+-- and takes each piece in turn comes to the counts that are defined from the installation that the manifest holds and the bytes
+-- of the stream.
 abbrev pub ReportCounts : Type 0
 ReportCounts =
-    (list : List ℕ) → Bytes list → manifestStatus list ≡ Done → (pieces : List (List ℕ)) → countsOver list pieces ≡ countsOf (held list) (joined pieces)
+    (list : List ℕ) → Bytes list → manifestStatus list ≡ Done → (pieces : List (List ℕ))
+    → countsOver list pieces ≡ countsOf (held list) (joined pieces)
 
 -- cut-anywhere. Where the stream is cut makes no difference.
 abbrev pub CutAnywhere : Type 0
 CutAnywhere =
-    (list : List ℕ) → manifestStatus list ≡ Done → (xs ys : List (List ℕ)) → joined xs ≡ joined ys → countsOver list xs ≡ countsOver list ys
+    (list : List ℕ) → manifestStatus list ≡ Done → (xs ys : List (List ℕ)) → joined xs ≡ joined ys
+    → countsOver list xs ≡ countsOver list ys
 
 -- begun-status. A report can be begun with exactly the manifests that pass.
 abbrev pub BegunStatus : Type 0
@@ -49,10 +53,13 @@ NothingCounted =
 
 -- ---- what the counts say of one another
 
--- told-add-up. For every map from axis numbers and every stream: equal, unequal and unlisted tables are all the tables.
+-- equal, unequal and unlisted tables are all the tables
+abbrev pub AddsUp : Summary → Type 0
+AddsUp s = s .equal + s .unequal + s .unlisted ≡ s .tables
+
+-- told-add-up. For every map from axis numbers and every stream the tables add up.
 abbrev pub ToldAddUp : Type 0
-ToldAddUp =
-    (axes : Axes) (stream : List ℕ) → countsOf axes stream .equal + countsOf axes stream .unequal + countsOf axes stream .unlisted ≡ countsOf axes stream .tables
+ToldAddUp = (axes : Axes) (stream : List ℕ) → AddsUp (countsOf axes stream)
 
 -- untold-at-most. No more axes are untold than are listed.
 abbrev pub UntoldAtMost : Type 0
@@ -66,7 +73,7 @@ TablesAtMost = (axes : Axes) (stream : List ℕ) → countsOf axes stream .table
 abbrev pub CountsInPieces : Type 0
 CountsInPieces =
     (list : List ℕ) → manifestStatus list ≡ Done → (pieces : List (List ℕ))
-    → (countsOver list pieces .equal + countsOver list pieces .unequal + countsOver list pieces .unlisted ≡ countsOver list pieces .tables)
+    → AddsUp (countsOver list pieces)
     × (countsOver list pieces .tables ≤ mostTables)
     × (countsOver list pieces .untold ≤ countsOver list pieces .listed)
 
@@ -74,7 +81,8 @@ CountsInPieces =
 
 -- passes-exactly. A list of bytes passes exactly where it is the list of the installation that it holds.
 abbrev pub PassesExactly : Type 0
-PassesExactly = (list : List ℕ) → Bytes list → (manifestStatus list ≡ Done) ↔ (IsInstallation (held list) × (listOf (held list) ≡ list))
+PassesExactly =
+    (list : List ℕ) → Bytes list → (manifestStatus list ≡ Done) ↔ (IsInstallation (held list) × (listOf (held list) ≡ list))
 
 -- one-list. Two lists that pass and hold the same are the same bytes.
 abbrev pub OneList : Type 0
@@ -84,7 +92,8 @@ OneList = (x y : List ℕ) → Bytes x → Bytes y → manifestStatus x ≡ Done
 abbrev pub OnlyList : Type 0
 OnlyList = (axes : Axes) (list : List ℕ) → Bytes list → manifestStatus list ≡ Done → held list ≡ axes → list ≡ listOf axes
 
--- list-of-bytes, list-of-passes, list-of-holds. Every installation has a list: its list is of bytes, passes, and holds the installation.
+-- list-of-bytes, list-of-passes, list-of-holds. Every installation has a list, which is of bytes, passes, and holds the
+-- installation.
 abbrev pub ListOfBytes : Type 0
 ListOfBytes = (axes : Axes) → IsInstallation axes → Bytes (listOf axes)
 
@@ -94,10 +103,13 @@ ListOfPasses = (axes : Axes) → IsInstallation axes → manifestStatus (listOf 
 abbrev pub ListOfHolds : Type 0
 ListOfHolds = (axes : Axes) → IsInstallation axes → held (listOf axes) ≡ axes
 
--- held-record, held-nothing. A list that passes holds of the axis of each record what that record says; and no list holds anything of an axis that none of
--- its records has.
+-- held-record, held-nothing. A list that passes holds of the axis of each record what that record says; and no list holds
+-- anything of an axis that none of its records has.
 abbrev pub HeldRecord : Type 0
-HeldRecord = (list : List ℕ) → manifestStatus list ≡ Done → (k : ℕ) → k < recordCount list → held list (axisAt list k) ≡ some (expectedAt list k)
+HeldRecord =
+    (list : List ℕ) → manifestStatus list ≡ Done → (k : ℕ) → k < recordCount list
+    → held list (axisAt list k) ≡ some (expectedAt list k)
 
 abbrev pub HeldNothing : Type 0
-HeldNothing = (list : List ℕ) (axis : ℕ) → ((k : ℕ) → k < recordCount list → axisAt list k ≡ axis → ⊥) → held list axis ≡ none
+HeldNothing =
+    (list : List ℕ) (axis : ℕ) → ((k : ℕ) → k < recordCount list → axisAt list k ≡ axis → ⊥) → held list axis ≡ none
