@@ -1,2 +1,3 @@
 pub mod HexLaws
 pub mod LineLaws
+pub mod ReadLaws
