@@ -1,2 +1,4 @@
 pub mod HexLaws
 pub mod LineLaws
+pub mod ReadLaws
+pub mod Printed

@@ -40,9 +40,15 @@ pub digest-written : (bytes out : List ℕ) (n : ℕ) {o₁ o₂ : List ℕ} {p�
 unfolding digestLine
 digest-written bytes out n h w₁ w₂ = rw (← take-hexOf n bytes) (wrote-on 0 _ _ out h w₁ w₂)
 
--- the line of what a read that is Done wrote
+-- the digest stands at the front of what a read that is Done wrote
+pub digest-read : (k : Hasher) (out : List ℕ) → length out ≡ 32 → readStatus k Digest 32 ≡ Done
+    → take (variantOf k .n / 8) (readInto k Digest out) ≡ digestIn k
+unfolding readInto
+digest-read k out l d =
+    rw (l, d)
+    (take-at (digestIn k) (drop (length (digestIn k)) out) (variantOf k .n / 8) (result-length (variantOf k) Digest (stateOf k)))
+
+-- and so its line is that of the digest
 pub read-line : (k : Hasher) (out : List ℕ) → length out ≡ 32 → readStatus k Digest 32 ≡ Done
     → digestLine (take (variantOf k .n / 8) (readInto k Digest out)) ≡ lineFor (readStatus k Digest 32) (digestIn k)
-unfolding readInto
-read-line k out l d =
-    rw (l, d, take-at (digestIn k) (drop (length (digestIn k)) out) (variantOf k .n / 8) (result-length (variantOf k) Digest (stateOf k)))
+read-line k out l d = rw (d, digest-read k out l d)

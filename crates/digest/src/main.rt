@@ -4,28 +4,30 @@
 mod input;
 mod text;
 
+ghost use mathlib.Core.Path.{_≡_};
+ghost use mathlib.Core.Bool.{false};
+ghost use Rattle.digest.specs.Reads.{Longer};
 use input::Fed;
 use libc::STDERR_FILENO;
 use libc::STDIN_FILENO;
 use libc::STDOUT_FILENO;
 
-// A message has at most 16,777,215 bytes and a read that goes on brings one byte or more, so the hash refuses before these are used up.
-const MOST_READS: u32 = 16777217;
-
 // Reads once.
-fn feed_some(fed: Fed) -> Fed {
+fn feed_some(fed: Fed) -> Fed
+    ensures { λ r. ⌜ Longer fed r ⌝ }
+{
     let mut buffer = io::large_buffer();
     let got = libc::read(STDIN_FILENO, &mut buffer);
     input::after_piece(fed, &buffer, got)
 }
 
-// Reads for as long as there is more.
-fn feed_all(begun: Fed) -> Fed {
+// Reads for as long as there is more. The message grows with each read, and the hash refuses one that is too long.
+fn feed_all(begun: Fed) -> Fed
+    ensures { λ r. ⌜ r .more ≡ false ⌝ }
+{
     let mut fed = begun;
-    let mut left = MOST_READS;
-    while 0 < left && fed.more {
+    while fed.more {
         fed = feed_some(fed);
-        left -= 1;
     }
     fed
 }
