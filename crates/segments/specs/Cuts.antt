@@ -60,4 +60,5 @@ pub record BorderMoved (k : ℕ) (list list′ : List ℕ) : Type 0 where
 
 -- two calls that are asked for the end state, each over its list, buffer and output, write different bytes
 abbrev pub Apart : ℕ → (list x out list′ y out′ : List ℕ) → Type 0
-Apart v list x out list′ y out′ = Differ (imageSize (variant v)) (listInto v list x EndState out) (listInto v list′ y EndState out′)
+Apart v list x out list′ y out′ =
+    Differ (imageSize (variant v)) (listInto v list x EndState out) (listInto v list′ y EndState out′)

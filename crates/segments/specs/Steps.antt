@@ -1,4 +1,5 @@
--- A step over a segment list (document 01: a walker over the sheet): what it gives, its answer, and which entry is next after it.
+-- A step over a segment list (document 01: a walker over the sheet): what it gives, its answer, and which entry is
+-- next after it.
 -- Assumes nothing.
 use mathlib.Core.List.{List}
 use Prim.Native.Nat.{ℕ, _+_}
