@@ -11,18 +11,18 @@ use lib.IntN.{ℤ, pos, negsuc}
 use lib.ListN.{length, take}
 use lib.Seq.{length-take-le}
 use lib.Signed.{ltZ}
-use borrow.Author.Tests.{ltb-true, ltb-false, not-true}
+use borrow.Author.Tests.{ltb-true}
 use Rattle.io.specs.Counts.{clamped}
 use Rattle.standard.specs.Bits.{high-first}
-use Rattle.standard.specs.Chain.{byteBits}
+use Rattle.standard.specs.Messages.{byteBits, bytes}
 use Rattle.standard.proofs.BitLaws.{length-bitsIn}
 use Rattle.standard.proofs.Tests.{and-true}
 use Rattle.answers.specs.declared.Status.{Status}
 use Rattle.answers.specs.declared.Status.the-variants.{Done, Refused}
 use Rattle.answers.specs.Outputs.{mostBits, isDone}
-use Rattle.answers.proofs.Rows.{passing-says}
 use Rattle.hasher.specs.declared.Hasher.{Hasher}
-use Rattle.hasher.specs.Running.{updated, updateChecks, grown}
+use Rattle.hasher.specs.Running.{updated, grown}
+use Rattle.hasher.proofs.Calls.{update-says}
 use Rattle.hasher.proofs.Next.{grown-total}
 use Rattle.digest.specs.declared.input.Fed.{Fed}
 use Rattle.digest.specs.Input.{afterPiece}
@@ -33,13 +33,13 @@ done-told Done e = refl
 done-told (Refused r) e = absurd (subst T (sym e) tt)
 
 -- an update that is Done: the piece is in the total, and within the limit
-update-grows : (h : Hasher) (piece : List ℕ) → updated h piece .status ≡ Done
-    → (updated h piece .hasher .total ≡ h .total + 8 * length piece) × (h .total + 8 * length piece ≤ mostBits)
+update-grows : (h : Hasher) (piece : List ℕ) → updated h (bytes piece) .status ≡ Done
+    → (updated h (bytes piece) .hasher .total ≡ h .total + 8 * length piece) × (h .total + 8 * length piece ≤ mostBits)
 unfolding updated
 update-grows h piece d =
-    let within = passing-says (updateChecks h (8 * length piece)) d .1 .1 .1 .0 in (
+    let few = update-says h (bytes piece) d .follow .few in (
       rw d (grown-total h (byteBits piece) ∙ ap (λ (n : ℕ). h .total + n) (length-bitsIn high-first piece)),
-      ltb-false mostBits (h .total + 8 * length piece) (not-true _ within),
+      omega (arith, few, length-bitsIn high-first piece),
     )
 
 -- a read that brought something brought a byte or more
@@ -52,8 +52,8 @@ pub longer : (fed : Fed) (buffer : List ℕ) (got : ℤ) → 0 < length buffer �
 longer fed buffer got room more =
     let h = fed .answer .hasher in
     let piece = take (clamped got (length buffer)) buffer in
-    let both = and-true (ltZ (pos 0) got) (isDone (updated h piece .status)) more in
-    let grew = update-grows h piece (done-told (updated h piece .status) (both .1)) in
+    let both = and-true (ltZ (pos 0) got) (isDone (updated h (bytes piece) .status)) more in
+    let grew = update-grows h piece (done-told (updated h (bytes piece) .status) (both .1)) in
     (omega (arith, grew .0, brought buffer got room (both .0)), omega (arith, grew .0, grew .1))
 
 -- what is left to read: nothing where no read follows

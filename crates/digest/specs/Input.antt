@@ -8,6 +8,7 @@ use lib.IntN.{ℤ, pos}
 use lib.ListN.{length, take}
 use lib.Signed.{ltZ}
 use Rattle.io.specs.Counts.{clamped}
+use Rattle.standard.specs.Messages.{bytes}
 use Rattle.answers.specs.declared.Status.{Status}
 use Rattle.answers.specs.Outputs.{isDone}
 use Rattle.hasher.specs.declared.Advanced.{Advanced}
@@ -32,4 +33,4 @@ afterFirst byte got = standing (started (variantRead byte got)) got
 
 -- after a later read: the hash is updated with what it brought, which stands at the front of the buffer
 abbrev pub afterPiece : Fed → List ℕ → ℤ → Fed
-afterPiece fed buffer got = standing (updated (fed .answer .hasher) (take (clamped got (length buffer)) buffer)) got
+afterPiece fed buffer got = standing (updated (fed .answer .hasher) (bytes (take (clamped got (length buffer)) buffer))) got

@@ -4,11 +4,12 @@ use mathlib.Core.Bool.{true}
 use mathlib.Core.List.{List}
 use Prim.Native.Nat.{ℕ, _≤_}
 use lib.ListN.{length}
-use Rattle.standard.specs.Chain.{byteBits, digestOf}
+use Rattle.standard.specs.Chain.{digestOf}
+use Rattle.standard.specs.Messages.{byteBits}
 use Rattle.standard.specs.Variants.{variant, known}
 use Rattle.answers.specs.Outputs.{most}
 use Rattle.hasher.specs.Running.{started}
-use Rattle.hasher.specs.Pieces.{joined, allUpdated}
+use Rattle.hasher.specs.Pieces.{plain, joined, allUpdated}
 use Rattle.digest.specs.Answers.{digestLine, answerLine}
 
 -- The line that is printed for a message of at most 16,777,215 bytes, taken under a known variant in whatever pieces the reads brought, is the
@@ -16,4 +17,4 @@ use Rattle.digest.specs.Answers.{digestLine, answerLine}
 abbrev pub DigestPrinted : Type 0
 DigestPrinted =
     (v : ℕ) → known v ≡ true → (pieces : List (List ℕ)) → length (joined pieces) ≤ most
-    → answerLine (allUpdated (started v) pieces) ≡ digestLine (digestOf (variant v) (byteBits (joined pieces)))
+    → answerLine (allUpdated (started v) (plain pieces)) ≡ digestLine (digestOf (variant v) (byteBits (joined pieces)))
