@@ -12,7 +12,7 @@ use Rattle.standard.specs.Chain.{endState}
 use Rattle.standard.specs.Messages.{Given, bytes, givenBits}
 use Rattle.standard.specs.Variants.{variant, known}
 use Rattle.standard.proofs.Streaming.{end-length}
-use Rattle.standard.proofs.Variants.{streams}
+use Rattle.standard.proofs.Variants.{sponge-known, streams}
 use Rattle.standard.proofs.OneValue.{value-block, one-changed-row, one-changed-part}
 use Rattle.standard.proofs.ImageStates.{imageOf-length, imageOf-injective}
 use Rattle.answers.specs.declared.Status.{Status}
@@ -102,13 +102,13 @@ module _ (v : ℕ) (k : known v ≡ true) (x y : Given) (fits : Fits x) (fits′
       cut ps m f c e out = whole-is-pieces v ps m c f e EndState out .1
 
 pub row-told : RowTold
-row-told v k q x y fits fits′ few few′ i d =
-    ends-tell v k x y fits fits′ few few′ (one-changed-row v q i (givenBits (variant v) x) (givenBits (variant v) y) d)
+row-told v q x y fits fits′ few few′ i d =
+    ends-tell v (sponge-known v q) x y fits fits′ few few′ (one-changed-row v q i (givenBits (variant v) x) (givenBits (variant v) y) d)
 
 pub block-told : BlockTold
-block-told v k q x y fits fits′ few j d =
-    ends-tell v k x y fits fits′ few (omega (arith, d .size)) (one-changed-part v q j (givenBits (variant v) x) (givenBits (variant v) y) d)
+block-told v q x y fits fits′ few j d =
+    ends-tell v (sponge-known v q) x y fits fits′ few (omega (arith, d .size)) (one-changed-part v q j (givenBits (variant v) x) (givenBits (variant v) y) d)
 
 pub value-told : ValueTold
-value-told v k q x y few hx hy p n d o =
-    block-told v k q (bytes x) (bytes y) refl refl (few-bits x few) (8 * p / variant v .r) (value-block x y hx hy (variant v) p n d o)
+value-told v q x y few hx hy p n d o =
+    block-told v q (bytes x) (bytes y) refl refl (few-bits x few) (8 * p / variant v .r) (value-block x y hx hy (variant v) p n d o)

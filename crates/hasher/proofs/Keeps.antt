@@ -17,7 +17,7 @@ use Rattle.answers.proofs.Rows.{passing-says, by-ways}
 use Rattle.hasher.specs.declared.Hasher.{Hasher}
 use Rattle.hasher.specs.Running.{variantOf, closed, wellFormed, blank, fresh, grown, ended, startChecks, updateChecks, openChecks, startedOver, started, updated, finished}
 use Rattle.hasher.specs.Sized.{Sized}
-use Rattle.hasher.specs.Promises.{StartUnchanged, UpdateUnchanged, FinishUnchanged, OverStarted}
+use Rattle.hasher.specs.Promises.{StartUnchanged, UpdateUnchanged, FinishUnchanged, StartWellFormed, UpdateWellFormed, FinishWellFormed, OverStarted}
 use Rattle.hasher.proofs.WellFormed.{facts, well-formed}
 use Rattle.hasher.proofs.Next.{ended-sized, ended-facts, grown-open, grown-sized}
 use Rattle.hasher.proofs.Calls.{update-says}
@@ -28,7 +28,7 @@ abbrev Good : Hasher → Type 0
 Good h = (wellFormed h ≡ true) × Sized h
 
 -- a start that is Done gives a well-formed running hash
-pub start-well-formed : (v : ℕ) → started v .status ≡ Done → wellFormed (started v .hasher) ≡ true
+pub start-well-formed : StartWellFormed
 unfolding started startedOver
 start-well-formed v e =
     let k = passing-says (startChecks v) e .0 in
@@ -64,10 +64,6 @@ module _ (h : Hasher) (z : Sized h) (w : wellFormed h ≡ true) where
       (λ n. subst Good (sym (kept (firstRefusal (updateChecks h g)) (grown h (givenBits (variantOf h) g)) h n)) (w, z))
       (done-or (firstRefusal (updateChecks h g)))
 
-  -- an update keeps a well-formed running hash well formed
-  pub update-well-formed : (g : Given) → wellFormed (updated h g .hasher) ≡ true
-  update-well-formed g = update-good g .0
-
   pub update-sized : (g : Given) → Sized (updated h g .hasher)
   update-sized g = update-good g .1
 
@@ -77,12 +73,15 @@ module _ (h : Hasher) (z : Sized h) (w : wellFormed h ≡ true) where
       by-ways (λ s. Good (whenDone s (ended h) h)) (openChecks h)
       ((λ e. (w, z)), λ e. ((λ c. (w, z)), λ c. (well-formed (ended h) (ended-facts h (facts h w) z), ended-sized h)))
 
-  -- and so does finishing
-  pub finish-well-formed : wellFormed (finished h .hasher) ≡ true
-  finish-well-formed = finish-good .0
-
   pub finish-sized : Sized (finished h .hasher)
   finish-sized = finish-good .1
+
+-- an update and a finish keep a well-formed running hash well formed
+pub update-well-formed : UpdateWellFormed
+update-well-formed h z w g = update-good h z w g .0
+
+pub finish-well-formed : FinishWellFormed
+finish-well-formed h z w = finish-good h z w .0
 
 -- a refused update gives back the running hash that it was given, well formed or not
 pub update-unchanged : UpdateUnchanged

@@ -16,7 +16,7 @@ use Rattle.sponge.specs.Messages.{Fits, Alike}
 use Rattle.hasher.specs.declared.Hasher.{Hasher}
 use Rattle.hasher.specs.declared.Wanted.{Wanted}
 use Rattle.hasher.specs.declared.Wanted.the-variants.{Digest}
-use Rattle.hasher.specs.Running.{variantOf, heldCount, stateOf, startedOver, started, updated, finished}
+use Rattle.hasher.specs.Running.{variantOf, heldCount, stateOf, wellFormed, startedOver, started, updated, finished}
 use Rattle.hasher.specs.Reading.{resultSize, wholeStatus, wholeInto}
 use Rattle.hasher.specs.Pieces.{joinedBits, Cut, plain, joined, andThen, hashedStatus, hashedInto, Hashes}
 use Rattle.hasher.specs.Apart.{ToldApart}
@@ -32,6 +32,16 @@ UpdateUnchanged = (h : Hasher) (g : Given) → (updated h g .status ≡ Done →
 
 abbrev pub FinishUnchanged : Type 0
 FinishUnchanged = (h : Hasher) → (finished h .status ≡ Done → ⊥) → finished h .hasher ≡ h
+
+-- A start that is Done gives a well-formed running hash, and every call gives one where it was given one, refused or not.
+abbrev pub StartWellFormed : Type 0
+StartWellFormed = (v : ℕ) → started v .status ≡ Done → wellFormed (started v .hasher) ≡ true
+
+abbrev pub UpdateWellFormed : Type 0
+UpdateWellFormed = (h : Hasher) → Sized h → wellFormed h ≡ true → (g : Given) → wellFormed (updated h g .hasher) ≡ true
+
+abbrev pub FinishWellFormed : Type 0
+FinishWellFormed = (h : Hasher) → Sized h → wellFormed h ≡ true → wellFormed (finished h .hasher) ≡ true
 
 -- ---- demand 2: the standard's digest and end state
 
@@ -92,20 +102,20 @@ WholeAlike =
 -- Of a sponge: two messages within the limit whose padded rows of blocks have equal count and differ at exactly one place are told apart.
 abbrev pub RowTold : Type 0
 RowTold =
-    (v : ℕ) → known v ≡ true → isSponge (variant v) ≡ true → (x y : Given) → Fits x → Fits y
+    (v : ℕ) → isSponge (variant v) ≡ true → (x y : Given) → Fits x → Fits y
     → length (givenBits (variant v) x) ≤ mostBits → length (givenBits (variant v) y) ≤ mostBits
     → (i : ℕ) → DifferAt i (blocksOf (variant v) (givenBits (variant v) x)) (blocksOf (variant v) (givenBits (variant v) y)) → ToldApart v x y
 
 -- Of a sponge: two messages of equal length within the limit whose bits differ, and only within one block, are told apart.
 abbrev pub BlockTold : Type 0
 BlockTold =
-    (v : ℕ) → known v ≡ true → isSponge (variant v) ≡ true → (x y : Given) → Fits x → Fits y → length (givenBits (variant v) x) ≤ mostBits
+    (v : ℕ) → isSponge (variant v) ≡ true → (x y : Given) → Fits x → Fits y → length (givenBits (variant v) x) ≤ mostBits
     → (j : ℕ) → DifferWithin (j * variant v .r) (variant v .r) (givenBits (variant v) x) (givenBits (variant v) y) → ToldApart v x y
 
 -- Of a sponge: two messages of bytes within the limit that differ only in the n bytes from p on, which lie in one block, are told apart.
 abbrev pub ValueTold : Type 0
 ValueTold =
-    (v : ℕ) → known v ≡ true → isSponge (variant v) ≡ true → (x y : List ℕ) → length x ≤ most → ((i : ℕ) → getD x i 0 < 256) → ((i : ℕ) → getD y i 0 < 256)
+    (v : ℕ) → isSponge (variant v) ≡ true → (x y : List ℕ) → length x ≤ most → ((i : ℕ) → getD x i 0 < 256) → ((i : ℕ) → getD y i 0 < 256)
     → (p n : ℕ) → DifferWithin p n x y → inOneBlock (variant v) p n ≡ true → ToldApart v (bytes x) (bytes y)
 
 -- Of every variant (document 02, Q-7): from one running hash, two different pieces that each fill the block never lead to one state.

@@ -11,6 +11,7 @@ use Rattle.standard.specs.Rounds.{Direction, opposite}
 use Rattle.standard.specs.Lesamnta.{cipher}
 use Rattle.standard.proofs.BitLaws.{length-bitsIn, bitsIn-pack, pack-bitsIn, filled-short}
 use Rattle.standard.proofs.LesamntaLaws.{cipher-length, cipher-undo}
+use Rattle.lesamnta.specs.Promises.{CipheredBack}
 use Rattle.lesamnta.specs.Words.{ciphered}
 
 -- bits that are as many as are asked for
@@ -19,8 +20,7 @@ whole n bs e =
     let none : n - length bs ≡ 0 = omega arith in
     filled-short n bs (omega arith) ∙ ap (λ (k : ℕ). bs ++ replicate k false) none ∙ append-nil bs
 
-pub ciphered-back : (w : Direction) (key state : List ℕ) → length state ≡ 32 → ((i : ℕ) → getD state i 0 < 256)
-    → ciphered (opposite w) key (ciphered w key state) ≡ state
+pub ciphered-back : CipheredBack
 unfolding ciphered
 ciphered-back w key state size small =
     let k : List Bool = bitsIn high-first key in

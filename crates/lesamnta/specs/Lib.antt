@@ -2,3 +2,4 @@
 pub mod LookUps
 pub mod States
 pub mod Words
+pub mod Promises

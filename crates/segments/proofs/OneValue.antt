@@ -204,18 +204,18 @@ list-row-told v list x out list′ y out′ dx dy q i d =
     let named = ax v list x out list′ y out′ dx dy .message .asked .named in (
       one-changed-row v q i (byteBits (messageOf list x)) (byteBits (messageOf list′ y)) d,
       lists-told v list x out list′ y out′ dx dy
-          (row-told v named q (bytes (messageOf list x)) (bytes (messageOf list′ y)) refl refl (ax v list x out list′ y out′ dx dy .message .asked .few) (ay v list x out list′ y out′ dx dy .message .asked .few) i d),
+          (row-told v q (bytes (messageOf list x)) (bytes (messageOf list′ y)) refl refl (ax v list x out list′ y out′ dx dy .message .asked .few) (ay v list x out list′ y out′ dx dy .message .asked .few) i d),
     )
 
 pub list-block-told : ListBlockTold
 list-block-told v list x out list′ y out′ dx dy q j d =
     let a = ax v list x out list′ y out′ dx dy .message .asked in
-    lists-told v list x out list′ y out′ dx dy (block-told v (a .named) q (bytes (messageOf list x)) (bytes (messageOf list′ y)) refl refl (a .few) j d)
+    lists-told v list x out list′ y out′ dx dy (block-told v q (bytes (messageOf list x)) (bytes (messageOf list′ y)) refl refl (a .few) j d)
 
 pub list-value-told : ListValueTold
 list-value-told v q list x out y out′ dx dy hl hx hy p n d k w o =
     let a = accepted v list x EndState (length out) _ refl dx in
     let m = message-value list x y p n d (a .all-fit) k w in
     lists-told v list x out list y out′ dx dy
-    (value-told v (a .message .asked .named) q (messageOf list x) (messageOf list y) (omega (arith, a .message .asked .few, length-bitsIn high-first (messageOf list x))) (message-bytes list x hl hx) (message-bytes list y hl hy)
+    (value-told v q (messageOf list x) (messageOf list y) (omega (arith, a .message .asked .few, length-bitsIn high-first (messageOf list x))) (message-bytes list x hl hx) (message-bytes list y hl hy)
     (length (headerOf list) + joinedPlace list k p) n m o)

@@ -17,6 +17,7 @@ use Rattle.standard.proofs.Tests.{either}
 use Rattle.standard.proofs.BitLaws.{length-pack, image-eq, length-bitsIn, length-unpack}
 use Rattle.standard.proofs.ImageStates.{state-image}
 use Rattle.standard.proofs.Variants.{is-sponge}
+use Rattle.sponge.specs.Promises.{PermutedBack}
 use Rattle.sponge.specs.Images.{isImage, permutedImage}
 use Rattle.sponge.specs.TakenBack.{permutedState}
 use Rattle.sponge.proofs.TakenBack.{permuted-length, permuted-undo}
@@ -51,8 +52,7 @@ image-again v k bytes e hb =
 -- ---- the operation
 
 -- For every variant number and all bytes: what the permutation on an image makes of them, its inverse takes back, and the other way round.
-pub permuted-back : (v : ℕ) (w : Direction) (bytes : List ℕ) → ((i : ℕ) → getD bytes i 0 < 256)
-    → permutedImage v (opposite w) (permutedImage v w bytes) ≡ bytes
+pub permuted-back : PermutedBack
 permuted-back v w bytes hb =
     ⊎-elim
     (λ k. ⊎-elim

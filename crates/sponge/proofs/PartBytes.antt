@@ -30,6 +30,7 @@ use Rattle.standard.proofs.PartBytes.{bits-are, bits-eight, bits-length, uncoun
 use Rattle.sponge.specs.declared.parts.Ending.{Ending}
 use Rattle.sponge.specs.declared.parts.Ending.the-variants.{Whole, Bits}
 use Rattle.sponge.specs.Messages.{isBitNumber, numberChecks, Fits, messageChecks, Alike}
+use Rattle.sponge.specs.Promises.{EightAlike, UncountedAlike}
 use Rattle.sponge.specs.Parts.{given, countOf, Marked, messageIn, HoldsMessage}
 
 -- ---- bit numbers
@@ -279,13 +280,10 @@ alike-asked v g h a =
     alike-row (unless (known v) UnknownVariant ∷ []) _ g h (a .numbers)
     ∙ ap (λ (m : List Bool). firstRefusal (unless (known v) UnknownVariant ∷ (numberChecks h ++ when (ltb mostBits (length m)) TooLong ∷ []))) (a .same)
 
--- The number 8 with bytes that are there says that all bits count.
-pub eight-alike : (H : Variant) (m : List ℕ) → 0 < length m → Alike H (partial m 8) (bytes m)
+pub eight-alike : EightAlike
 eight-alike H m some = record { numbers = number-passes m 8 (eight-fits (length m) some); same = bits-eight H m }
 
--- Bits of the last byte that do not count change nothing.
-pub uncounted-alike : (H : Variant) (front : List ℕ) (b c k : ℕ) → countedOf (H .family) k b ≡ countedOf (H .family) k c
-    → Alike H (partial (front ++ b ∷ []) k) (partial (front ++ c ∷ []) k)
+pub uncounted-alike : UncountedAlike
 uncounted-alike H front b c k e =
     record {
       numbers = ap (λ (n : ℕ). firstRefusal (unless (isBitNumber k n) BadBitNumber ∷ [])) (same-bytes front b c);

@@ -20,7 +20,7 @@ digestRoom = 32
 abbrev pub packedState : Variant → List Bool → List ℕ
 packedState H s = pack (order H) stateRoom s
 
--- a block, packed like an image (SPONGENT's are whole bytes, which both orders pack alike); held bits from the high end of their bytes on, in both families (document 02, Q-6)
+-- a block, packed like an image (SPONGENT's are whole bytes, which both orders pack alike); held bits from the high end of their bytes on, in every variant (document 02, Q-6)
 abbrev pub packedBlock : List Bool → List ℕ
 packedBlock b = pack high-first blockRoom b
 

@@ -10,3 +10,4 @@ pub mod Directions
 pub mod TakenBack
 pub mod Images
 pub mod Words
+pub mod Promises

@@ -16,7 +16,7 @@ use Rattle.standard.specs.Families.{Variant, isSponge}
 use Rattle.standard.specs.Chain.{startState, padding, padded, wholeBlocks, blocksOf, DifferAt, endState}
 use Rattle.standard.specs.Messages.{byteBits}
 use Rattle.standard.specs.Variants.{variants, variant, known}
-use Rattle.standard.specs.Promises.{InOneBlockMod, TwoByteValues}
+use Rattle.standard.specs.Promises.{OneChangedRow, OneChangedPart, InOneBlockMod, TwoByteValues}
 use Rattle.standard.specs.Values.{DifferWithin, inOneBlock, period, offsets, oneBlockOffsets}
 use Rattle.standard.proofs.Tests.{lt-or-le, either}
 use Rattle.standard.proofs.BitLaws.{length-bitsIn, pack-bitsIn, bitsIn-take, bitsIn-drop}
@@ -187,13 +187,11 @@ module _ (x y : List ℕ) (hx : (i : ℕ) → getD x i 0 < 256) (hy : (i : ℕ) 
 -- ---- the theorems by number, for sponges
 
 -- two messages of bits, of one length or not, whose padded rows have equal count and differ at exactly one block
-pub one-changed-row : (v : ℕ) → isSponge (variant v) ≡ true → (i : ℕ) (x y : List Bool) → DifferAt i (blocksOf (variant v) x) (blocksOf (variant v) y)
-    → endState (variant v) x ≡ endState (variant v) y → ⊥
+pub one-changed-row : OneChangedRow
 one-changed-row v q = changed-row (variant v) (streams v (sponge-known v q)) (is-sponge v q)
 
 -- two messages of bits of equal length that differ, and only within the block j
-pub one-changed-part : (v : ℕ) → isSponge (variant v) ≡ true → (j : ℕ) (x y : List Bool) → DifferWithin (j * variant v .r) (variant v .r) x y
-    → endState (variant v) x ≡ endState (variant v) y → ⊥
+pub one-changed-part : OneChangedPart
 one-changed-part v q j x y d = changed-end (variant v) (streams v (sponge-known v q)) j x y d (is-sponge v q)
 
 module _ (v : ℕ) (q : isSponge (variant v) ≡ true) (x y : List ℕ) (hx : (i : ℕ) → getD x i 0 < 256) (hy : (i : ℕ) → getD y i 0 < 256) where

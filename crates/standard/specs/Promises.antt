@@ -3,7 +3,7 @@
 use mathlib.Core.Path.{_≡_}
 use mathlib.Core.Bool.{Bool, true}
 use mathlib.Core.List.{List, [], _∷_, map, tail}
-use Prim.Native.Nat.{ℕ, _%_, _≤_, _<_}
+use Prim.Native.Nat.{ℕ, _*_, _%_, _≤_, _<_}
 use lib.ListN.{length, take, getD}
 use Rattle.standard.specs.Rounds.{Direction, opposite, iterate}
 use Rattle.standard.specs.Spongent.{SpongentParameters}
@@ -11,10 +11,10 @@ use Rattle.standard.specs.Counters.{counterIn, reversal, steppedCounter,
 use Rattle.standard.specs.Lesamnta.{cipher}
 use Rattle.standard.specs.Families.{Permutation, spongent, sponge, isSponge}
 use Rattle.standard.specs.Sponge.{permutation}
-use Rattle.standard.specs.Chain.{startState, blocksOf, Blocks, DifferAt, step, run}
+use Rattle.standard.specs.Chain.{startState, blocksOf, Blocks, DifferAt, step, run, endState}
 use Rattle.standard.specs.Messages.{messageBits}
 use Rattle.standard.specs.PartBytes.{SameMessage}
-use Rattle.standard.specs.Values.{inOneBlock, period, oneBlockOffsets}
+use Rattle.standard.specs.Values.{DifferWithin, inOneBlock, period, oneBlockOffsets}
 use Rattle.standard.specs.Variants.{variants, variant, known}
 use Rattle.standard.specs.KnownValues.{AllHold, knownValues}
 
@@ -34,6 +34,16 @@ OneChangedBlock = (v : ℕ) → isSponge (variant v) ≡ true → (xs ys : List 
     → Blocks (variant v .r) xs → Blocks (variant v .r) ys → DifferAt i xs ys → k ≤ length xs
     → (k ≤ i → run (variant v) (startState (variant v)) (take k xs) ≡ run (variant v) (startState (variant v)) (take k ys))
     × (i < k → run (variant v) (startState (variant v)) (take k xs) ≡ run (variant v) (startState (variant v)) (take k ys) → ⊥)
+
+-- So, of a sponge, two messages whose padded rows have equal count and differ at exactly one place have different end states,
+abbrev pub OneChangedRow : Type 0
+OneChangedRow = (v : ℕ) → isSponge (variant v) ≡ true → (i : ℕ) (x y : List Bool) → DifferAt i (blocksOf (variant v) x) (blocksOf (variant v) y)
+    → endState (variant v) x ≡ endState (variant v) y → ⊥
+
+-- and so have two messages of equal length that differ, and only within the bits of one block (document 02, Q-6: inside such traces).
+abbrev pub OneChangedPart : Type 0
+OneChangedPart = (v : ℕ) → isSponge (variant v) ≡ true → (j : ℕ) (x y : List Bool) → DifferWithin (j * variant v .r) (variant v .r) x y
+    → endState (variant v) x ≡ endState (variant v) y → ⊥
 
 -- Document 02, Q-7: in every variant, from one state of t bits two different blocks never lead to one next state.
 abbrev pub BlocksTell : Type 0
