@@ -17,6 +17,7 @@ use Rattle.answers.proofs.Rows.{passing-says, by-ways}
 use Rattle.hasher.specs.declared.Hasher.{Hasher}
 use Rattle.hasher.specs.Running.{variantOf, closed, wellFormed, blank, fresh, grown, ended, startChecks, updateChecks, openChecks, startedOver, started, updated, finished}
 use Rattle.hasher.specs.Sized.{Sized}
+use Rattle.hasher.specs.Promises.{StartUnchanged, UpdateUnchanged, FinishUnchanged, OverStarted}
 use Rattle.hasher.proofs.WellFormed.{facts, well-formed}
 use Rattle.hasher.proofs.Next.{ended-sized, ended-facts, grown-open, grown-sized}
 use Rattle.hasher.proofs.Calls.{update-says}
@@ -34,7 +35,7 @@ start-well-formed v e =
     ap (λ (s : Status). wellFormed (whenDone s (fresh v) (blank 0))) e ∙ well-formed (fresh v) (fresh-facts v k)
 
 -- a start over a running hash that is there is a start, of a variant that is known
-pub over-started : (h : Hasher) (v : ℕ) → known v ≡ true → startedOver h v ≡ started v
+pub over-started : OverStarted
 unfolding started startedOver
 over-started h v k = rw k
 
@@ -44,7 +45,7 @@ unfolding startedOver
 over-well-formed h w v =
     by-ways (λ s. wellFormed (whenDone s (fresh v) h) ≡ true) (startChecks v) ((λ e. w), λ k. well-formed (fresh v) (fresh-facts v k))
 
-pub start-unchanged : (h : Hasher) (v : ℕ) → (startedOver h v .status ≡ Done → ⊥) → startedOver h v .hasher ≡ h
+pub start-unchanged : StartUnchanged
 unfolding startedOver
 start-unchanged h v n = kept (firstRefusal (startChecks v)) (fresh v) h n
 
@@ -84,11 +85,11 @@ module _ (h : Hasher) (z : Sized h) (w : wellFormed h ≡ true) where
   finish-sized = finish-good .1
 
 -- a refused update gives back the running hash that it was given, well formed or not
-pub update-unchanged : (h : Hasher) (g : Given) → (updated h g .status ≡ Done → ⊥) → updated h g .hasher ≡ h
+pub update-unchanged : UpdateUnchanged
 unfolding updated
 update-unchanged h g n = kept (firstRefusal (updateChecks h g)) _ h n
 
 -- and so does a refused finish
-pub finish-unchanged : (h : Hasher) → (finished h .status ≡ Done → ⊥) → finished h .hasher ≡ h
+pub finish-unchanged : FinishUnchanged
 unfolding finished
 finish-unchanged h n = kept (firstRefusal (openChecks h)) (ended h) h n

@@ -43,10 +43,15 @@ pub fn example(v: u8) -> [u8; 36] {
     s
 }
 
-fn permutation(v: u8) {
+// Forward by the standard's steps, and back from what the look-ups make of the same state: they promise the same.
+fn permutation(v: u8)
+    requires { ⌜ (1 ≤ v) × (v ≤ 10) ⌝ }
+{
     let mut s = example(v);
+    let mut by_words = sponge::outcome::permuted_by_words(v, s);
     let n = whole::size(v, Wanted::EndState);
-    both_ways(v as u32, &mut s[0..n]);
+    forward(v as u32, &mut s[0..n]);
+    back(v as u32, &mut by_words[0..n]);
 }
 
 fn permutations() {

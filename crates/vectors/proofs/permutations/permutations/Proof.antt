@@ -5,7 +5,7 @@ use Rattle.vectors.proofs.permutations.permutations.Statement.{statemen
 use Rattle.vectors.proofs.permutations.permutations.Tie as tie
 
 abbrev Inv-loop : tie.InvT-loop
-Inv-loop v₀ v = v ≤ 11
+Inv-loop v₀ v = (1 ≤ v) × (v ≤ 11)
 
 abbrev μ-loop : tie.MeasureT-loop
 μ-loop v₀ v = 11 - v
