@@ -10,6 +10,7 @@ use native.Mathlib.Omega.{arith}
 use lib.Dec.{ltb}
 use lib.ListN.{length, length-append}
 use borrow.Author.Tests.{ltb-true, ltb-false, lt-ltb, le-ltb}
+use Rattle.answers.specs.Promises.{DecimalRead}
 use Rattle.answers.specs.Numbers.{digitCode, decimalBelow, decimal, fromDecimal}
 
 -- ---- digit by digit
@@ -90,7 +91,7 @@ fromDecimal-below (suc w) n h =
     (λ l. ap fromDecimal (decimal-rest n l) ∙ fromDecimal-snoc (decimal (n / 10)) (n % 10) ∙ omega (arith, fromDecimal-below w (n / 10) (omega arith)))
     (one-digit-or-more n)
 
-pub fromDecimal-decimal : (n : ℕ) → fromDecimal (decimal n) ≡ n
+pub fromDecimal-decimal : DecimalRead
 fromDecimal-decimal n = fromDecimal-below (suc n) n (omega arith)
 
 -- Two different numbers never have the same digits.

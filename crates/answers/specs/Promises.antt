@@ -3,10 +3,11 @@
 use mathlib.Core.Path.{_≡_}
 use mathlib.Core.Bool.{false}
 use mathlib.Core.List.{List, _∷_, _++_}
-use Prim.Native.Nat.{_/_, _%_}
+use Prim.Native.Nat.{ℕ, _/_, _%_}
 use Rattle.answers.specs.declared.Refusal.{Refusal}
 use Rattle.answers.specs.declared.Status.{Status}
 use Rattle.answers.specs.declared.Status.the-variants.{Done, Refused}
+use Rattle.answers.specs.Numbers.{decimal, fromDecimal}
 use Rattle.answers.specs.Refusals.{number, entry, answer}
 use Rattle.answers.specs.Checks.{Check, firstRefusal, Pass}
 
@@ -34,3 +35,7 @@ AnswerNumber = (r : Refusal) → answer (Refused r) % 256 ≡ number r
 -- and what is above the low byte is the entry that the refusal names.
 abbrev pub AnswerEntry : Type 0
 AnswerEntry = (r : Refusal) → answer (Refused r) / 256 ≡ entry r
+
+-- A number in decimal reads back as itself.
+abbrev pub DecimalRead : Type 0
+DecimalRead = (n : ℕ) → fromDecimal (decimal n) ≡ n

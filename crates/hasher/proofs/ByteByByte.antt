@@ -16,7 +16,8 @@ use Rattle.answers.specs.Outputs.{mostBits}
 use Rattle.answers.proofs.Statuses.{done-or}
 use Rattle.hasher.specs.declared.Hasher.{Hasher}
 use Rattle.hasher.specs.declared.Advanced.{Advanced}
-use Rattle.hasher.specs.Running.{wholeSoFar, Open, openChecks, followChecks, updateChecks, updated}
+use Rattle.hasher.specs.Running.{wholeSoFar, openChecks, followChecks, updateChecks, updated}
+use Rattle.hasher.specs.ForCode.{Open}
 use Rattle.hasher.specs.Sized.{Sized}
 use Rattle.hasher.specs.Pieces.{withByte}
 use Rattle.hasher.proofs.Calls.{update-says, update-done, update-answer, follows}

@@ -35,10 +35,12 @@ use Rattle.sponge.proofs.BlockRuns.{run-start}
 use Rattle.sponge.proofs.PartBytes.{given-most, given-least, Asked, message-passed}
 use Rattle.hasher.specs.declared.Hasher.{Hasher}
 use Rattle.hasher.specs.declared.Advanced.{Advanced}
-use Rattle.hasher.specs.Running.{closed, Open, blank, fresh, grown, ended, wholeSoFar, openChecks, followChecks, updateChecks, startedOver, started, updated, finished, variantOf, wellFormed}
+use Rattle.hasher.specs.Running.{closed, blank, fresh, grown, ended, wholeSoFar, openChecks, followChecks, updateChecks, startedOver, started, updated, finished, variantOf, wellFormed}
+use Rattle.hasher.specs.ForCode.{Open}
 use Rattle.hasher.specs.declared.Wanted.{Wanted}
 use Rattle.hasher.specs.declared.Wanted.the-variants.{Digest, EndState}
-use Rattle.hasher.specs.Reading.{resultOf, resultSize, isDigest, roomChecks, readChecks, readStatus, wholeStatus}
+use Rattle.hasher.specs.Reading.{resultOf, resultSize, roomChecks, readChecks, readStatus, wholeStatus}
+use Rattle.hasher.specs.ForCode.{isDigest}
 
 abbrev pub done : Hasher → Advanced
 done h = record { status = Done; hasher = h }

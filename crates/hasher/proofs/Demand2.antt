@@ -29,7 +29,8 @@ use Rattle.hasher.specs.declared.Hasher.{Hasher}
 use Rattle.hasher.specs.declared.Advanced.{Advanced}
 use Rattle.hasher.specs.declared.Wanted.{Wanted}
 use Rattle.hasher.specs.declared.Wanted.the-variants.{Digest}
-use Rattle.hasher.specs.Running.{variantOf, wholeSoFar, Open, blank, fresh, grown, ended, started, updated, finished}
+use Rattle.hasher.specs.Running.{variantOf, wholeSoFar, blank, fresh, grown, ended, started, updated, finished}
+use Rattle.hasher.specs.ForCode.{Open}
 use Rattle.hasher.specs.Reading.{resultOf, resultSize, roomChecks, readStatus, readInto, wholeStatus, wholeInto}
 use Rattle.hasher.specs.Pieces.{joinedBits, Cut, plain, joined, andThen, allUpdated, hashed, thenStatus, thenInto, hashedStatus, hashedInto, Reads, Hashes}
 use Rattle.hasher.specs.Promises.{Demand2, Demand2Bytes, WholeIsPieces, WholeIsPiecesBytes, WholeDigest}

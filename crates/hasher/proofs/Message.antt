@@ -26,7 +26,8 @@ use Rattle.sponge.specs.Messages.{Fits, messageChecks}
 use Rattle.sponge.proofs.PartBytes.{message-passes}
 use Rattle.hasher.specs.declared.Hasher.{Hasher}
 use Rattle.hasher.specs.declared.Advanced.{Advanced}
-use Rattle.hasher.specs.Running.{heldCount, wholeSoFar, heldIn, stateOf, Open, blank, fresh, grown, ended, started, updated, finished}
+use Rattle.hasher.specs.Running.{heldCount, wholeSoFar, heldIn, stateOf, blank, fresh, grown, ended, started, updated, finished}
+use Rattle.hasher.specs.ForCode.{Open}
 use Rattle.hasher.specs.declared.Wanted.{Wanted}
 use Rattle.hasher.specs.Reading.{resultOf, resultSize, roomChecks, readStatus, readInto, wholeStatus, wholeInto}
 use Rattle.hasher.specs.Pieces.{Reads}

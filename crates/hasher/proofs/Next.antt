@@ -20,7 +20,8 @@ use Rattle.answers.specs.Outputs.{mostBits}
 use Rattle.sponge.specs.Layout.{stateRoom, blockRoom, packedState, packedBlock}
 use Rattle.sponge.proofs.States.{stored}
 use Rattle.hasher.specs.declared.Hasher.{Hasher}
-use Rattle.hasher.specs.Running.{variantOf, heldCount, wholeSoFar, heldIn, stateOf, Open, going, grown, ended}
+use Rattle.hasher.specs.Running.{variantOf, heldCount, wholeSoFar, heldIn, stateOf, going, grown, ended}
+use Rattle.hasher.specs.ForCode.{Open}
 use Rattle.hasher.specs.Sized.{Sized}
 use Rattle.hasher.proofs.WellFormed.{Facts, facts, well-formed, open-count, count-lt, state-long, held-long, packed-clear}
 

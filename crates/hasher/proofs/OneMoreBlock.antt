@@ -18,7 +18,8 @@ use Rattle.standard.proofs.BitLaws.{length-bitsIn, pack-bitsIn}
 use Rattle.standard.proofs.Streaming.{whole-one, run-one, run-none}
 use Rattle.standard.proofs.Variants.{streams, blocks-tell}
 use Rattle.hasher.specs.declared.Hasher.{Hasher}
-use Rattle.hasher.specs.Running.{variantOf, heldCount, heldIn, stateOf, Open, grown, updated}
+use Rattle.hasher.specs.Running.{variantOf, heldCount, heldIn, stateOf, grown, updated}
+use Rattle.hasher.specs.ForCode.{Open}
 use Rattle.hasher.specs.Sized.{Sized}
 use Rattle.hasher.specs.Promises.{OneMoreBlock}
 use Rattle.hasher.proofs.WellFormed.{Facts, facts, state-long, held-long}

@@ -15,7 +15,8 @@ use Rattle.standard.proofs.BitLaws.{length-bitsOf, length-unpack, bitsIn-drop, 
 use Rattle.standard.proofs.Streaming.{Streams, length-rest, run-append, run-length}
 use Rattle.standard.proofs.Variants.{Bounds, bounds, streams}
 use Rattle.answers.specs.Outputs.{mostBits}
-use Rattle.sponge.specs.Layout.{blockRoom, packedState, packedBlock, Holds, clear}
+use Rattle.sponge.specs.Layout.{blockRoom, packedState, packedBlock, clear}
+use Rattle.sponge.specs.Holding.{Holds}
 use Rattle.sponge.specs.Endings.{markedCount, lengthBlocks}
 use Rattle.sponge.specs.Blocks.{heldThen, firstBlocks}
 use Rattle.sponge.proofs.Clear.{first-byte, clear-zeros}
@@ -23,7 +24,8 @@ use Rattle.sponge.proofs.BlockRows.{withOne, whole-first, first-zeros, filled-z
 use Rattle.sponge.proofs.LastBlocks.{ending-blocks}
 use Rattle.sponge.proofs.States.{stored, stored-ready}
 use Rattle.hasher.specs.declared.Hasher.{Hasher}
-use Rattle.hasher.specs.Running.{variantOf, heldCount, wholeSoFar, heldIn, stateOf, Open, grown, ended}
+use Rattle.hasher.specs.Running.{variantOf, heldCount, wholeSoFar, heldIn, stateOf, grown, ended}
+use Rattle.hasher.specs.ForCode.{Open}
 use Rattle.hasher.proofs.Owned.{Owned}
 use Rattle.hasher.proofs.WellFormed.{Facts, facts, open-count, count-lt, count-quarters, state-long, held-long}
 

@@ -15,7 +15,8 @@ use Rattle.answers.specs.Outputs.{mostBits}
 use Rattle.sponge.specs.Messages.{Fits}
 use Rattle.hasher.specs.declared.Hasher.{Hasher}
 use Rattle.hasher.specs.declared.Advanced.{Advanced}
-use Rattle.hasher.specs.Running.{variantOf, wholeSoFar, Open, grown, updated}
+use Rattle.hasher.specs.Running.{variantOf, wholeSoFar, grown, updated}
+use Rattle.hasher.specs.ForCode.{Open}
 use Rattle.hasher.specs.Sized.{Sized}
 use Rattle.hasher.specs.Pieces.{andThen}
 use Rattle.hasher.specs.Promises.{UpdateAppend}

@@ -12,7 +12,8 @@ use Rattle.standard.specs.Variants.{variant, known}
 use Rattle.standard.proofs.Streaming.{run-append, run-length, run-none}
 use Rattle.standard.proofs.Variants.{streams}
 use Rattle.answers.specs.Outputs.{mostBits}
-use Rattle.sponge.specs.Layout.{packedState, Holds}
+use Rattle.sponge.specs.Layout.{packedState}
+use Rattle.sponge.specs.Holding.{Holds}
 use Rattle.sponge.specs.Blocks.{heldThen, firstBlocks}
 use Rattle.sponge.specs.Endings.{markedCount, lengthBlock, lengthBlocks}
 use Rattle.sponge.specs.Parts.{messageIn, HoldsMessage}

@@ -2,6 +2,7 @@
 pub mod Running
 pub mod Reading
 pub mod Sized
+pub mod ForCode
 pub mod Pieces
 pub mod Apart
 pub mod Promises

@@ -1,6 +1,6 @@
 -- What is read from a finished running hash into the caller's bytes, and the whole message in one call.
 -- Assumes nothing.
-use mathlib.Core.Bool.{Bool, true, false}
+use mathlib.Core.Bool.{Bool}
 use mathlib.Core.List.{List, [], _∷_, _++_}
 use Prim.Native.Nat.{ℕ, _/_}
 use lib.Dec.{ltb}
@@ -28,11 +28,6 @@ resultOf H EndState s = imageOf H s
 abbrev pub resultSize : Variant → Wanted → ℕ
 resultSize H Digest = H .n / 8
 resultSize H EndState = imageSize H
-
--- which of the two it is
-abbrev pub isDigest : Wanted → Bool
-isDigest Digest = true
-isDigest EndState = false
 
 -- the result has room in so many bytes: 5
 abbrev pub roomChecks : Variant → Wanted → ℕ → List Check

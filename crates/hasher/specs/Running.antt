@@ -51,10 +51,6 @@ wellFormed h =
     && clear (drop (variantOf h .t) (bitsIn (order (variantOf h)) (h .state)))
     && clear (drop (heldCount h) (bitsIn high-first (h .held)))
 
--- well formed and open: the end may come, and behind whole bytes a piece
-abbrev pub Open : Hasher → Type 0
-Open h = (wellFormed h ≡ true) × (closed h ≡ false)
-
 -- ---- the next running hash, from the one before it
 
 -- the running hash h with this stage, total, state and held bits; what else it records stays

@@ -17,13 +17,13 @@ use Rattle.standard.proofs.Xor.{xor-assoc}
 use Rattle.standard.proofs.Tab.{getD-tab}
 use Rattle.standard.proofs.FieldLaws.{mul-lt}
 use Rattle.standard.proofs.Tests.{lt-or-le, same-below, bound-below}
-use Rattle.lesamnta.specs.LookUps.{boxed, BoxTable, ConstantTable, LookUps}
+use Rattle.lesamnta.specs.LookUps.{boxedByte, BoxTable, ConstantTable, CipherTable}
 
 -- ---- the tables
 
 -- the tables that the rules make. Those that are written out are held to them entry by entry, which is computed.
-pub box-table : BoxTable (tab 256 (boxed 0))
-box-table = record { entry = λ x h. getD-tab 256 (boxed 0) x 0 h }
+pub box-table : BoxTable (tab 256 (boxedByte 0))
+box-table = record { entry = λ x h. getD-tab 256 (boxedByte 0) x 0 h }
 
 pub constant-table : ConstantTable (tab 64 generated)
 constant-table = record { entry = λ r h. getD-tab 64 generated r 0 h }
@@ -31,12 +31,12 @@ constant-table = record { entry = λ r h. getD-tab 64 generated r 0 h }
 -- the first i entries are written
 pub record Boxed (i : ℕ) (table : List ℕ) : Type 0 where
   pub size : length table ≡ 320
-  pub done : (x : ℕ) → x < i → getD table x 0 ≡ boxed 0 x * (2 ^ 32 + 1)
+  pub done : (x : ℕ) → x < i → getD table x 0 ≡ boxedByte 0 x * (2 ^ 32 + 1)
 
 pub boxed-none : (table : List ℕ) → length table ≡ 320 → Boxed 0 table
 boxed-none table e = record { size = e; done = λ x h. absurd (not-suc-le-zero h) }
 
-pub boxed-more : (i : ℕ) (table : List ℕ) (y : ℕ) → i < 256 → y ≡ boxed 0 i → Boxed i table → Boxed (i + 1) (set table i (y * 0x100000001))
+pub boxed-more : (i : ℕ) (table : List ℕ) (y : ℕ) → i < 256 → y ≡ boxedByte 0 i → Boxed i table → Boxed (i + 1) (set table i (y * 0x100000001))
 boxed-more i table y h e u =
     record {
       size = length-set table i (y * 0x100000001) ∙ u .size;
@@ -45,16 +45,16 @@ boxed-more i table y h e u =
           (λ (m : x < i). getD-set-other table i x (y * 0x100000001) 0 (λ q. omega arith) ∙ u .done x m)
           (λ (m : i ≤ x).
           let same : x ≡ i = omega arith in
-          subst (λ (j : ℕ). getD (set table i (y * 0x100000001)) j 0 ≡ boxed 0 j * (2 ^ 32 + 1)) (sym same)
+          subst (λ (j : ℕ). getD (set table i (y * 0x100000001)) j 0 ≡ boxedByte 0 j * (2 ^ 32 + 1)) (sym same)
           (getD-set-same table i (y * 0x100000001) 0 (omega (arith, u .size)) ∙ ap (λ (z : ℕ). z * (2 ^ 32 + 1)) e))
           (lt-or-le x i);
     }
 
-pub boxed-all : (table : List ℕ) → Boxed 256 table → LookUps 0 table
+pub boxed-all : (table : List ℕ) → Boxed 256 table → CipherTable 0 table
 boxed-all table u = record { box = u .done; constant = λ r h. absurd (not-suc-le-zero h) }
 
 -- one constant more behind the entries
-pub constant-more : (r : ℕ) (table : List ℕ) (c : ℕ) → r < 64 → length table ≡ 320 → c ≡ generated r → LookUps r table → LookUps (r + 1) (set table (256 + r) c)
+pub constant-more : (r : ℕ) (table : List ℕ) (c : ℕ) → r < 64 → length table ≡ 320 → c ≡ generated r → CipherTable r table → CipherTable (r + 1) (set table (256 + r) c)
 constant-more r table c h size e u =
     record {
       box = λ x l. getD-set-other table (256 + r) x c 0 (λ q. omega arith) ∙ u .box x l;
@@ -70,11 +70,11 @@ constant-more r table c h size e u =
 -- ---- what a byte gives
 
 -- an entry that stands twice in a word, shifted by k bytes, is what the byte gives at place k: one test of all four places of all bytes
-turned-tests : (n : ℕ) → n < 1024 → boxed 0 (n % 256) * (2 ^ 32 + 1) / 2 ^ (8 * (n / 256)) % 2 ^ 32 ≡ boxed (n / 256) (n % 256)
-unfolding boxed mul times double aes
-turned-tests = same-below (λ n. boxed 0 (n % 256) * (2 ^ 32 + 1) / 2 ^ (8 * (n / 256)) % 2 ^ 32) (λ n. boxed (n / 256) (n % 256)) 1024 tt
+turned-tests : (n : ℕ) → n < 1024 → boxedByte 0 (n % 256) * (2 ^ 32 + 1) / 2 ^ (8 * (n / 256)) % 2 ^ 32 ≡ boxedByte (n / 256) (n % 256)
+unfolding boxedByte mul times double aes
+turned-tests = same-below (λ n. boxedByte 0 (n % 256) * (2 ^ 32 + 1) / 2 ^ (8 * (n / 256)) % 2 ^ 32) (λ n. boxedByte (n / 256) (n % 256)) 1024 tt
 
-pub turned : (k x : ℕ) → k < 4 → x < 256 → boxed 0 x * (2 ^ 32 + 1) / 2 ^ (8 * k) % 2 ^ 32 ≡ boxed k x
+pub turned : (k x : ℕ) → k < 4 → x < 256 → boxedByte 0 x * (2 ^ 32 + 1) / 2 ^ (8 * k) % 2 ^ 32 ≡ boxedByte k x
 turned k x hk hx =
     let n : ℕ = 256 * k + x in
     let ek : n / 256 ≡ k = omega arith in
@@ -133,9 +133,9 @@ module _ (p q r s : ℕ) where
       (in-turn (given 1 p) (given 1 q) (given 2 r) (given 3 s)))
       (in-turn (given 3 p) (given 1 q) (given 1 r) (given 2 s))
 
-  boxed-is : (k x : ℕ) → boxed k (x % 256)
+  boxed-is : (k x : ℕ) → boxedByte k (x % 256)
       ≡ word4 (given (getD (2 ∷ 3 ∷ 1 ∷ 1 ∷ []) k 0) x) (given (getD (1 ∷ 2 ∷ 3 ∷ 1 ∷ []) k 0) x) (given (getD (1 ∷ 1 ∷ 2 ∷ 3 ∷ []) k 0) x) (given (getD (3 ∷ 1 ∷ 1 ∷ 2 ∷ []) k 0) x)
-  unfolding boxed
+  unfolding boxedByte
   boxed-is k x = word-of-four _ _ _ _
 
   small : (a x : ℕ) → given a x < 256
@@ -148,7 +148,7 @@ module _ (p q r s : ℕ) where
   small3 a x b y c z = xor-lt 8 (bitXor (given a x) (given b y)) (given c z) (small2 a x b y) (small c z)
 
   -- and as the sum of what each byte gives
-  pub columns-sum : wordOf (mixColumn (subBytes (p % 256 ∷ q % 256 ∷ r % 256 ∷ s % 256 ∷ []))) ≡ sum4 (boxed 0 (p % 256)) (boxed 1 (q % 256)) (boxed 2 (r % 256)) (boxed 3 (s % 256))
+  pub columns-sum : wordOf (mixColumn (subBytes (p % 256 ∷ q % 256 ∷ r % 256 ∷ s % 256 ∷ []))) ≡ sum4 (boxedByte 0 (p % 256)) (boxedByte 1 (q % 256)) (boxedByte 2 (r % 256)) (boxedByte 3 (s % 256))
   columns-sum =
       columns
       ∙ word4-xor (bitXor (bitXor (given 2 p) (given 3 q)) (given 1 r)) (bitXor (bitXor (given 1 p) (given 2 q)) (given 3 r))
@@ -167,8 +167,8 @@ module _ (p q r s : ℕ) where
       (sym (boxed-is 3 s))
 
 -- Q by look-ups: four entries, each turned to its place, summed; what lies above 32 bits is cut
-module _ (n : ℕ) (table : List ℕ) (u : LookUps n table) (x : ℕ) where
-  entry : (k y : ℕ) → k < 4 → getD table (y % 256) 0 / 2 ^ (8 * k) % 2 ^ 32 ≡ boxed k (y % 256)
+module _ (n : ℕ) (table : List ℕ) (u : CipherTable n table) (x : ℕ) where
+  entry : (k y : ℕ) → k < 4 → getD table (y % 256) 0 / 2 ^ (8 * k) % 2 ^ 32 ≡ boxedByte k (y % 256)
   entry k y h =
       let low : y % 256 < 256 = mod-lt y {m = 256} (omega arith) in
       ap (λ (z : ℕ). z / 2 ^ (8 * k) % 2 ^ 32) (u .box (y % 256) low) ∙ turned k (y % 256) h low

@@ -13,7 +13,7 @@ use Rattle.standard.specs.Lesamnta.{fourWords, bitsOfWords, mixing, roundKeys, 
 use Rattle.standard.proofs.BitLaws.{length-bitsOf, valueOf-lt}
 use Rattle.standard.proofs.CutLaws.{take-drop-take}
 use Rattle.standard.proofs.LesamntaLaws.{Four, words-bits}
-use Rattle.lesamnta.specs.Words.{stateOf}
+use Rattle.lesamnta.specs.States.{stateOfFour}
 use Rattle.lesamnta.proofs.WordLaws.{two-words}
 
 -- the halves of a state in words
@@ -21,18 +21,18 @@ module _ (w : List ℕ) where
   word : ℕ → List Bool
   word i = bitsOf high-first 64 (getD w i 0)
 
-  halved : stateOf w ≡ (word 0 ++ word 1) ++ (word 2 ++ (word 3 ++ []))
-  unfolding stateOf bitsOfWords flatMap word
+  halved : stateOfFour w ≡ (word 0 ++ word 1) ++ (word 2 ++ (word 3 ++ []))
+  unfolding stateOfFour bitsOfWords flatMap word
   halved = sym (append-assoc (word 0) (word 1) (word 2 ++ (word 3 ++ [])))
 
   half-size : length (word 0 ++ word 1) ≡ 128
   unfolding word
   half-size = length-append (word 0) (word 1) ∙ omega (arith, length-bitsOf high-first 64 (getD w 0 0), length-bitsOf high-first 64 (getD w 1 0))
 
-  first-half : take 128 (stateOf w) ≡ word 0 ++ word 1
+  first-half : take 128 (stateOfFour w) ≡ word 0 ++ word 1
   first-half = ap (take 128) halved ∙ take-at (word 0 ++ word 1) (word 2 ++ (word 3 ++ [])) 128 half-size
 
-  second-half : drop 128 (stateOf w) ≡ word 2 ++ (word 3 ++ [])
+  second-half : drop 128 (stateOfFour w) ≡ word 2 ++ (word 3 ++ [])
   second-half = ap (drop 128) halved ∙ drop-at (word 0 ++ word 1) (word 2 ++ (word 3 ++ [])) 128 half-size
 
 -- the block from a place on: two words
@@ -53,7 +53,7 @@ module _ (bits : List Bool) (at a b : ℕ) (room : 8 * at + 128 ≤ length bits)
 
   -- what is enciphered in a step, in words
   pub step-words : (w : List ℕ) → ((i : ℕ) → getD w i 0 < 2 ^ 64)
-      → a ∷ b ∷ getD w 2 0 ∷ getD w 3 0 ∷ [] ≡ fourWords 64 (take 128 (drop (8 * at) bits) ++ drop 128 (stateOf w))
+      → a ∷ b ∷ getD w 2 0 ∷ getD w 3 0 ∷ [] ≡ fourWords 64 (take 128 (drop (8 * at) bits) ++ drop 128 (stateOfFour w))
   unfolding bitsOfWords flatMap word
   step-words w small =
       let x : List ℕ = a ∷ b ∷ getD w 2 0 ∷ getD w 3 0 ∷ [] in
@@ -68,7 +68,7 @@ module _ (bits : List Bool) (at a b : ℕ) (room : 8 * at + 128 ≤ length bits)
   pub stepped-is : (w key r : List ℕ) → ((i : ℕ) → getD w i 0 < 2 ^ 64)
       → key ≡ fourWords 32 (bitsOf high-first 64 (getD w 0 0) ++ bitsOf high-first 64 (getD w 1 0))
       → r ≡ rounds mixing forward (roundKeys cipherConstants key) (a ∷ b ∷ getD w 2 0 ∷ getD w 3 0 ∷ [])
-      → bitsOfWords 64 r ≡ lesamntaStep (stateOf w) (take 128 (drop (8 * at) bits))
+      → bitsOfWords 64 r ≡ lesamntaStep (stateOfFour w) (take 128 (drop (8 * at) bits))
   unfolding lesamntaStep cipher word
   stepped-is w key r small ek er =
       ap (bitsOfWords 64)

@@ -9,17 +9,17 @@ use Rattle.standard.specs.Photon.{aes}
 use Rattle.standard.specs.Lesamnta.{wordOf, mixMatrix, generated}
 
 -- what the byte x gives as byte k of a word: column k of the matrix, times the S-box's value
-unfoldable pub boxed : ℕ → ℕ → ℕ
-boxed k x = wordOf (map (λ row. mul 256 0x11b (getD row k 0) (getD aes x 0)) mixMatrix)
+unfoldable pub boxedByte : ℕ → ℕ → ℕ
+boxedByte k x = wordOf (map (λ row. mul 256 0x11b (getD row k 0) (getD aes x 0)) mixMatrix)
 
 -- the tables that are written out
 pub record BoxTable (table : List ℕ) : Type 0 where
-  pub entry : (x : ℕ) → x < 256 → getD table x 0 ≡ boxed 0 x
+  pub entry : (x : ℕ) → x < 256 → getD table x 0 ≡ boxedByte 0 x
 
 pub record ConstantTable (table : List ℕ) : Type 0 where
   pub entry : (r : ℕ) → r < 64 → getD table r 0 ≡ generated r
 
 -- the table of the rounds: each entry of the first twice in a word, and behind them the first n constants
-pub record LookUps (n : ℕ) (table : List ℕ) : Type 0 where
-  pub box : (x : ℕ) → x < 256 → getD table x 0 ≡ boxed 0 x * (2 ^ 32 + 1)
+pub record CipherTable (n : ℕ) (table : List ℕ) : Type 0 where
+  pub box : (x : ℕ) → x < 256 → getD table x 0 ≡ boxedByte 0 x * (2 ^ 32 + 1)
   pub constant : (r : ℕ) → r < n → getD table (256 + r) 0 ≡ generated r

@@ -6,8 +6,9 @@ ghost use lib.ListN.{length, take, drop, replicate};
 ghost use Rattle.standard.specs.Bits.{high-first, bitsOf, valueOf, bitsIn, pack};
 ghost use Rattle.standard.specs.Rounds.{forward, backward, rounds};
 ghost use Rattle.standard.specs.Lesamnta.{bytesOf, wordOf, fourWords, bitsOfWords, wordQ, bytesR, wordG, mixing, scheduled, roundKeys, cipherConstants, cipher, lesamntaStep};
-ghost use Rattle.lesamnta.specs.LookUps.{BoxTable, ConstantTable, LookUps};
-ghost use Rattle.lesamnta.specs.Words.{stateOf, ciphered};
+ghost use Rattle.lesamnta.specs.LookUps.{BoxTable, ConstantTable, CipherTable};
+ghost use Rattle.lesamnta.specs.Words.{ciphered};
+ghost use Rattle.lesamnta.specs.States.{stateOfFour};
 
 mod tables; // tables.rt: S-box and MixColumns in one, and the constants
 
@@ -28,7 +29,7 @@ fn wide(x: u32) -> u64
 // An entry twice in a word, so that a turn by whole bytes is a shift.
 fn put_boxes(out: &mut [u64], boxes: &[u32; 256])
     requires { ⌜ (length (now out) ≡ 320) × BoxTable (now boxes) ⌝ }
-    ensures { λ _. ⌜ (length (now (out .exit)) ≡ 320) × LookUps 0 (now (out .exit)) ⌝ }
+    ensures { λ _. ⌜ (length (now (out .exit)) ≡ 320) × CipherTable 0 (now (out .exit)) ⌝ }
 {
     let mut i: usize = 0;
     while i < 256 {
@@ -38,8 +39,8 @@ fn put_boxes(out: &mut [u64], boxes: &[u32; 256])
 }
 
 fn put_constants(out: &mut [u64], constants: &[u32; 64])
-    requires { ⌜ (length (now out) ≡ 320) × LookUps 0 (now out) × ConstantTable (now constants) ⌝ }
-    ensures { λ _. ⌜ (length (now (out .exit)) ≡ 320) × LookUps 64 (now (out .exit)) ⌝ }
+    requires { ⌜ (length (now out) ≡ 320) × CipherTable 0 (now out) × ConstantTable (now constants) ⌝ }
+    ensures { λ _. ⌜ (length (now (out .exit)) ≡ 320) × CipherTable 64 (now (out .exit)) ⌝ }
 {
     let mut r: usize = 0;
     while r < 64 {
@@ -51,7 +52,7 @@ fn put_constants(out: &mut [u64], constants: &[u32; 64])
 // The table for the rounds. A caller makes it once for a message.
 pub fn fill_table(out: &mut [u64])
     requires { ⌜ length (now out) ≡ 320 ⌝ }
-    ensures { λ _. ⌜ (length (now (out .exit)) ≡ 320) × LookUps 64 (now (out .exit)) ⌝ }
+    ensures { λ _. ⌜ (length (now (out .exit)) ≡ 320) × CipherTable 64 (now (out .exit)) ⌝ }
 {
     put_boxes(out, &BOXES);
     put_constants(out, &CONSTANTS);
@@ -61,7 +62,7 @@ pub fn fill_table(out: &mut [u64])
 
 // Q, of the lower half of a word: what each of its four bytes gives.
 pub fn word_q(x: u64, table: &[u64]) -> u64
-    requires { ⌜ (length (now table) ≡ 320) × LookUps 64 (now table) ⌝ }
+    requires { ⌜ (length (now table) ≡ 320) × CipherTable 64 (now table) ⌝ }
     ensures { λ r. ⌜ (r ≡ wordQ x) × (r < 2 ^ 32) ⌝ }
 {
     let first = table[((x >> 24) % 256) as usize];
@@ -82,7 +83,7 @@ fn joined(a: u64, b: u64) -> u64
 }
 
 pub fn word_g(y: u64, key: u64, table: &[u64]) -> u64
-    requires { ⌜ (length (now table) ≡ 320) × LookUps 64 (now table) ⌝ }
+    requires { ⌜ (length (now table) ≡ 320) × CipherTable 64 (now table) ⌝ }
     ensures { λ r. ⌜ r ≡ wordG y key ⌝ }
 {
     joined(word_q((y >> 32) ^ key, table), word_q(y, table))
@@ -92,7 +93,7 @@ pub fn word_g(y: u64, key: u64, table: &[u64]) -> u64
 
 // A round of the cipher with its round key.
 fn mixed(x: [u64; 4], key: u64, table: &[u64]) -> [u64; 4]
-    requires { ⌜ (length (now table) ≡ 320) × LookUps 64 (now table) ⌝ }
+    requires { ⌜ (length (now table) ≡ 320) × CipherTable 64 (now table) ⌝ }
     ensures { λ r. ⌜ r ≡ mixing forward x key ⌝ }
 {
     [x[3] ^ word_g(x[2], key, table), x[0], x[1], x[2]]
@@ -100,7 +101,7 @@ fn mixed(x: [u64; 4], key: u64, table: &[u64]) -> [u64; 4]
 
 // That round taken back.
 fn unmixed(x: [u64; 4], key: u64, table: &[u64]) -> [u64; 4]
-    requires { ⌜ (length (now table) ≡ 320) × LookUps 64 (now table) ⌝ }
+    requires { ⌜ (length (now table) ≡ 320) × CipherTable 64 (now table) ⌝ }
     ensures { λ r. ⌜ r ≡ mixing backward x key ⌝ }
 {
     [x[1], x[2], x[3], x[0] ^ word_g(x[3], key, table)]
@@ -108,7 +109,7 @@ fn unmixed(x: [u64; 4], key: u64, table: &[u64]) -> [u64; 4]
 
 // The key state after a round with its constant.
 fn scheduled(key: [u64; 4], constant: u64, table: &[u64]) -> [u64; 4]
-    requires { ⌜ (length (now table) ≡ 320) × LookUps 64 (now table) ⌝ }
+    requires { ⌜ (length (now table) ≡ 320) × CipherTable 64 (now table) ⌝ }
     ensures { λ r. ⌜ r ≡ scheduled key constant ⌝ }
 {
     [
@@ -123,7 +124,7 @@ fn scheduled(key: [u64; 4], constant: u64, table: &[u64]) -> [u64; 4]
 
 // All rounds, each with its round key as the schedule comes to it.
 fn enciphered(x: [u64; 4], key: [u64; 4], table: &[u64]) -> [u64; 4]
-    requires { ⌜ (length (now table) ≡ 320) × LookUps 64 (now table) ⌝ }
+    requires { ⌜ (length (now table) ≡ 320) × CipherTable 64 (now table) ⌝ }
     ensures { λ r. ⌜ r ≡ rounds mixing forward (roundKeys cipherConstants key) x ⌝ }
 {
     let mut words = x;
@@ -141,7 +142,7 @@ fn enciphered(x: [u64; 4], key: [u64; 4], table: &[u64]) -> [u64; 4]
 
 // The round keys, which the inverse needs from the last on.
 fn round_keys(key: [u64; 4], table: &[u64]) -> [u64; 64]
-    requires { ⌜ (length (now table) ≡ 320) × LookUps 64 (now table) ⌝ }
+    requires { ⌜ (length (now table) ≡ 320) × CipherTable 64 (now table) ⌝ }
     ensures { λ r. ⌜ r ≡ roundKeys cipherConstants key ⌝ }
 {
     let mut out = [0u64; 64];
@@ -158,7 +159,7 @@ fn round_keys(key: [u64; 4], table: &[u64]) -> [u64; 64]
 
 // All rounds taken back, the last first.
 fn deciphered(x: [u64; 4], keys: [u64; 64], table: &[u64]) -> [u64; 4]
-    requires { ⌜ (length (now table) ≡ 320) × LookUps 64 (now table) ⌝ }
+    requires { ⌜ (length (now table) ≡ 320) × CipherTable 64 (now table) ⌝ }
     ensures { λ r. ⌜ r ≡ rounds mixing backward keys x ⌝ }
 {
     let mut words = x;
@@ -234,7 +235,7 @@ fn put_state(out: &mut [u8], x: [u64; 4])
 // Eight words that hold the state at the front of bytes.
 pub fn words_of(bytes: &[u8]) -> [u64; 8]
     requires { ⌜ 32 ≤ length (now bytes) ⌝ }
-    ensures { λ r. ⌜ stateOf r ≡ take 256 (bitsIn high-first (now (bytes .entry))) ⌝ }
+    ensures { λ r. ⌜ stateOfFour r ≡ take 256 (bitsIn high-first (now (bytes .entry))) ⌝ }
 {
     let x = state_words(bytes);
     [x[0], x[1], x[2], x[3], 0, 0, 0, 0]
@@ -242,7 +243,7 @@ pub fn words_of(bytes: &[u8]) -> [u64; 8]
 
 // The state of eight words in bytes, with zeros behind it.
 pub fn image(w: [u64; 8]) -> [u8; 36]
-    ensures { λ r. ⌜ r ≡ pack high-first 36 (stateOf w) ⌝ }
+    ensures { λ r. ⌜ r ≡ pack high-first 36 (stateOfFour w) ⌝ }
 {
     let mut out = [0u8; 36];
     put_state(&mut out, [w[0], w[1], w[2], w[3]]);
@@ -254,8 +255,8 @@ pub fn image(w: [u64; 8]) -> [u8; 36]
 // The state after a block, 16 bytes from `at` on: the state's first half is the key, the block and the second half what is enciphered.
 pub fn stepped(w: [u64; 8], bytes: &[u8], at: usize, table: &[u64]) -> [u64; 8]
     requires { ⌜ at + 16 ≤ length (now bytes) ⌝ }
-    requires { ⌜ (length (now table) ≡ 320) × LookUps 64 (now table) ⌝ }
-    ensures { λ r. ⌜ stateOf r ≡ lesamntaStep (stateOf w) (take 128 (drop (8 * at) (bitsIn high-first (now (bytes .entry))))) ⌝ }
+    requires { ⌜ (length (now table) ≡ 320) × CipherTable 64 (now table) ⌝ }
+    ensures { λ r. ⌜ stateOfFour r ≡ lesamntaStep (stateOfFour w) (take 128 (drop (8 * at) (bitsIn high-first (now (bytes .entry))))) ⌝ }
 {
     let key = halves(w[0], w[1]);
     let x = enciphered(

@@ -13,7 +13,7 @@ use Rattle.standard.specs.Rounds.{forward}
 use Rattle.standard.specs.Photon.{PhotonParameters}
 use Rattle.standard.proofs.Tests.{lt-or-le}
 use Rattle.shares.specs.Columns.{placeOf, share}
-use Rattle.shares.specs.Tables.{Entries, Pairs, pairOf}
+use Rattle.shares.specs.Tables.{Entries, Pairs, sharePair}
 use Rattle.shares.proofs.EntryTests.{entry-constant, entry-share}
 use Rattle.shares.proofs.LookUps.{share-lt}
 use Rattle.shares.proofs.PairSums.{SideBySide}
@@ -64,8 +64,8 @@ module _ (p : PhotonParameters) (b : SideBySide (placeOf p) p) (shares : List �
       let sixteen : 2 ^ p .s ≡ 16 = ap (λ (k : ℕ). 2 ^ k) (b .four) in
       lt-of-lt-of-le (share-lt p (b .sound) (placeOf p) (b .rise) i x (b .sound .boxes forward .within x (omega (arith, sixteen)))) (pow-mono (b .low))
 
-  pair-is : (e : ℕ) → e < 1024 → pairAt shares e ≡ pairOf (placeOf p) p (e / 256) (e % 256)
-  unfolding pairOf
+  pair-is : (e : ℕ) → e < 1024 → pairAt shares e ≡ sharePair (placeOf p) p (e / 256) (e % 256)
+  unfolding sharePair
   pair-is e he =
       let k : ℕ = e / 256 in
       let lo : 16 + 32 * k + e % 16 ≡ 16 + 16 * (2 * k) + e % 256 % 16 = omega arith in
@@ -87,5 +87,5 @@ module _ (p : PhotonParameters) (b : SideBySide (placeOf p) p) (shares : List �
             let place : 16 + 256 * k + x ≡ 16 + e = omega arith in
             let row : e / 256 ≡ k = omega arith in
             let val : e % 256 ≡ x = omega arith in
-            ap (λ (y : ℕ). getD out y 0) place ∙ u .pairs e (omega arith) ∙ pair-is e (omega arith) ∙ ap₂ (pairOf (placeOf p) p) row val;
+            ap (λ (y : ℕ). getD out y 0) place ∙ u .pairs e (omega arith) ∙ pair-is e (omega arith) ∙ ap₂ (sharePair (placeOf p) p) row val;
       }

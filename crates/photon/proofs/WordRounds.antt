@@ -18,7 +18,7 @@ use Rattle.standard.specs.Variants.{variant}
 use Rattle.standard.proofs.Xor.{xor-assoc}
 use Rattle.standard.proofs.PhotonLaws.{State, photonRounds-state}
 use Rattle.shares.specs.Columns.{cellOf, share, sumOf, placeOf, withColumn, constantColumn}
-use Rattle.shares.specs.Tables.{Entries, Pairs, pairOf}
+use Rattle.shares.specs.Tables.{Entries, Pairs, sharePair}
 use Rattle.shares.proofs.EntryTests.{entry-share}
 use Rattle.shares.proofs.WordCells.{cell-xor, cell-none, cell-sum}
 use Rattle.shares.proofs.LookUps.{look-round, words-state, added-twice, nothing-added, constants-added}
@@ -44,7 +44,7 @@ module _ (v : ℕ) (words : List ℕ) where
   -- the sums of the first k bytes of each column, with c in the first
   pub record Summed (c k : ℕ) (f : List ℕ) : Type 0 where
     pub len : length f ≡ 9
-    pub sum : (m : ℕ) → m < photonOf v .d → getD f m 0 ≡ bitXor (inFirst m c 0) (sumOf k (λ i. pairOf (placeOf (photonOf v)) (photonOf v) i (byte m i)))
+    pub sum : (m : ℕ) → m < photonOf v .d → getD f m 0 ≡ bitXor (inFirst m c 0) (sumOf k (λ i. sharePair (placeOf (photonOf v)) (photonOf v) i (byte m i)))
 
   pub summed-none : (c : ℕ) → Summed c 0 (set (replicate 9 0) 0 c)
   summed-none c = record { len = refl; sum = λ m h. first m }
@@ -67,9 +67,9 @@ module _ (v : ℕ) (low : 1 ≤ v) (high : v ≤ 4) (table : List ℕ) (T : Pair
         sum = λ m h.
             e m h
             ∙ ap₂ (λ (x y : ℕ). bitXor x (getD table (16 + 256 * k + getD words ((m + 2 * k) % p .d) 0 / 2 ^ y % 256) 0)) (u .sum m h) (byte-begins v low high k (omega arith))
-            ∙ ap (bitXor (bitXor (inFirst m c 0) (sumOf k (λ i. pairOf (placeOf p) p i (byte v words m i))))) (T .pair k (byte v words m k) hk (mod-lt _ {m = 256} (omega arith)))
-            ∙ xor-assoc (inFirst m c 0) (sumOf k (λ i. pairOf (placeOf p) p i (byte v words m i))) (pairOf (placeOf p) p k (byte v words m k))
-            ∙ ap (λ (n : ℕ). bitXor (inFirst m c 0) (sumOf n (λ i. pairOf (placeOf p) p i (byte v words m i)))) (sym (add-one k));
+            ∙ ap (bitXor (bitXor (inFirst m c 0) (sumOf k (λ i. sharePair (placeOf p) p i (byte v words m i))))) (T .pair k (byte v words m k) hk (mod-lt _ {m = 256} (omega arith)))
+            ∙ xor-assoc (inFirst m c 0) (sumOf k (λ i. sharePair (placeOf p) p i (byte v words m i))) (sharePair (placeOf p) p k (byte v words m k))
+            ∙ ap (λ (n : ℕ). bitXor (inFirst m c 0) (sumOf n (λ i. sharePair (placeOf p) p i (byte v words m i)))) (sym (add-one k));
       }
 
   -- joined, they hold the next matrix

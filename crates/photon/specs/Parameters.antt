@@ -10,11 +10,11 @@ abbrev noParameters : PhotonParameters
 noParameters = record { d = 0; s = 0; poly = 0; box = []; unbox = []; ic = []; z = []; unz = [] }
 
 -- the parameters of a family that is PHOTON; none of the others
-abbrev pub parametersIn : Family → PhotonParameters
-parametersIn (sponge (photon p) r′) = p
-parametersIn (sponge (spongent p) r′) = noParameters
-parametersIn lesamnta = noParameters
+abbrev pub photonIn : Family → PhotonParameters
+photonIn (sponge (photon p) r′) = p
+photonIn (sponge (spongent p) r′) = noParameters
+photonIn lesamnta = noParameters
 
 -- the parameters of the variant v, 1 to 5
 unfoldable pub photonOf : ℕ → PhotonParameters
-photonOf v = parametersIn (variant v .family)
+photonOf v = photonIn (variant v .family)

@@ -28,7 +28,8 @@ use Rattle.standard.proofs.BitLaws.{length-bitsIn, length-pack, bitsIn-take, im
 use Rattle.standard.proofs.Streaming.{block-count}
 use Rattle.standard.proofs.Tests.{true-not-false}
 use Rattle.standard.proofs.Variants.{Bounds, bounds, WholeBytes, layouts}
-use Rattle.sponge.specs.Layout.{packedState, clear, Holds}
+use Rattle.sponge.specs.Layout.{packedState, clear}
+use Rattle.sponge.specs.Holding.{Holds}
 use Rattle.sponge.specs.Images.{isImage}
 use Rattle.sponge.proofs.ImageLaws.{image-ready, image-state, image-read}
 use Rattle.sponge.proofs.Clear.{clear-append, clear-zeros, zeros-clear, clear-order}

@@ -22,7 +22,8 @@ use Rattle.standard.proofs.Sponge.{padding-sponge}
 use Rattle.standard.proofs.Streaming.{Streams, block-count, run-length}
 use Rattle.standard.proofs.PartBytes.{bit-block-count}
 use Rattle.standard.proofs.Variants.{bounds, streams, is-sponge}
-use Rattle.sponge.specs.Layout.{stateRoom, packedState, packedBlock, blockIn, Holds}
+use Rattle.sponge.specs.Layout.{stateRoom, packedState, packedBlock}
+use Rattle.sponge.specs.Holding.{blockIn, Holds}
 use Rattle.sponge.specs.TakenBack.{permutedState, unstep, unrun}
 use Rattle.sponge.proofs.TakenBack.{unrun-one, unrun-none, unrun-length, wanted-length}
 use Rattle.sponge.specs.Blocks.{heldThen, firstBlocks}

@@ -24,7 +24,8 @@ use Rattle.hasher.specs.declared.Hasher.{Hasher}
 use Rattle.hasher.specs.declared.Advanced.{Advanced}
 use Rattle.hasher.specs.declared.Wanted.{Wanted}
 use Rattle.hasher.specs.Sized.{Sized}
-use Rattle.hasher.specs.Running.{wholeSoFar, Open, started, updated, finished, stateOf}
+use Rattle.hasher.specs.Running.{wholeSoFar, started, updated, finished, stateOf}
+use Rattle.hasher.specs.ForCode.{Open}
 use Rattle.hasher.specs.Reading.{resultOf, roomChecks, readStatus, readInto, wholeStatus, wholeInto}
 use Rattle.hasher.proofs.Calls.{start-done, Hashable, whole-says, update-done}
 use Rattle.hasher.proofs.Message.{fresh-sized, fresh-open, fresh-whole, calls-read}

@@ -10,8 +10,8 @@ use Rattle.standard.proofs.KnownValues as proved
 use Rattle.standard.proofs.KnownValues.{holds-append}
 use Rattle.segments.specs.Entries.{formerEnd, isList, segmentIn, entryChecks, segmentChecks, segmentOf, segmentsOf, headerOf, messageOf}
 use Rattle.segments.specs.Cuts.{Passes, BorderMoved}
-use Rattle.segments.specs.Promises.{BorderExample}
-use Rattle.segments.specs.KnownValues.{smallEntry, sixBytes, listValues, knownValues}
+use Rattle.segments.specs.Promises.{AllValuesHold, BorderExample}
+use Rattle.segments.specs.KnownValues.{smallEntry, sixBytes, listValues}
 use Rattle.segments.proofs.EqualMessages.{border-shows}
 
 -- the rows for lists compute
@@ -19,7 +19,7 @@ list-values : AllHold listValues
 unfolding flatMap bigEndian inBytes formerEnd isList segmentIn entryChecks segmentChecks segmentOf segmentsOf headerOf messageOf
 list-values = refl
 
-pub known-values : AllHold knownValues
+pub known-values : AllValuesHold
 known-values = holds-append standard.knownValues listValues proved.known-values list-values
 
 -- ---- a border that is moved, and shows

@@ -65,5 +65,5 @@ abbrev pub listValues : List Row
 listValues = stated ++ ours
 
 -- the one list
-abbrev pub knownValues : List Row
-knownValues = standard.knownValues ++ listValues
+abbrev pub allValues : List Row
+allValues = standard.knownValues ++ listValues

@@ -18,6 +18,8 @@ use Rattle.standard.specs.Variants.{variant}
 use Rattle.hasher.specs.declared.Wanted.{Wanted}
 use Rattle.hasher.specs.declared.Wanted.the-variants.{EndState}
 use Rattle.segments.specs.declared.Step.the-variants.{Entry}
+use Rattle.standard.specs.KnownValues.{AllHold}
+use Rattle.segments.specs.KnownValues.{allValues}
 use Rattle.segments.specs.Entries.{offsetOf, lengthOf, isList, count, segmentStatus, entriesStatus, segmentsOf, headerOf, messageOf}
 use Rattle.segments.specs.Steps.{foundAt}
 use Rattle.segments.specs.Digests.{listStatus, listInto}
@@ -120,3 +122,7 @@ SegmentsWithin = (list buffer : List ℕ) → entriesStatus list (length buffer)
 abbrev pub EntryGiven : Type 0
 EntryGiven = (list : List ℕ) (k : ℕ) → isList list ≡ true → k < count list
     → foundAt list k ≡ record { step = Entry (offsetOf list k) (lengthOf list k); next = k + 1 }
+
+-- Every known value, of the standard's definitions and of lists, is what the definitions give.
+abbrev pub AllValuesHold : Type 0
+AllValuesHold = AllHold allValues

@@ -16,7 +16,7 @@ use Rattle.standard.proofs.Xor.{xor-assoc, xor-exchange}
 use Rattle.standard.proofs.Tab.{tab-cong}
 use Rattle.standard.proofs.PhotonLaws.{Sound}
 use Rattle.shares.specs.Columns.{only, mixed, number, cellOf, share, sumOf}
-use Rattle.shares.specs.Tables.{pairOf}
+use Rattle.shares.specs.Tables.{sharePair}
 use Rattle.shares.proofs.ColumnSums.{mixed-none}
 use Rattle.shares.proofs.WordCells.{Rising, rising, cell-xor, cell-none, cell-sum, cell-below}
 use Rattle.shares.proofs.LookUps.{sum-cong, share-lt, value-lt}
@@ -97,15 +97,15 @@ module _ (p : PhotonParameters) (place : ℕ → ℕ) (b : SideBySide place p) (
       (pow-mono (b .low))
 
   -- the lower half of a pair
-  pair-low : (i j k : ℕ) → i < p .d → cellOf place (p .s) i (pairOf place p k (byte j k)) ≡ cellOf place (p .s) i (share place p (2 * k) (given j (2 * k)))
-  unfolding pairOf
+  pair-low : (i j k : ℕ) → i < p .d → cellOf place (p .s) i (sharePair place p k (byte j k)) ≡ cellOf place (p .s) i (share place p (2 * k) (given j (2 * k)))
+  unfolding sharePair
   pair-low i j k hi =
       cell-below place (p .s) i 32 (share place p (2 * k) (byte j k % 16)) (share place p (2 * k + 1) (byte j k / 16)) (fits i hi)
       ∙ ap (λ (x : ℕ). cellOf place (p .s) i (share place p (2 * k) x)) (low-cell j k)
 
   -- its upper half, which belongs to the column before
-  pair-high : (j k : ℕ) → 2 * k + 1 ≤ p .d → pairOf place p k (byte (j + 1) k) / 2 ^ 32 ≡ share place p (2 * k + 1) (given j (2 * k + 1))
-  unfolding pairOf
+  pair-high : (j k : ℕ) → 2 * k + 1 ≤ p .d → sharePair place p k (byte (j + 1) k) / 2 ^ 32 ≡ share place p (2 * k + 1) (given j (2 * k + 1))
+  unfolding sharePair
   pair-high j k l =
       high (share place p (2 * k + 1) (byte (j + 1) k / 16)) 32 (low-lt (j + 1) k)
       ∙ ⊎-elim
@@ -123,24 +123,24 @@ module _ (p : PhotonParameters) (place : ℕ → ℕ) (b : SideBySide place p) (
 
   -- the sums, with a column c in the first; the one past the last is the first again
   module _ (c : ℕ) (small : c < 2 ^ 32) (sums : ℕ → ℕ)
-      (each : (m : ℕ) → m < p .d → sums m ≡ bitXor (inFirst m c 0) (sumOf n (λ k. pairOf place p k (byte m k)))) (again : sums (p .d) ≡ sums 0) where
+      (each : (m : ℕ) → m < p .d → sums m ≡ bitXor (inFirst m c 0) (sumOf n (λ k. sharePair place p k (byte m k)))) (again : sums (p .d) ≡ sums 0) where
     next : (j : ℕ) → j < p .d → sums (j + 1) / 2 ^ 32 ≡ sumOf n (λ k. share place p (2 * k + 1) (given j (2 * k + 1)))
     next j hj = whole ∙ sum-cong n _ _ (λ k hk. pair-high j k (omega arith))
       where
-        cut : (m : ℕ) → m < p .d → sums m / 2 ^ 32 ≡ sumOf n (λ k. pairOf place p k (byte m k) / 2 ^ 32)
+        cut : (m : ℕ) → m < p .d → sums m / 2 ^ 32 ≡ sumOf n (λ k. sharePair place p k (byte m k) / 2 ^ 32)
         cut m hm =
-            ap (λ (x : ℕ). x / 2 ^ 32) (each m hm) ∙ xor-shr (inFirst m c 0) (sumOf n (λ k. pairOf place p k (byte m k))) 32
-            ∙ ap₂ bitXor (none m) (sum-shr n 32 (λ k. pairOf place p k (byte m k)))
+            ap (λ (x : ℕ). x / 2 ^ 32) (each m hm) ∙ xor-shr (inFirst m c 0) (sumOf n (λ k. sharePair place p k (byte m k))) 32
+            ∙ ap₂ bitXor (none m) (sum-shr n 32 (λ k. sharePair place p k (byte m k)))
           where
             none : (m : ℕ) → inFirst m c 0 / 2 ^ 32 ≡ 0
             none zero = div-eq-of-lt small
             none (suc m) = zero-div (2 ^ 32)
 
-        whole : sums (j + 1) / 2 ^ 32 ≡ sumOf n (λ k. pairOf place p k (byte (j + 1) k) / 2 ^ 32)
+        whole : sums (j + 1) / 2 ^ 32 ≡ sumOf n (λ k. sharePair place p k (byte (j + 1) k) / 2 ^ 32)
         whole =
             ⊎-elim
             (λ e. ap (λ (m : ℕ). sums m / 2 ^ 32) e ∙ ap (λ (x : ℕ). x / 2 ^ 32) again ∙ cut 0 (b .sound .pos)
-            ∙ sum-cong n _ _ (λ k hk. ap (λ (x : ℕ). pairOf place p k (getD words x 0 / 2 ^ place (2 * k) % 256) / 2 ^ 32) (round k e)))
+            ∙ sum-cong n _ _ (λ k hk. ap (λ (x : ℕ). sharePair place p k (getD words x 0 / 2 ^ place (2 * k) % 256) / 2 ^ 32) (round k e)))
             (cut (j + 1))
             (let l : j + 1 ≤ p .d = omega arith in eq-or-lt-of-le l)
           where
@@ -166,7 +166,7 @@ module _ (p : PhotonParameters) (place : ℕ → ℕ) (b : SideBySide place p) (
         first zero = refl
         first (suc m) = cell-none place (p .s) i
 
-        lower : cellOf place (p .s) i (sums j) ≡ bitXor (inFirst j (cellOf place (p .s) i c) 0) (sumOf n (λ k. cellOf place (p .s) i (pairOf place p k (byte j k))))
+        lower : cellOf place (p .s) i (sums j) ≡ bitXor (inFirst j (cellOf place (p .s) i c) 0) (sumOf n (λ k. cellOf place (p .s) i (sharePair place p k (byte j k))))
         lower =
-            ap (cellOf place (p .s) i) (each j hj) ∙ cell-xor place (p .s) i (inFirst j c 0) (sumOf n (λ k. pairOf place p k (byte j k)))
-            ∙ ap₂ bitXor (first j) (cell-sum place (p .s) n (λ k. pairOf place p k (byte j k)) i)
+            ap (cellOf place (p .s) i) (each j hj) ∙ cell-xor place (p .s) i (inFirst j c 0) (sumOf n (λ k. sharePair place p k (byte j k)))
+            ∙ ap₂ bitXor (first j) (cell-sum place (p .s) n (λ k. sharePair place p k (byte j k)) i)

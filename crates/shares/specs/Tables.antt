@@ -18,11 +18,11 @@ pub record Entries (n : ℕ) (p : PhotonParameters) (table : List ℕ) : Type 0 
   pub entry : (k : ℕ) → k < n → getD table k 0 ≡ entryOf p k
 
 -- two rows of cells of four bits in one entry: for the byte x of a column, the share of its low half in row 2 k and, 32 bits higher, that of its high half in row 2 k + 1
-unfoldable pub pairOf : (ℕ → ℕ) → PhotonParameters → ℕ → ℕ → ℕ
-pairOf place p k x = share place p (2 * k + 1) (x / 16) * 2 ^ 32 + share place p (2 * k) (x % 16)
+unfoldable pub sharePair : (ℕ → ℕ) → PhotonParameters → ℕ → ℕ → ℕ
+sharePair place p k x = share place p (2 * k + 1) (x / 16) * 2 ^ 32 + share place p (2 * k) (x % 16)
 
 -- a table of such pairs, behind the constants of the rounds
 pub record Pairs (p : PhotonParameters) (table : List ℕ) : Type 0 where
   pub size : 16 + 256 * ((p .d + 1) / 2) ≤ length table
   pub constant : (r : ℕ) → r < 13 → getD table r 0 ≡ constantColumn (placeOf p) p r
-  pub pair : (k x : ℕ) → 2 * k < p .d → x < 256 → getD table (16 + 256 * k + x) 0 ≡ pairOf (placeOf p) p k x
+  pub pair : (k x : ℕ) → 2 * k < p .d → x < 256 → getD table (16 + 256 * k + x) 0 ≡ sharePair (placeOf p) p k x

@@ -14,7 +14,8 @@ use Rattle.standard.specs.Variants.{variant, known}
 use Rattle.standard.proofs.BitLaws.{length-filled, unpack-pack}
 use Rattle.standard.proofs.Streaming.{run-append, run-one, run-none}
 use Rattle.standard.proofs.Variants.{Bounds, bounds}
-use Rattle.sponge.specs.Layout.{blockRoom, packedBlock, blockIn, HoldsBlock}
+use Rattle.sponge.specs.Layout.{blockRoom, packedBlock}
+use Rattle.sponge.specs.Holding.{blockIn, HoldsBlock}
 use Rattle.sponge.specs.Blocks.{firstBlocks}
 use Rattle.sponge.proofs.BlockRows.{first-none, first-more}
 

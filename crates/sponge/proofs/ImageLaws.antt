@@ -22,7 +22,8 @@ use Rattle.standard.specs.Variants.{variant, known}
 use Rattle.standard.proofs.Tests.{and-true, true-not-false}
 use Rattle.standard.proofs.BitLaws.{take-pack, length-unpack}
 use Rattle.standard.proofs.Variants.{Bounds, bounds, WholeBytes, layouts}
-use Rattle.sponge.specs.Layout.{stateRoom, packedState, clear, Holds}
+use Rattle.sponge.specs.Layout.{stateRoom, packedState, clear}
+use Rattle.sponge.specs.Holding.{Holds}
 use Rattle.sponge.specs.Images.{isImage, imageChecks, imageStatus, permutedBytes, permutedImage}
 use Rattle.sponge.specs.TakenBack.{permutedBy, permutedState}
 use Rattle.sponge.proofs.Clear.{clear-order}

@@ -27,7 +27,8 @@ use Rattle.photon.specs.Parameters.{photonOf}
 use Rattle.photon.proofs.ParametersOf.{photon-variant, sound}
 use Rattle.spongent.specs.Parameters.{spongentOf}
 use Rattle.spongent.proofs.ParametersOf.{family-of, bits-of}
-use Rattle.sponge.specs.Layout.{blockRoom, stateRoom, packedState, blockIn, Holds, HoldsBlock}
+use Rattle.sponge.specs.Layout.{blockRoom, stateRoom, packedState}
+use Rattle.sponge.specs.Holding.{blockIn, Holds, HoldsBlock}
 use Rattle.sponge.specs.TakenBack.{permutedState, unstep}
 use Rattle.sponge.proofs.TakenBack.{permuted-length}
 use Rattle.sponge.proofs.MatrixImage.{matrix-front}

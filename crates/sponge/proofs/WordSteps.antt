@@ -43,7 +43,7 @@ use Rattle.sponge.specs.TakenBack.{permutedState}
 use Rattle.sponge.proofs.TakenBack.{step-permutes}
 use Rattle.standard.specs.Lesamnta.{lesamntaStep}
 use Rattle.standard.proofs.LesamntaLaws as lw
-use Rattle.lesamnta.specs.Words.{stateOf}
+use Rattle.lesamnta.specs.States.{stateOfFour}
 use Rattle.sponge.specs.Layout.{stateRoom, packedState}
 use Rattle.sponge.proofs.MatrixImage.{matrix-front}
 use Rattle.sponge.proofs.CellsIntoWords.{Taken, taken-none, taken-row, columns-are, matrix-xor, block-cell}
@@ -270,23 +270,23 @@ spongent-words v low high bytes r e = rw (family-of v low high, bits-of v low hi
 -- ---- Lesamnta-LW
 
 pub lesamnta-stepped : (bytes : List ℕ) (m : ℕ) → m % 2 ≡ 0 → (w y : List ℕ)
-    → stateOf y ≡ lesamntaStep (stateOf w) (take 128 (drop (8 * (m / 2)) (bitsIn high-first bytes)))
+    → stateOfFour y ≡ lesamntaStep (stateOfFour w) (take 128 (drop (8 * (m / 2)) (bitsIn high-first bytes)))
     → stateInWords (variant 11) y ≡ step (variant 11) (stateInWords (variant 11) w) (take (variant 11 .r) (drop (4 * m) (bitsIn high-first bytes)))
 unfolding stateInWords step variant
 lesamnta-stepped bytes m even w y e =
     let place : 8 * (m / 2) ≡ 4 * m = omega arith in
-    e ∙ ap (λ (n : ℕ). lesamntaStep (stateOf w) (take 128 (drop n (bitsIn high-first bytes)))) place
+    e ∙ ap (λ (n : ℕ). lesamntaStep (stateOfFour w) (take 128 (drop n (bitsIn high-first bytes)))) place
 
-pub lesamnta-words : (bytes r : List ℕ) → stateOf r ≡ take 256 (bitsIn high-first bytes) → stateInWords (variant 11) r ≡ stateIn (variant 11) bytes
+pub lesamnta-words : (bytes r : List ℕ) → stateOfFour r ≡ take 256 (bitsIn high-first bytes) → stateInWords (variant 11) r ≡ stateIn (variant 11) bytes
 unfolding stateInWords stateIn unpack variant
 lesamnta-words bytes r e = e
 
-pub lesamnta-image : (w r : List ℕ) → r ≡ pack high-first 36 (stateOf w) → r ≡ packedState (variant 11) (stateInWords (variant 11) w)
+pub lesamnta-image : (w r : List ℕ) → r ≡ pack high-first 36 (stateOfFour w) → r ≡ packedState (variant 11) (stateInWords (variant 11) w)
 unfolding stateInWords variant
 lesamnta-image w r e = e
 
 lesamnta-length : (w : List ℕ) → length (stateInWords (variant 11) w) ≡ variant 11 .t
-unfolding stateInWords stateOf variant
+unfolding stateInWords stateOfFour variant
 lesamnta-length w = lw.bits-length 64 (tab 4 (λ i. getD w i 0))
 
 -- words hold as many bits as the state has

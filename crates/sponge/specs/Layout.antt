@@ -1,12 +1,10 @@
 -- How the code holds a state and a block: an image, or a block's bits, at the front of bytes that have room for those of every variant.
 -- Assumes nothing.
-use mathlib.Core.Path.{_≡_}
 use mathlib.Core.Bool.{Bool, true, not, _&&_}
 use mathlib.Core.List.{List, [], _∷_}
 use Prim.Native.Nat.{ℕ}
-use Rattle.standard.specs.Bits.{high-first, pack, unpack}
-use Rattle.standard.specs.Families.{Variant, order, stateIn}
-use Rattle.standard.specs.Variants.{variant}
+use Rattle.standard.specs.Bits.{high-first, pack}
+use Rattle.standard.specs.Families.{Variant, order}
 
 -- the bytes that have room for the state of every variant, for a block and for a digest
 abbrev pub stateRoom : ℕ
@@ -25,18 +23,6 @@ packedState H s = pack (order H) stateRoom s
 -- a block, packed like an image (SPONGENT's are whole bytes, which both orders pack alike); held bits from the high end of their bytes on, in both families (document 02, Q-6)
 abbrev pub packedBlock : List Bool → List ℕ
 packedBlock b = pack high-first blockRoom b
-
--- the block at the front of bytes
-abbrev pub blockIn : Variant → List ℕ → List Bool
-blockIn H bytes = unpack high-first (H .r) bytes
-
--- the bytes hold a state of the variant v: its image, and zeros behind
-abbrev pub Holds : ℕ → List ℕ → Type 0
-Holds v bytes = bytes ≡ packedState (variant v) (stateIn (variant v) bytes)
-
--- the bytes hold a block of the variant v, and zeros behind
-abbrev pub HoldsBlock : ℕ → List ℕ → Type 0
-HoldsBlock v bytes = bytes ≡ packedBlock (blockIn (variant v) bytes)
 
 -- no bit is set
 abbrev pub clear : List Bool → Bool

@@ -15,14 +15,14 @@ use Rattle.shares.specs.Tables.{Entries, Pairs}
 use Rattle.photon.specs.Parameters.{photonOf}
 use Rattle.spongent.specs.Words.{bytesIn, LookUps}
 use Rattle.lesamnta.specs.LookUps as boxes
-use Rattle.lesamnta.specs.Words.{stateOf}
+use Rattle.lesamnta.specs.States.{stateOfFour}
 use Rattle.sponge.specs.Layout.{stateRoom, packedState}
 
 -- by family: PHOTON's matrix has a column in each word, SPONGENT's bytes stand in order, eight to a word, and Lesamnta-LW's words are its own
 abbrev pub stateOfWords : Family → List ℕ → List Bool
 stateOfWords (sponge (photon p) r′) words = bitsOfMatrix (p .s) (matrixOfWords (placeOf p) p words)
 stateOfWords (sponge (spongent p) r′) words = unpack low-first (p .t) (bytesIn words)
-stateOfWords lesamnta words = stateOf words
+stateOfWords lesamnta words = stateOfFour words
 
 -- the state of a variant that words hold
 unfoldable pub stateInWords : Variant → List ℕ → List Bool
@@ -33,7 +33,7 @@ pub record TableOf (v : ℕ) (table : List ℕ) : Type 0 where
   pub pairs : v ≤ 4 → Pairs (photonOf v) table
   pub shares : v ≡ 5 → (length table ≡ 1552) × Entries 1552 (photonOf 5) table
   pub spread : 6 ≤ v → v ≤ 10 → (length table ≡ 2048) × LookUps nibbles table
-  pub boxes : v ≡ 11 → (length table ≡ 320) × boxes.LookUps 64 table
+  pub boxes : v ≡ 11 → (length table ≡ 320) × boxes.CipherTable 64 table
 
 -- the digest that a state gives, or the state itself, at the front of bytes that have room for either
 abbrev pub outcome : Variant → Bool → List Bool → List ℕ

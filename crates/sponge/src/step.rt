@@ -8,7 +8,8 @@ ghost use Rattle.standard.specs.ForCode.{direction};
 ghost use Rattle.standard.specs.Families.{isSponge, stateIn};
 ghost use Rattle.standard.specs.Chain.{startState};
 ghost use Rattle.standard.specs.Variants.{variant, known};
-ghost use Rattle.sponge.specs.Layout.{stateRoom, packedState, blockIn, Holds, HoldsBlock};
+ghost use Rattle.sponge.specs.Layout.{stateRoom, packedState};
+ghost use Rattle.sponge.specs.Holding.{blockIn, Holds, HoldsBlock};
 ghost use Rattle.sponge.specs.Directions.{directionOf};
 ghost use Rattle.sponge.specs.TakenBack.{permutedState, unstep};
 use crate::matrix;
@@ -81,44 +82,11 @@ const START_ENDS: [[u8; 4]; 6] = [
 ];
 
 // The start value of Lesamnta-LW, and zeros behind it.
-const CHAIN_START: [u8; STATE_BYTES] = [
-    0,
-    0,
-    2,
-    0x56,
-    0,
-    0,
-    2,
-    0x56,
-    0,
-    0,
-    2,
-    0x56,
-    0,
-    0,
-    2,
-    0x56,
-    0,
-    0,
-    2,
-    0x56,
-    0,
-    0,
-    2,
-    0x56,
-    0,
-    0,
-    2,
-    0x56,
-    0,
-    0,
-    2,
-    0x56,
-    0,
-    0,
-    0,
-    0,
-];
+const CHAIN_START: [u8; STATE_BYTES] = *b"\
+\x00\x00\x02\x56\x00\x00\x02\x56\x00\x00\x02\x56\x00\x00\x02\x56\
+\x00\x00\x02\x56\x00\x00\x02\x56\x00\x00\x02\x56\x00\x00\x02\x56\
+\x00\x00\x00\x00\
+";
 
 // The bytes that hold the start state.
 pub fn start(v: u8) -> [u8; STATE_BYTES]

@@ -12,14 +12,14 @@ abbrev noParameters : SpongentParameters
 noParameters = record { t = 0; R = 0; width = 0; first = 0; taps = [] }
 
 -- the parameters of a family that is SPONGENT; none of the others
-abbrev pub parametersIn : Family → SpongentParameters
-parametersIn (sponge (spongent p) r′) = p
-parametersIn (sponge (photon p) r′) = noParameters
-parametersIn lesamnta = noParameters
+abbrev pub spongentIn : Family → SpongentParameters
+spongentIn (sponge (spongent p) r′) = p
+spongentIn (sponge (photon p) r′) = noParameters
+spongentIn lesamnta = noParameters
 
 -- the parameters of the variant v, 6 to 10
 unfoldable pub spongentOf : ℕ → SpongentParameters
-spongentOf v = parametersIn (variant v .family)
+spongentOf v = spongentIn (variant v .family)
 
 -- Table 9 has one polynomial for each width, 6 to 8
 unfoldable pub tapsOf : ℕ → List ℕ

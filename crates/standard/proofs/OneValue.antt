@@ -16,6 +16,7 @@ use Rattle.standard.specs.Families.{Variant, isSponge}
 use Rattle.standard.specs.Chain.{startState, padding, padded, wholeBlocks, blocksOf, DifferAt, endState}
 use Rattle.standard.specs.Messages.{byteBits}
 use Rattle.standard.specs.Variants.{variants, variant, known}
+use Rattle.standard.specs.Promises.{InOneBlockMod, TwoByteValues}
 use Rattle.standard.specs.Values.{DifferWithin, inOneBlock, period, offsets, oneBlockOffsets}
 use Rattle.standard.proofs.Tests.{lt-or-le, either}
 use Rattle.standard.proofs.BitLaws.{length-bitsIn, pack-bitsIn, bitsIn-take, bitsIn-drop}
@@ -238,16 +239,12 @@ module _ (v : ℕ) (k : known v ≡ true) (n : ℕ) where
       let H : Variant = variant v in
       ⊎-elim (λ e. rw (same-start (H .r) (period H) 1 e p q)) (λ e. rw (same-start (H .r) (period H) 2 e p q)) (period-blocks H (bounds v k .rate-quarters))
 
-  -- so the offsets below the period speak of all
-  pub inOneBlock-mod : (p : ℕ) → inOneBlock (variant v) p n ≡ inOneBlock (variant v) (p % period (variant v)) n
-  inOneBlock-mod p =
-      let P : ℕ = period (variant v) in
-      rw (add-comm (p % P), div-add-mod') at (inOneBlock-again (p % P) (p / P))
+-- so the offsets below the period speak of all
+pub inOneBlock-mod : InOneBlockMod
+inOneBlock-mod v k n p =
+    let P : ℕ = period (variant v) in
+    rw (add-comm (p % P), div-add-mod') at (inOneBlock-again v k n (p % P) (p / P))
 
--- a value of two bytes, in each of the ten sponges: of how many bytes, and at which of them it may begin
-pub two-byte-values :
-    map (oneBlockOffsets 2) (take 10 (tail variants))
-    ≡ (5, 0 ∷ 3 ∷ []) ∷ (2, 0 ∷ []) ∷ (9, 0 ∷ 1 ∷ 2 ∷ 5 ∷ 6 ∷ 7 ∷ []) ∷ (4, 0 ∷ 1 ∷ 2 ∷ []) ∷ (4, 0 ∷ 1 ∷ 2 ∷ [])
-    ∷ (1, []) ∷ (1, []) ∷ (2, 0 ∷ []) ∷ (2, 0 ∷ []) ∷ (2, 0 ∷ []) ∷ []
+pub two-byte-values : TwoByteValues
 unfolding period offsets inOneBlock
 two-byte-values = refl

@@ -13,6 +13,7 @@ use Rattle.standard.specs.Bits.{high-first, bitsOf, valueOf, bitsIn, pac
 use Rattle.standard.specs.Families.{photon, spongent, Family, sponge, lesamnta, Variant, isSponge}
 use Rattle.standard.specs.Chain.{blocksOf}
 use Rattle.standard.specs.Messages.{byteBits, countedOf, messageBits}
+use Rattle.standard.specs.Promises.{MessageTold}
 use Rattle.standard.specs.PartBytes.{beforeLast, lastOf, SameMessage}
 use Rattle.standard.specs.Variants.{variant, known}
 use Rattle.standard.proofs.BitLaws.{length-bitsOf, length-bitsIn, bitsIn-append, pack-bitsIn, valueOf-bitsOf}
@@ -118,8 +119,8 @@ module _ (v : ℕ) (named : known v ≡ true) (x y : List ℕ) (hx : (i : ℕ) �
   abbrev Y : List Bool
   Y = bitsOf high-first k (countedOf (H .family) k (lastOf y))
 
-  pub message-told : blocksOf (variant v) (messageBits (variant v) x k) ≡ blocksOf (variant v) (messageBits (variant v) y l) → SameMessage (variant v) x k y l
-  message-told e =
+  one-message : blocksOf (variant v) (messageBits (variant v) x k) ≡ blocksOf (variant v) (messageBits (variant v) y l) → SameMessage (variant v) x k y l
+  one-message e =
       let same : messageBits H x k ≡ messageBits H y l = rows-tell v named (messageBits H x k) (messageBits H y l) e in
       let many : 8 * (length x - 1) + k ≡ 8 * (length y - 1) + l = sym (bits-length x sx H k) ∙ ap length same ∙ bits-length y sy H l in
       let bytes : length x ≡ length y = omega arith in
@@ -151,3 +152,6 @@ module _ (v : ℕ) (named : known v ≡ true) (x y : List ℕ) (hx : (i : ℕ) �
           sym (valueOf-bitsOf high-first k _ (counted-lt (H .family) k (lastOf x) k-most (hx (length x - 1))))
           ∙ ap (valueOf high-first) e
           ∙ valueOf-bitsOf high-first k _ (counted-lt (H .family) k (lastOf y) k-most (hy (length y - 1)))
+
+pub message-told : MessageTold
+message-told = one-message

@@ -2,9 +2,9 @@
 -- Assumes nothing.
 use mathlib.Core.Path.{_≡_}
 use mathlib.Core.Bool.{Bool, true}
-use mathlib.Core.List.{List}
-use Prim.Native.Nat.{ℕ, _≤_, _<_}
-use lib.ListN.{length, take}
+use mathlib.Core.List.{List, [], _∷_, map, tail}
+use Prim.Native.Nat.{ℕ, _%_, _≤_, _<_}
+use lib.ListN.{length, take, getD}
 use Rattle.standard.specs.Rounds.{Direction, opposite, iterate}
 use Rattle.standard.specs.Spongent.{SpongentParameters}
 use Rattle.standard.specs.Counters.{counterIn, reversal, steppedCounter, steppedReversed}
@@ -12,7 +12,10 @@ use Rattle.standard.specs.Lesamnta.{cipher}
 use Rattle.standard.specs.Families.{Permutation, spongent, sponge, isSponge}
 use Rattle.standard.specs.Sponge.{permutation}
 use Rattle.standard.specs.Chain.{startState, blocksOf, Blocks, DifferAt, step, run}
-use Rattle.standard.specs.Variants.{variant, known}
+use Rattle.standard.specs.Messages.{messageBits}
+use Rattle.standard.specs.PartBytes.{SameMessage}
+use Rattle.standard.specs.Values.{inOneBlock, period, oneBlockOffsets}
+use Rattle.standard.specs.Variants.{variants, variant, known}
 use Rattle.standard.specs.KnownValues.{AllHold, knownValues}
 
 -- Demand 2: the permutation of every sponge and its inverse undo each other, in both orders, on every state of t bits.
@@ -54,3 +57,20 @@ ReversedInEachRound = (v : ℕ) (p : SpongentParameters) (r′ : ℕ) → varian
 -- Every known value of the list is what the definitions give.
 abbrev pub KnownValuesHold : Type 0
 KnownValuesHold = AllHold knownValues
+
+-- For document 02, Q-6: two messages of bytes, of whose last ones k and l bits count, are one message where their padded rows are equal.
+abbrev pub MessageTold : Type 0
+MessageTold = (v : ℕ) → known v ≡ true → (x y : List ℕ) → ((i : ℕ) → getD x i 0 < 256) → ((i : ℕ) → getD y i 0 < 256) → 0 < length x → 0 < length y
+    → (k l : ℕ) → 1 ≤ k → k ≤ 8 → 1 ≤ l → l ≤ 8
+    → blocksOf (variant v) (messageBits (variant v) x k) ≡ blocksOf (variant v) (messageBits (variant v) y l) → SameMessage (variant v) x k y l
+
+-- Whether a value of n bytes lies in one block depends on its offset within the period alone,
+abbrev pub InOneBlockMod : Type 0
+InOneBlockMod = (v : ℕ) → known v ≡ true → (n p : ℕ) → inOneBlock (variant v) p n ≡ inOneBlock (variant v) (p % period (variant v)) n
+
+-- and these are the periods of the ten sponges, each with the offsets at which a value of two bytes lies in one block.
+abbrev pub TwoByteValues : Type 0
+TwoByteValues =
+    map (oneBlockOffsets 2) (take 10 (tail variants))
+    ≡ (5, 0 ∷ 3 ∷ []) ∷ (2, 0 ∷ []) ∷ (9, 0 ∷ 1 ∷ 2 ∷ 5 ∷ 6 ∷ 7 ∷ []) ∷ (4, 0 ∷ 1 ∷ 2 ∷ []) ∷ (4, 0 ∷ 1 ∷ 2 ∷ [])
+    ∷ (1, []) ∷ (1, []) ∷ (2, 0 ∷ []) ∷ (2, 0 ∷ []) ∷ (2, 0 ∷ []) ∷ []

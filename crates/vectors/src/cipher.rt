@@ -4,7 +4,7 @@ use crate::show;
 ghost use mathlib.Core.Path.{_≡_};
 ghost use Prim.Native.Nat.{_≤_};
 ghost use lib.ListN.{length};
-ghost use Rattle.lesamnta.specs.LookUps.{LookUps};
+ghost use Rattle.lesamnta.specs.LookUps.{CipherTable};
 
 // The lower half of a word, its highest byte first.
 fn half(x: u64) {
@@ -28,7 +28,7 @@ fn operation(name: &[u8]) {
 }
 
 fn q(x: u64, table: &[u64])
-    requires { ⌜ (length (now table) ≡ 320) × LookUps 64 (now table) ⌝ }
+    requires { ⌜ (length (now table) ≡ 320) × CipherTable 64 (now table) ⌝ }
 {
     operation(b"q");
     half(x);
@@ -38,7 +38,7 @@ fn q(x: u64, table: &[u64])
 }
 
 fn g(y: u64, key: u64, table: &[u64])
-    requires { ⌜ (length (now table) ≡ 320) × LookUps 64 (now table) ⌝ }
+    requires { ⌜ (length (now table) ≡ 320) × CipherTable 64 (now table) ⌝ }
 {
     operation(b"g");
     word(y);

@@ -10,7 +10,8 @@ use Rattle.answers.proofs.Rows.{refused-first, row-second}
 use Rattle.standard.specs.Messages.{Given, givenBits}
 use Rattle.sponge.specs.Messages.{numberChecks, Fits}
 use Rattle.sponge.specs.Parts.{given}
-use Rattle.hasher.specs.Running.{variantOf, Open, openChecks, followChecks}
+use Rattle.hasher.specs.Running.{variantOf, openChecks, followChecks}
+use Rattle.hasher.specs.ForCode.{Open}
 use Rattle.hasher.proofs.WellFormed.{facts}
 use Rattle.hasher.proofs.Calls.{open-says, update-answer, same-room}
 use Rattle.hasher.proofs.check_update.Statement.{statement}

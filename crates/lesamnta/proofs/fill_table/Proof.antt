@@ -4,13 +4,13 @@ use borrow.Author.Needs.{needs}
 use Rattle.standard.specs.Field.{double, times, mul}
 use Rattle.standard.specs.Photon.{aes}
 use Rattle.standard.specs.Lesamnta.{shifted, generated}
-use Rattle.lesamnta.specs.LookUps.{boxed}
+use Rattle.lesamnta.specs.LookUps.{boxedByte}
 use Rattle.lesamnta.proofs.LookUpLaws.{box-table, constant-table}
 use Rattle.lesamnta.proofs.fill_table.Statement.{statement}
 use Rattle.lesamnta.proofs.fill_table.Tie as tie
 
 put-boxes-requires : tie.Need-put-boxes-requires
-unfolding boxed mul times double aes
+unfolding boxedByte mul times double aes
 put-boxes-requires c κs = (search needs, box-table)
 
 put-constants-requires : tie.Need-put-constants-requires

@@ -6,12 +6,12 @@ use borrow.Author.Needs.{needs}
 use Rattle.standard.specs.Bits.{high-first}
 use Rattle.standard.proofs.BitLaws.{pack-whole}
 use Rattle.standard.proofs.LesamntaLaws.{bits-length}
-use Rattle.lesamnta.specs.Words.{stateOf}
+use Rattle.lesamnta.specs.States.{stateOfFour}
 use Rattle.lesamnta.proofs.image.Statement.{statement}
 use Rattle.lesamnta.proofs.image.Tie as tie
 
 returns : tie.Need-returns
-unfolding stateOf
+unfolding stateOfFour
 returns c = c .before .put-state .ensures ∙ sym (pack-whole high-first 32 36 _ (omega arith) (bits-length 64 _))
 
 pub image-spec : {M : Type 1} → statement M

@@ -4,13 +4,13 @@ use mathlib.Core.Path.{_≡_, _∙_}
 use Prim.Native.Nat.{_-_, _≤_}
 use native.Mathlib.Omega.{arith}
 use lib.ListN.{length, length-set}
-use Rattle.lesamnta.specs.LookUps.{LookUps}
+use Rattle.lesamnta.specs.LookUps.{CipherTable}
 use Rattle.lesamnta.proofs.LookUpLaws.{constant-more}
 use Rattle.lesamnta.proofs.put_constants.Statement.{statement}
 use Rattle.lesamnta.proofs.put_constants.Tie as tie
 
 abbrev Inv-loop : tie.InvT-loop
-Inv-loop out₀ constants r₀ out r = (r ≤ 64) × (length out ≡ 320) × LookUps r out
+Inv-loop out₀ constants r₀ out r = (r ≤ 64) × (length out ≡ 320) × CipherTable r out
 
 abbrev μ-loop : tie.MeasureT-loop
 μ-loop out₀ constants r₀ out r = 64 - r

@@ -11,13 +11,13 @@ use Rattle.standard.specs.Lesamnta.{bitsOfWords}
 use Rattle.standard.proofs.BitLaws.{length-bitsIn}
 use Rattle.standard.proofs.Tab.{tab-self}
 use Rattle.arrays.proofs.Elements.{numbers-lt}
-use Rattle.lesamnta.specs.Words.{stateOf}
+use Rattle.lesamnta.specs.States.{stateOfFour}
 use Rattle.lesamnta.proofs.StepLaws.{stepped-is}
 use Rattle.lesamnta.proofs.stepped.Statement.{statement}
 use Rattle.lesamnta.proofs.stepped.Tie as tie
 
 returns : tie.Need-returns
-unfolding stateOf
+unfolding stateOfFour
 returns c =
     let s = c .before .before .before .before .before .before in
     let bytes : List ℕ = s .args .bytes .now in

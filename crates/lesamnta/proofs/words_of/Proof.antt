@@ -9,13 +9,13 @@ use Rattle.standard.specs.Bits.{high-first, bitsIn}
 use Rattle.standard.specs.Lesamnta.{bitsOfWords}
 use Rattle.standard.proofs.BitLaws.{length-bitsIn}
 use Rattle.standard.proofs.Tab.{tab-self}
-use Rattle.lesamnta.specs.Words.{stateOf}
+use Rattle.lesamnta.specs.States.{stateOfFour}
 use Rattle.lesamnta.proofs.WordLaws.{state-read}
 use Rattle.lesamnta.proofs.words_of.Statement.{statement}
 use Rattle.lesamnta.proofs.words_of.Tie as tie
 
 returns : tie.Need-returns
-unfolding stateOf
+unfolding stateOfFour
 returns c =
     let s = c .before .before in
     let bytes : List ℕ = s .args .bytes .now in

@@ -14,7 +14,8 @@ use Rattle.standard.specs.Variants.{variant}
 use Rattle.standard.proofs.Tests.{true-not-false}
 use Rattle.standard.proofs.Variants.{streams, not-sponge}
 use Rattle.arrays.proofs.Elements.{bytes-lt}
-use Rattle.sponge.specs.Layout.{stateRoom, packedState, Holds}
+use Rattle.sponge.specs.Layout.{stateRoom, packedState}
+use Rattle.sponge.specs.Holding.{Holds}
 use Rattle.sponge.specs.Parts.{messageIn}
 use Rattle.sponge.proofs.States.{state-length, stored-ready}
 use Rattle.recover.specs.Difference.{between}
