@@ -517,7 +517,7 @@ WICKSLATE_CALL uint32_t wickslate_entry(const uint8_t *list, size_t list_length,
 /*
  * Gives the offset and length of the cursor's next entry, as they stand, and
  * moves the cursor on by one. The bytes of the list are lent as long as the
- * cursor is. Behind the last entry the answer is 7, as often as it is asked.
+ * cursor is. After the last entry the answer is 7, as often as it is asked.
  *
  * Refusals: 9 (BAD_LIST) if the list is not whole entries, or more than 512;
  *           7 (OUT_OF_RANGE) if `next` is not below the number of entries.

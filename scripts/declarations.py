@@ -10,7 +10,7 @@ CLAUSES = {"requires", "ensures"}
 # A text, an escaped name, a separator, or a run of anything else: the lexical rules of antt
 ANTT = re.compile(r'(?P<space>\s+)|(?P<text>"(?:\\.|[^"\\])*")|«[^»]*»|[(){}.;,@]|[^\s(){}.;,@"«»]+')
 RATTLE = re.compile(
-    r"(?P<space>\s+|//[^\n]*)|(?P<text>b?\"(?:\\.|[^\"\\])*\"|b?'(?:\\.|[^'\\\n])')|'\w+|::|->|=>|[(){}\[\];,.:<>=&|!+\-*/%^#?@]"
+    r"(?P<space>\s+|//[^\n]*)|(?P<text>b?\"(?:\\[\s\S]|[^\"\\])*\"|b?'(?:\\.|[^'\\\n])')|'\w+|::|->|=>|[(){}\[\];,.:<>=&|!+\-*/%^#?@]"
     r"|[^\s(){}\[\];,.:<>=&|!+\-*/%^#?@\"]+"
 )
 OPEN, CLOSE = {"(", "{", "["}, {")", "}", "]"}
