@@ -200,12 +200,11 @@ module _ (v : ℕ) (list x out list′ y out′ : List ℕ) (dx : listStatus v l
       ∙ ap (take (imageSize (variant v))) (list-whole-into v list′ y EndState (ay .whole) (ay .all-fit) out′))
 
 pub list-row-told : ListRowTold
-list-row-told v list x out list′ y out′ dx dy q i d =
-    let named = ax v list x out list′ y out′ dx dy .message .asked .named in (
-      one-changed-row v q i (byteBits (messageOf list x)) (byteBits (messageOf list′ y)) d,
-      lists-told v list x out list′ y out′ dx dy
-          (row-told v q (bytes (messageOf list x)) (bytes (messageOf list′ y)) refl refl (ax v list x out list′ y out′ dx dy .message .asked .few) (ay v list x out list′ y out′ dx dy .message .asked .few) i d),
-    )
+list-row-told v list x out list′ y out′ dx dy q i d = (
+  one-changed-row v q i (byteBits (messageOf list x)) (byteBits (messageOf list′ y)) d,
+  lists-told v list x out list′ y out′ dx dy
+      (row-told v q (bytes (messageOf list x)) (bytes (messageOf list′ y)) refl refl (ax v list x out list′ y out′ dx dy .message .asked .few) (ay v list x out list′ y out′ dx dy .message .asked .few) i d),
+)
 
 pub list-block-told : ListBlockTold
 list-block-told v list x out list′ y out′ dx dy q j d =
