@@ -13,7 +13,7 @@ use Rattle.standard.proofs.Variants.{bounds, known-true}
 use Rattle.answers.specs.declared.Status.the-variants.{Done}
 use Rattle.answers.proofs.LineLaws.{Wrote, wrote-on}
 use Rattle.hasher.specs.declared.Hasher.{Hasher}
-use Rattle.hasher.specs.declared.Wanted.the-variants.{Digest}
+use Rattle.standard.specs.declared.Wanted.the-variants.{Digest}
 use Rattle.hasher.specs.Running.{variantOf, stateOf}
 use Rattle.hasher.specs.Reading.{readStatus, readInto}
 use Rattle.hasher.proofs.Calls.{result-length}

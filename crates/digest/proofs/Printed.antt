@@ -15,7 +15,7 @@ use Rattle.answers.specs.declared.Status.the-variants.{Done, Refused}
 use Rattle.answers.specs.Outputs.{whenDone}
 use Rattle.hasher.specs.declared.Hasher.{Hasher}
 use Rattle.hasher.specs.declared.Advanced.{Advanced}
-use Rattle.hasher.specs.declared.Wanted.the-variants.{Digest}
+use Rattle.standard.specs.declared.Wanted.the-variants.{Digest}
 use Rattle.hasher.specs.Running.{variantOf, startedOver, started, updated, finished, grown, ended}
 use Rattle.hasher.specs.Reading.{readStatus, readInto, resultOf}
 use Rattle.hasher.specs.Pieces.{plain, joined, andThen, allUpdated, hashed}

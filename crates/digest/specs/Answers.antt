@@ -9,7 +9,7 @@ use Rattle.answers.specs.Text.{ascii}
 use Rattle.answers.specs.Lines.{refusedLine}
 use Rattle.hasher.specs.declared.Hasher.{Hasher}
 use Rattle.hasher.specs.declared.Advanced.{Advanced}
-use Rattle.hasher.specs.declared.Wanted.the-variants.{Digest}
+use Rattle.standard.specs.declared.Wanted.the-variants.{Digest}
 use Rattle.hasher.specs.Running.{variantOf, stateOf, finished}
 use Rattle.hasher.specs.Reading.{readStatus}
 use Rattle.digest.specs.Hex.{hexOf}

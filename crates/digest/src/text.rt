@@ -71,7 +71,7 @@ fn write_closed(h: Hasher, out: &mut [u8]) -> usize
     let closed = ended.hasher;
     let status = hasher::digest(closed, &mut digest);
     match status {
-        Status::Done => write_digest(digest, sponge::sizes::digest_bytes(closed.variant), out),
+        Status::Done => write_digest(digest, chain::sizes::digest_bytes(closed.variant), out),
         Status::Refused(r) => write_refusal(r, out),
     }
 }

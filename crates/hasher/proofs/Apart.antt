@@ -18,9 +18,9 @@ use Rattle.standard.proofs.ImageStates.{imageOf-length, imageOf-injective}
 use Rattle.answers.specs.declared.Status.{Status}
 use Rattle.answers.specs.declared.Status.the-variants.{Done}
 use Rattle.answers.specs.Outputs.{written, mostBits}
-use Rattle.sponge.specs.Messages.{Fits}
+use Rattle.chain.specs.Messages.{Fits}
 use Rattle.hasher.specs.declared.Hasher.{Hasher}
-use Rattle.hasher.specs.declared.Wanted.the-variants.{EndState}
+use Rattle.standard.specs.declared.Wanted.the-variants.{EndState}
 use Rattle.hasher.specs.Running.{variantOf, stateOf}
 use Rattle.hasher.specs.Reading.{readStatus, readInto, wholeInto}
 use Rattle.hasher.specs.Pieces.{joinedBits, Cut, hashedInto}

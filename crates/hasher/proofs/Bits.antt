@@ -12,10 +12,10 @@ use Rattle.answers.specs.declared.Status.{Status}
 use Rattle.answers.specs.Checks.{firstRefusal}
 use Rattle.answers.specs.Outputs.{whenDone, written}
 use Rattle.answers.proofs.Rows.{row-append}
-use Rattle.sponge.specs.Messages.{numberChecks, messageChecks, Alike}
-use Rattle.sponge.proofs.PartBytes.{alike-row, alike-asked}
+use Rattle.chain.specs.Messages.{numberChecks, messageChecks, Alike}
+use Rattle.chain.proofs.PartBytes.{alike-row, alike-asked}
 use Rattle.hasher.specs.declared.Hasher.{Hasher}
-use Rattle.hasher.specs.declared.Wanted.{Wanted}
+use Rattle.standard.specs.declared.Wanted.{Wanted}
 use Rattle.hasher.specs.Running.{variantOf, grown, openChecks, followChecks, updateChecks, updated}
 use Rattle.hasher.specs.Reading.{resultOf, roomChecks, wholeStatus, wholeInto}
 use Rattle.hasher.specs.Promises.{UpdateAlike, WholeAlike}

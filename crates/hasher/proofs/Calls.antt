@@ -24,21 +24,21 @@ use Rattle.standard.specs.Families.{Variant, isSponge, order, imageSize, imageO
 use Rattle.standard.proofs.BitLaws.{length-pack, take-pack}
 use Rattle.standard.proofs.Tests.{lt-or-le, either}
 use Rattle.standard.proofs.Variants.{Bounds, bounds, not-sponge}
-use Rattle.sponge.proofs.Outcomes.{either-way}
-use Rattle.sponge.specs.Layout.{stateRoom, packedState}
-use Rattle.sponge.specs.Words.{outcome}
-use Rattle.sponge.specs.Blocks.{firstBlocks}
-use Rattle.sponge.specs.declared.parts.Ending.{Ending}
-use Rattle.sponge.specs.Messages.{numberChecks, Fits, messageChecks}
-use Rattle.sponge.specs.Parts.{given}
-use Rattle.sponge.proofs.BlockRuns.{run-start}
-use Rattle.sponge.proofs.PartBytes.{given-most, given-least, Asked, message-passed}
+use Rattle.chain.proofs.Outcomes.{either-way}
+use Rattle.chain.specs.Layout.{stateRoom, packedState}
+use Rattle.chain.specs.Words.{outcome}
+use Rattle.chain.specs.Blocks.{firstBlocks}
+use Rattle.chain.specs.declared.parts.Ending.{Ending}
+use Rattle.chain.specs.Messages.{numberChecks, Fits, messageChecks}
+use Rattle.chain.specs.Parts.{given}
+use Rattle.chain.proofs.BlockRuns.{run-start}
+use Rattle.chain.proofs.PartBytes.{given-most, given-least, Asked, message-passed}
 use Rattle.hasher.specs.declared.Hasher.{Hasher}
 use Rattle.hasher.specs.declared.Advanced.{Advanced}
 use Rattle.hasher.specs.Running.{closed, blank, fresh, grown, ended, wholeSoFar, openChecks, followChecks, updateChecks, startedOver, started, updated, finished, variantOf, wellFormed}
 use Rattle.hasher.specs.ForCode.{Open}
-use Rattle.hasher.specs.declared.Wanted.{Wanted}
-use Rattle.hasher.specs.declared.Wanted.the-variants.{Digest, EndState}
+use Rattle.standard.specs.declared.Wanted.{Wanted}
+use Rattle.standard.specs.declared.Wanted.the-variants.{Digest, EndState}
 use Rattle.hasher.specs.Reading.{resultOf, resultSize, roomChecks, readChecks, readStatus, wholeStatus}
 use Rattle.hasher.specs.ForCode.{isDigest}
 

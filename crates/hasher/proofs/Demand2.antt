@@ -23,12 +23,12 @@ use Rattle.answers.specs.declared.Status.the-variants.{Done, Refused}
 use Rattle.answers.specs.Outputs.{whenDone, written, most, mostBits}
 use Rattle.answers.proofs.Statuses.{not-done, kept}
 use Rattle.answers.proofs.Rows.{refused-first}
-use Rattle.sponge.specs.Messages.{Fits, messageChecks}
-use Rattle.sponge.proofs.PartBytes.{message-long, message-unknown}
+use Rattle.chain.specs.Messages.{Fits, messageChecks}
+use Rattle.chain.proofs.PartBytes.{message-long, message-unknown}
 use Rattle.hasher.specs.declared.Hasher.{Hasher}
 use Rattle.hasher.specs.declared.Advanced.{Advanced}
-use Rattle.hasher.specs.declared.Wanted.{Wanted}
-use Rattle.hasher.specs.declared.Wanted.the-variants.{Digest}
+use Rattle.standard.specs.declared.Wanted.{Wanted}
+use Rattle.standard.specs.declared.Wanted.the-variants.{Digest}
 use Rattle.hasher.specs.Running.{variantOf, wholeSoFar, blank, fresh, grown, ended, started, updated, finished}
 use Rattle.hasher.specs.ForCode.{Open}
 use Rattle.hasher.specs.Reading.{resultOf, resultSize, roomChecks, readStatus, readInto, wholeStatus, wholeInto}

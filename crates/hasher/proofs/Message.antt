@@ -21,14 +21,14 @@ use Rattle.answers.specs.declared.Status.the-variants.{Done}
 use Rattle.answers.specs.Checks.{firstRefusal}
 use Rattle.answers.specs.Outputs.{written, most, mostBits}
 use Rattle.answers.proofs.Rows.{row-second}
-use Rattle.sponge.specs.Layout.{packedState, packedBlock}
-use Rattle.sponge.specs.Messages.{Fits, messageChecks}
-use Rattle.sponge.proofs.PartBytes.{message-passes}
+use Rattle.chain.specs.Layout.{packedState, packedBlock}
+use Rattle.chain.specs.Messages.{Fits, messageChecks}
+use Rattle.chain.proofs.PartBytes.{message-passes}
 use Rattle.hasher.specs.declared.Hasher.{Hasher}
 use Rattle.hasher.specs.declared.Advanced.{Advanced}
 use Rattle.hasher.specs.Running.{heldCount, wholeSoFar, heldIn, stateOf, blank, fresh, grown, ended, started, updated, finished}
 use Rattle.hasher.specs.ForCode.{Open}
-use Rattle.hasher.specs.declared.Wanted.{Wanted}
+use Rattle.standard.specs.declared.Wanted.{Wanted}
 use Rattle.hasher.specs.Reading.{resultOf, resultSize, roomChecks, readStatus, readInto, wholeStatus, wholeInto}
 use Rattle.hasher.specs.Pieces.{Reads}
 use Rattle.hasher.specs.Sized.{Sized}

@@ -12,7 +12,7 @@ use Rattle.standard.specs.Messages.{byteBits, Given, bytes, givenBits}
 use Rattle.standard.proofs.BitLaws.{length-bitsIn, bitsIn-append}
 use Rattle.answers.specs.declared.Status.the-variants.{Done}
 use Rattle.answers.specs.Outputs.{mostBits}
-use Rattle.sponge.specs.Messages.{Fits}
+use Rattle.chain.specs.Messages.{Fits}
 use Rattle.hasher.specs.declared.Hasher.{Hasher}
 use Rattle.hasher.specs.declared.Advanced.{Advanced}
 use Rattle.hasher.specs.Running.{variantOf, wholeSoFar, grown, updated}

@@ -12,15 +12,15 @@ use Rattle.standard.specs.Variants.{variant, known}
 use Rattle.standard.proofs.Streaming.{run-append, run-length, run-none}
 use Rattle.standard.proofs.Variants.{streams}
 use Rattle.answers.specs.Outputs.{mostBits}
-use Rattle.sponge.specs.Layout.{packedState}
-use Rattle.sponge.specs.Holding.{Holds}
-use Rattle.sponge.specs.Blocks.{heldThen, firstBlocks}
-use Rattle.sponge.specs.Endings.{markedCount, lengthBlock, lengthBlocks}
-use Rattle.sponge.specs.Parts.{messageIn, HoldsMessage}
-use Rattle.sponge.proofs.BlockRows.{marked-blocks, heldThen-alone}
-use Rattle.sponge.proofs.LastBlocks.{ending-blocks, marked-most}
-use Rattle.sponge.proofs.PartBytes.{held-length}
-use Rattle.sponge.proofs.States.{stored, stored-ready}
+use Rattle.chain.specs.Layout.{packedState}
+use Rattle.chain.specs.Holding.{Holds}
+use Rattle.chain.specs.Blocks.{heldThen, firstBlocks}
+use Rattle.chain.specs.Endings.{markedCount, lengthBlock, lengthBlocks}
+use Rattle.chain.specs.Parts.{messageIn, HoldsMessage}
+use Rattle.chain.proofs.BlockRows.{marked-blocks, heldThen-alone}
+use Rattle.chain.proofs.LastBlocks.{ending-blocks, marked-most}
+use Rattle.chain.proofs.PartBytes.{held-length}
+use Rattle.chain.proofs.States.{stored, stored-ready}
 
 -- the bytes of a start hold a state
 pub start-ready : (v : ℕ) → known v ≡ true → (s : List ℕ) → s ≡ packedState (variant v) (startState (variant v)) → Holds v s

@@ -7,7 +7,7 @@ use lib.ListN.{length, take}
 use Rattle.standard.specs.Families.{Variant, imageSize}
 use Rattle.standard.specs.Messages.{Given, givenBits}
 use Rattle.standard.specs.Variants.{variant}
-use Rattle.hasher.specs.declared.Wanted.the-variants.{EndState}
+use Rattle.standard.specs.declared.Wanted.the-variants.{EndState}
 use Rattle.hasher.specs.Reading.{wholeInto}
 use Rattle.hasher.specs.Pieces.{joinedBits, Cut, hashedInto}
 

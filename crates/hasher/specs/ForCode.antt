@@ -3,8 +3,8 @@
 use mathlib.Core.Path.{_≡_}
 use mathlib.Core.Bool.{Bool, true, false}
 use Rattle.hasher.specs.declared.Hasher.{Hasher}
-use Rattle.hasher.specs.declared.Wanted.{Wanted}
-use Rattle.hasher.specs.declared.Wanted.the-variants.{Digest, EndState}
+use Rattle.standard.specs.declared.Wanted.{Wanted}
+use Rattle.standard.specs.declared.Wanted.the-variants.{Digest, EndState}
 use Rattle.hasher.specs.Running.{closed, wellFormed}
 
 -- well formed and open: the end may come, and after whole bytes a piece

@@ -12,10 +12,10 @@ use Rattle.standard.specs.Variants.{variant}
 use Rattle.answers.specs.declared.Status.{Status}
 use Rattle.answers.specs.declared.Status.the-variants.{Done}
 use Rattle.answers.specs.Outputs.{whenDone}
-use Rattle.sponge.specs.Messages.{Fits}
+use Rattle.chain.specs.Messages.{Fits}
 use Rattle.hasher.specs.declared.Hasher.{Hasher}
 use Rattle.hasher.specs.declared.Advanced.{Advanced}
-use Rattle.hasher.specs.declared.Wanted.{Wanted}
+use Rattle.standard.specs.declared.Wanted.{Wanted}
 use Rattle.hasher.specs.Running.{started, updated, finished}
 use Rattle.hasher.specs.Reading.{resultOf, resultSize, readStatus, readInto}
 

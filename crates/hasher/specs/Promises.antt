@@ -12,10 +12,10 @@ use Rattle.standard.specs.Variants.{variant, known}
 use Rattle.standard.specs.Values.{DifferWithin, inOneBlock}
 use Rattle.answers.specs.declared.Status.the-variants.{Done}
 use Rattle.answers.specs.Outputs.{most, mostBits}
-use Rattle.sponge.specs.Messages.{Fits, Alike}
+use Rattle.chain.specs.Messages.{Fits, Alike}
 use Rattle.hasher.specs.declared.Hasher.{Hasher}
-use Rattle.hasher.specs.declared.Wanted.{Wanted}
-use Rattle.hasher.specs.declared.Wanted.the-variants.{Digest}
+use Rattle.standard.specs.declared.Wanted.{Wanted}
+use Rattle.standard.specs.declared.Wanted.the-variants.{Digest}
 use Rattle.hasher.specs.Running.{variantOf, heldCount, stateOf, wellFormed, startedOver, started, updated, finished}
 use Rattle.hasher.specs.Reading.{resultSize, wholeStatus, wholeInto}
 use Rattle.hasher.specs.Pieces.{joinedBits, Cut, plain, joined, andThen, hashedStatus, hashedInto, Hashes}

@@ -13,10 +13,10 @@ use Rattle.answers.specs.declared.Refusal.the-variants.{Malformed, WrongStage, 
 use Rattle.answers.specs.declared.Status.{Status}
 use Rattle.answers.specs.Checks.{Check, unless, when, firstRefusal}
 use Rattle.answers.specs.Outputs.{written}
-use Rattle.sponge.specs.Messages.{messageChecks}
+use Rattle.chain.specs.Messages.{messageChecks}
 use Rattle.hasher.specs.declared.Hasher.{Hasher}
-use Rattle.hasher.specs.declared.Wanted.{Wanted}
-use Rattle.hasher.specs.declared.Wanted.the-variants.{Digest, EndState}
+use Rattle.standard.specs.declared.Wanted.{Wanted}
+use Rattle.standard.specs.declared.Wanted.the-variants.{Digest, EndState}
 use Rattle.hasher.specs.Running.{variantOf, closed, stateOf, wellFormed}
 
 -- what is wanted of an end state: its image, or the digest squeezed out of it

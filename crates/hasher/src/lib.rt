@@ -12,22 +12,23 @@ ghost use Rattle.standard.specs.Variants.{variant, known};
 ghost use Rattle.answers.specs.declared.Status.the-variants.{Done};
 ghost use Rattle.answers.specs.Checks.{firstRefusal};
 ghost use Rattle.answers.specs.Outputs.{written, most, mostBits};
-ghost use Rattle.sponge.specs.Layout.{blockRoom, clear};
-ghost use Rattle.sponge.specs.Holding.{Holds};
-ghost use Rattle.sponge.specs.Messages.{isBitNumber, numberChecks};
-ghost use Rattle.sponge.specs.Parts.{given, messageIn, HoldsMessage};
+ghost use Rattle.chain.specs.Layout.{blockRoom, clear};
+ghost use Rattle.chain.specs.Holding.{Holds};
+ghost use Rattle.chain.specs.Messages.{isBitNumber, numberChecks};
+ghost use Rattle.chain.specs.Parts.{given, messageIn, HoldsMessage};
 ghost use Rattle.hasher.specs.Running.{variantOf, heldCount, wholeSoFar, wellFormed, fresh, grown, ended, openChecks, followChecks, updateChecks, startedOver, started, updated, finished};
 ghost use Rattle.hasher.specs.ForCode.{Open};
 ghost use Rattle.hasher.specs.Reading.{resultOf, resultSize, roomChecks, readStatus, readInto, wholeStatus, wholeInto};
 ghost use Rattle.hasher.specs.ForCode.{isDigest};
-ghost use Rattle.hasher.specs.declared.Wanted.the-variants.{Digest, EndState};
+ghost use Rattle.standard.specs.declared.Wanted.the-variants.{Digest, EndState};
 use answers::MOST;
 use answers::MOST_BITS;
 use answers::Refusal;
 use answers::Status;
-use sponge::BLOCK_BYTES;
-use sponge::STATE_BYTES;
-use sponge::parts::Ending;
+use chain::BLOCK_BYTES;
+use chain::STATE_BYTES;
+use chain::parts::Ending;
+use standard::Wanted;
 
 // Any bytes are one. Stage 0 is open, 1 is closed. The total counts bits. The state is an image at the front of its bytes; the held
 // bits are those of the message so far that fill no block.
@@ -46,12 +47,6 @@ pub struct Advanced {
     pub hasher: Hasher,
 }
 
-// What is read at the end.
-pub enum Wanted {
-    Digest,
-    EndState,
-}
-
 // How many bits are held.
 fn held_count(h: Hasher) -> usize
     requires { ⌜ known (h .variant) ≡ true ⌝ }
@@ -60,14 +55,14 @@ fn held_count(h: Hasher) -> usize
     if h.stage == 1 {
         return 0;
     }
-    (h.total % sponge::sizes::block_bits(h.variant)) as usize
+    (h.total % chain::sizes::block_bits(h.variant)) as usize
 }
 
 pub fn is_well_formed(h: Hasher) -> bool
     ensures { λ r. ⌜ r ≡ wellFormed h ⌝ }
 {
     let v = h.variant;
-    if !sponge::sizes::is_known(v as u32) {
+    if !chain::sizes::is_known(v as u32) {
         return false;
     }
     if 1 < h.stage {
@@ -77,11 +72,11 @@ pub fn is_well_formed(h: Hasher) -> bool
         return false;
     }
     let state = h.state;
-    if !sponge::images::clear_from(&state, sponge::sizes::state_bits(v)) {
+    if !chain::images::clear_from(&state, chain::sizes::state_bits(v)) {
         return false;
     }
     let held = h.held;
-    sponge::images::clear_from(&held, held_count(h))
+    chain::images::clear_from(&held, held_count(h))
 }
 
 // ---- checks
@@ -126,7 +121,7 @@ pub fn check_update(h: Hasher, piece: &[u8], ending: Ending) -> Status
     let Status::Done = s else {
         return s;
     };
-    let t = sponge::parts::check_number(piece, ending);
+    let t = chain::parts::check_number(piece, ending);
     let Status::Done = t else {
         return t;
     };
@@ -167,7 +162,7 @@ fn fresh(v: u8) -> Hasher
         total: 0,
         variant: v,
         stage: 0,
-        state: sponge::step::start(v),
+        state: chain::step::start(v),
         held: [0u8; BLOCK_BYTES],
     }
 }
@@ -176,7 +171,7 @@ fn fresh(v: u8) -> Hasher
 pub fn started_over(h: Hasher, variant: u32) -> Advanced
     ensures { λ r. ⌜ r ≡ startedOver h variant ⌝ }
 {
-    if !sponge::sizes::is_known(variant) {
+    if !chain::sizes::is_known(variant) {
         return Advanced {
             status: Status::Refused(Refusal::UnknownVariant),
             hasher: h,
@@ -215,7 +210,7 @@ fn grown(h: Hasher, piece: &[u8], last: u8, k: usize) -> Hasher
     let v = h.variant;
     let state = h.state;
     let held = h.held;
-    let r = sponge::sizes::block_bits(v) as usize;
+    let r = chain::sizes::block_bits(v) as usize;
     let c = held_count(h);
     let added = 8 * piece.len() + k;
     let count = (c + added) / r;
@@ -225,8 +220,8 @@ fn grown(h: Hasher, piece: &[u8], last: u8, k: usize) -> Hasher
         total: h.total + added as u32,
         variant: v,
         stage: h.stage,
-        state: sponge::outcome::run_blocks(v, state, &held, c / 4, piece, last, count),
-        held: sponge::blocks::block_at(&held, c / 4, piece, last, count * (r / 4), (left + 3) / 4),
+        state: chain::outcome::run_blocks(v, state, &held, c / 4, piece, last, count),
+        held: chain::blocks::block_at(&held, c / 4, piece, last, count * (r / 4), (left + 3) / 4),
     }
 }
 
@@ -239,7 +234,7 @@ fn grown_bits(h: Hasher, piece: &[u8], k: usize) -> Hasher
 {
     let n = piece.len() - 1;
     let b = piece[n];
-    let last = sponge::parts::counted_byte(h.variant, b, k);
+    let last = chain::parts::counted_byte(h.variant, b, k);
     grown(h, &piece[..n], last, k)
 }
 
@@ -294,7 +289,7 @@ fn last_byte(held: [u8; BLOCK_BYTES], c: usize) -> u8
 {
     let k = c % 8;
     let x = held[c / 8] as u32;
-    sponge::parts::with_one(x >> (8 - k), k)
+    chain::parts::with_one(x >> (8 - k), k)
 }
 
 // The message has ended: the held bits and the padding make the last blocks, one or two.
@@ -307,14 +302,14 @@ fn ended(h: Hasher) -> Hasher
     let held = h.held;
     let c = held_count(h);
     let last = last_byte(held, c);
-    let count = sponge::sizes::marked_count(v, c);
+    let count = chain::sizes::marked_count(v, c);
     let none: [u8; 0] = [];
-    let marked = sponge::outcome::run_blocks(v, state, &held, 2 * (c / 8), &none, last, count);
+    let marked = chain::outcome::run_blocks(v, state, &held, 2 * (c / 8), &none, last, count);
     Hasher {
         total: h.total,
         variant: v,
         stage: 1,
-        state: sponge::endings::ended(v, marked, h.total),
+        state: chain::endings::ended(v, marked, h.total),
         held: [0u8; BLOCK_BYTES],
     }
 }
@@ -343,8 +338,8 @@ pub fn result_size(v: u8, wanted: Wanted) -> usize
     ensures { λ r. ⌜ r ≡ resultSize (variant v) wanted ⌝ }
 {
     match wanted {
-        Wanted::Digest => sponge::sizes::digest_bytes(v),
-        Wanted::EndState => sponge::sizes::image_bytes(v),
+        Wanted::Digest => chain::sizes::digest_bytes(v),
+        Wanted::EndState => chain::sizes::image_bytes(v),
     }
 }
 
@@ -359,10 +354,10 @@ fn write_result(v: u8, wanted: Wanted, state: [u8; STATE_BYTES], out: &mut [u8])
     match wanted {
         Wanted::Digest => {
             let none: [u8; 0] = [];
-            let digest = sponge::outcome::outcome_after(v, state, &none, 0, &none, 0, 0, true);
-            sponge::images::copy_front(&digest, n, out);
+            let digest = chain::outcome::outcome_after(v, state, &none, 0, &none, 0, 0, true);
+            chain::images::copy_front(&digest, n, out);
         }
-        Wanted::EndState => sponge::images::copy_front(&state, n, out),
+        Wanted::EndState => chain::images::copy_front(&state, n, out),
     }
 }
 
@@ -403,7 +398,7 @@ pub fn check_whole(
 ) -> Status
     ensures { λ r. ⌜ r ≡ wholeStatus variant (given (now (message .entry)) ending) wanted room ⌝ }
 {
-    let s = sponge::parts::check_message(variant, message, ending);
+    let s = chain::parts::check_message(variant, message, ending);
     let Status::Done = s else {
         return s;
     };
@@ -428,15 +423,15 @@ fn end_of(v: u8, front: &[u8], last: u8, bits: usize, wanted: Wanted) -> [u8; ST
     requires { ⌜ HoldsMessage (now front) last bits ⌝ }
     ensures { λ r. ⌜ take (resultSize (variant v) wanted) r ≡ resultOf (variant v) wanted (endState (variant v) (messageIn (now (front .entry)) last bits)) ⌝ }
 {
-    let count = sponge::sizes::marked_count(v, bits);
+    let count = chain::sizes::marked_count(v, bits);
     let none: [u8; 0] = [];
-    let start = sponge::step::start(v);
-    if sponge::sizes::is_sponge(v) {
+    let start = chain::step::start(v);
+    if chain::sizes::is_sponge(v) {
         let digest = is_digest(wanted);
-        return sponge::outcome::outcome_after(v, start, &none, 0, front, last, count, digest);
+        return chain::outcome::outcome_after(v, start, &none, 0, front, last, count, digest);
     }
-    let marked = sponge::outcome::run_blocks(v, start, &none, 0, front, last, count);
-    sponge::endings::ended(v, marked, bits as u32)
+    let marked = chain::outcome::run_blocks(v, start, &none, 0, front, last, count);
+    chain::endings::ended(v, marked, bits as u32)
 }
 
 // The same of a message as a caller gives it.
@@ -444,7 +439,7 @@ fn end_of_given(v: u8, message: &[u8], ending: Ending, wanted: Wanted) -> [u8; S
     requires { ⌜ (known v ≡ true) × (firstRefusal (numberChecks (given (now message) ending)) ≡ Done) × (length (now message) ≤ most) ⌝ }
     ensures { λ r. ⌜ take (resultSize (variant v) wanted) r ≡ resultOf (variant v) wanted (endState (variant v) (givenBits (variant v) (given (now (message .entry)) ending))) ⌝ }
 {
-    let m = sponge::parts::split_of(v, message, ending);
+    let m = chain::parts::split_of(v, message, ending);
     end_of(v, &message[..m.front], m.last, m.bits, wanted)
 }
 
@@ -465,7 +460,7 @@ pub fn whole_with(
     };
     let v = variant as u8;
     let result = end_of_given(v, message, ending, wanted);
-    sponge::images::copy_front(&result, result_size(v, wanted), out);
+    chain::images::copy_front(&result, result_size(v, wanted), out);
     Status::Done
 }
 

@@ -9,7 +9,7 @@ use Rattle.standard.specs.Messages as given
 use Rattle.answers.specs.declared.Status.{Status}
 use Rattle.hasher.specs.declared.Hasher.{Hasher}
 use Rattle.hasher.specs.declared.Advanced.{Advanced}
-use Rattle.hasher.specs.declared.Wanted.{Wanted}
+use Rattle.standard.specs.declared.Wanted.{Wanted}
 use Rattle.hasher.specs.Running.{startedOver, updated, finished}
 use Rattle.hasher.specs.Reading.{readStatus, readInto}
 use Rattle.lent.proofs.Beside.{Beside, number, bytes, _and_, none}

@@ -4,7 +4,7 @@ ghost use lib.ListN.{length};
 ghost use Rattle.standard.specs.Messages.{bytes, partial};
 ghost use Rattle.hasher.specs.Running.{startedOver, updated, finished};
 ghost use Rattle.hasher.specs.Reading.{readStatus, readInto};
-ghost use Rattle.hasher.specs.declared.Wanted.the-variants.{Digest, EndState};
+ghost use Rattle.standard.specs.declared.Wanted.the-variants.{Digest, EndState};
 ghost use Rattle.segments.specs.Steps.{foundAt};
 ghost use Rattle.lent.specs.Cursors.{movedOn};
 use answers::Status;

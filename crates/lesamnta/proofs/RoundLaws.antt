@@ -7,7 +7,8 @@ use native.Mathlib.Numerals.{add-one}
 use native.Mathlib.Omega.{arith}
 use lib.ListN.{length, getD, set, take, drop, length-set}
 use lib.Seq.{drop-cons, take-suc, take-suc-set, take-all}
-use Rattle.standard.specs.Rounds.{forward, backward, rounds}
+use Rattle.standard.specs.Rounds.{rounds}
+use Rattle.standard.specs.declared.Direction.the-variants.{Forward, Backward}
 use Rattle.standard.specs.Lesamnta.{mixing, scheduled, roundKeys, generated, cipherConstants}
 use Rattle.standard.proofs.Tab.{getD-tab}
 
@@ -19,21 +20,21 @@ left r h = drop-cons cipherConstants r 0 h ∙ ap₂ (λ (c : ℕ) (cs : List �
 
 -- what the rounds from r on make of the words
 pub toGo : ℕ → List ℕ → List ℕ → List ℕ
-toGo r x k = foldl (mixing forward) x (roundKeys (drop r cipherConstants) k)
+toGo r x k = foldl (mixing Forward) x (roundKeys (drop r cipherConstants) k)
 
-pub go-all : (x k : List ℕ) → toGo 0 x k ≡ rounds mixing forward (roundKeys cipherConstants k) x
+pub go-all : (x k : List ℕ) → toGo 0 x k ≡ rounds mixing Forward (roundKeys cipherConstants k) x
 unfolding toGo rounds
 go-all x k = refl
 
 pub go-none : (r : ℕ) (x k : List ℕ) → r ≡ 64 → toGo r x k ≡ x
 unfolding toGo roundKeys
-go-none r x k e = ap (λ (n : ℕ). foldl (mixing forward) x (roundKeys (drop n cipherConstants) k)) e
+go-none r x k e = ap (λ (n : ℕ). foldl (mixing Forward) x (roundKeys (drop n cipherConstants) k)) e
 
-pub go-more : (r : ℕ) (x k : List ℕ) (c : ℕ) → r < 64 → c ≡ generated r → toGo (r + 1) (mixing forward x (getD k 0 0)) (scheduled k c) ≡ toGo r x k
+pub go-more : (r : ℕ) (x k : List ℕ) (c : ℕ) → r < 64 → c ≡ generated r → toGo (r + 1) (mixing Forward x (getD k 0 0)) (scheduled k c) ≡ toGo r x k
 unfolding toGo roundKeys
 go-more r x k c h e =
-    ap (λ (n : ℕ). foldl (mixing forward) (mixing forward x (getD k 0 0)) (roundKeys (drop (r + 1) cipherConstants) (scheduled k n))) e
-    ∙ sym (ap (λ (cs : List ℕ). foldl (mixing forward) x (roundKeys cs k)) (left r h))
+    ap (λ (n : ℕ). foldl (mixing Forward) (mixing Forward x (getD k 0 0)) (roundKeys (drop (r + 1) cipherConstants) (scheduled k n))) e
+    ∙ sym (ap (λ (cs : List ℕ). foldl (mixing Forward) x (roundKeys cs k)) (left r h))
 
 -- ---- the round keys
 
@@ -71,20 +72,20 @@ keyed-all r key now out e u =
 
 -- what the first r rounds, taken back from the last on, make of the words
 pub backTo : ℕ → List ℕ → List ℕ → List ℕ
-backTo r keys x = foldl (mixing backward) x (reverse (take r keys))
+backTo r keys x = foldl (mixing Backward) x (reverse (take r keys))
 
-pub back-all : (keys x : List ℕ) → length keys ≡ 64 → backTo 64 keys x ≡ rounds mixing backward keys x
+pub back-all : (keys x : List ℕ) → length keys ≡ 64 → backTo 64 keys x ≡ rounds mixing Backward keys x
 unfolding backTo rounds
-back-all keys x e = ap (λ (ks : List ℕ). foldl (mixing backward) x (reverse ks)) (take-all 64 keys (omega arith))
+back-all keys x e = ap (λ (ks : List ℕ). foldl (mixing Backward) x (reverse ks)) (take-all 64 keys (omega arith))
 
 pub back-none : (r : ℕ) (keys x : List ℕ) → r ≡ 0 → backTo r keys x ≡ x
 unfolding backTo
-back-none r keys x e = ap (λ (n : ℕ). foldl (mixing backward) x (reverse (take n keys))) e
+back-none r keys x e = ap (λ (n : ℕ). foldl (mixing Backward) x (reverse (take n keys))) e
 
-pub back-more : (r : ℕ) (keys x : List ℕ) → 0 < r → r ≤ length keys → backTo (r - 1) keys (mixing backward x (getD keys (r - 1) 0)) ≡ backTo r keys x
+pub back-more : (r : ℕ) (keys x : List ℕ) → 0 < r → r ≤ length keys → backTo (r - 1) keys (mixing Backward x (getD keys (r - 1) 0)) ≡ backTo r keys x
 unfolding backTo
 back-more r keys x some few =
     let last : r ≡ suc (r - 1) = omega arith in
-    sym (ap (λ (n : ℕ). foldl (mixing backward) x (reverse (take n keys))) last
-    ∙ ap (λ (ks : List ℕ). foldl (mixing backward) x (reverse ks)) (take-suc keys (r - 1) 0 (omega arith))
-    ∙ ap (foldl (mixing backward) x) (reverse-append (take (r - 1) keys) (getD keys (r - 1) 0 ∷ [])))
+    sym (ap (λ (n : ℕ). foldl (mixing Backward) x (reverse (take n keys))) last
+    ∙ ap (λ (ks : List ℕ). foldl (mixing Backward) x (reverse ks)) (take-suc keys (r - 1) 0 (omega arith))
+    ∙ ap (foldl (mixing Backward) x) (reverse-append (take (r - 1) keys) (getD keys (r - 1) 0 ∷ [])))

@@ -8,7 +8,9 @@ use native.Mathlib.Omega.{arith}
 use lib.ListN.{length, getD, take, drop, length-append, length-drop}
 use lib.Seq.{take-at, take-all, drop-at, drop-drop, length-take-le}
 use Rattle.standard.specs.Bits.{high-first, bitsOf, valueOf}
-use Rattle.standard.specs.Rounds.{Direction, forward, rounds}
+use Rattle.standard.specs.Rounds.{rounds}
+use Rattle.standard.specs.declared.Direction.{Direction}
+use Rattle.standard.specs.declared.Direction.the-variants.{Forward}
 use Rattle.standard.specs.Lesamnta.{fourWords, bitsOfWords, mixing, roundKeys, cipherConstants, cipher, lesamntaStep}
 use Rattle.standard.proofs.BitLaws.{length-bitsOf, valueOf-lt}
 use Rattle.standard.proofs.CutLaws.{take-drop-take}
@@ -67,13 +69,13 @@ module _ (bits : List Bool) (at a b : ℕ) (room : 8 * at + 128 ≤ length bits)
   -- the step
   pub stepped-is : (w key r : List ℕ) → ((i : ℕ) → getD w i 0 < 2 ^ 64)
       → key ≡ fourWords 32 (bitsOf high-first 64 (getD w 0 0) ++ bitsOf high-first 64 (getD w 1 0))
-      → r ≡ rounds mixing forward (roundKeys cipherConstants key) (a ∷ b ∷ getD w 2 0 ∷ getD w 3 0 ∷ [])
+      → r ≡ rounds mixing Forward (roundKeys cipherConstants key) (a ∷ b ∷ getD w 2 0 ∷ getD w 3 0 ∷ [])
       → bitsOfWords 64 r ≡ lesamntaStep (stateOfFour w) (take 128 (drop (8 * at) bits))
   unfolding lesamntaStep cipher word
   stepped-is w key r small ek er =
       ap (bitsOfWords 64)
       (er
-      ∙ ap₂ (λ (k x : List ℕ). rounds mixing forward (roundKeys cipherConstants k) x) (ek ∙ ap (fourWords 32) (sym (first-half w))) (step-words w small))
+      ∙ ap₂ (λ (k x : List ℕ). rounds mixing Forward (roundKeys cipherConstants k) x) (ek ∙ ap (fourWords 32) (sym (first-half w))) (step-words w small))
 
 -- the cipher, in either direction
 pub cipher-is : (d : Direction) (key state : List Bool) (k x r : List ℕ) → k ≡ fourWords 32 key → x ≡ fourWords 64 state → r ≡ rounds mixing d (roundKeys cipherConstants k) x

@@ -7,7 +7,8 @@ use Prim.Native.Nat.{ℕ, _-_, _<_}
 use native.Mathlib.Omega.{arith}
 use lib.ListN.{length, getD, replicate}
 use Rattle.standard.specs.Bits.{high-first, bitsIn, filled, pack}
-use Rattle.standard.specs.Rounds.{Direction, opposite}
+use Rattle.standard.specs.Rounds.{opposite}
+use Rattle.standard.specs.declared.Direction.{Direction}
 use Rattle.standard.specs.Lesamnta.{cipher}
 use Rattle.standard.proofs.BitLaws.{length-bitsIn, bitsIn-pack, pack-bitsIn, filled-short}
 use Rattle.standard.proofs.LesamntaLaws.{cipher-length, cipher-undo}

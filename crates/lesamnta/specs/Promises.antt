@@ -3,7 +3,8 @@ use mathlib.Core.Path.{_≡_}
 use mathlib.Core.List.{List}
 use Prim.Native.Nat.{ℕ, _<_}
 use lib.ListN.{length, getD}
-use Rattle.standard.specs.Rounds.{Direction, opposite}
+use Rattle.standard.specs.Rounds.{opposite}
+use Rattle.standard.specs.declared.Direction.{Direction}
 use Rattle.lesamnta.specs.Words.{ciphered}
 
 -- Document 02, Q-7: under every key, what one of the two calls makes of 32 bytes the other takes back.

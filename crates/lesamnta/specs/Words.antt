@@ -3,7 +3,7 @@
 use mathlib.Core.List.{List}
 use Prim.Native.Nat.{ℕ}
 use Rattle.standard.specs.Bits.{high-first, bitsIn, pack}
-use Rattle.standard.specs.Rounds.{Direction}
+use Rattle.standard.specs.declared.Direction.{Direction}
 use Rattle.standard.specs.Lesamnta.{cipher}
 
 -- E_K on the 32 bytes of a state, under the 16 of a key, or its inverse

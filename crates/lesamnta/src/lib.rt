@@ -4,7 +4,8 @@ ghost use mathlib.Core.List.{_++_};
 ghost use Prim.Native.Nat.{_+_, _*_, _/_, _^_, _≤_, _<_};
 ghost use lib.ListN.{length, take, drop, replicate};
 ghost use Rattle.standard.specs.Bits.{high-first, bitsOf, valueOf, bitsIn, pack};
-ghost use Rattle.standard.specs.Rounds.{forward, backward, rounds};
+ghost use Rattle.standard.specs.Rounds.{rounds};
+ghost use Rattle.standard.specs.declared.Direction.the-variants.{Forward, Backward};
 ghost use Rattle.standard.specs.Lesamnta.{bytesOf, wordOf, fourWords, bitsOfWords, wordQ, bytesR, wordG, mixing, scheduled, roundKeys, cipherConstants, cipher, lesamntaStep};
 ghost use Rattle.lesamnta.specs.LookUps.{BoxTable, ConstantTable, CipherTable};
 ghost use Rattle.lesamnta.specs.Words.{ciphered};
@@ -94,7 +95,7 @@ pub fn word_g(y: u64, key: u64, table: &[u64]) -> u64
 // A round of the cipher with its round key.
 fn mixed(x: [u64; 4], key: u64, table: &[u64]) -> [u64; 4]
     requires { ⌜ (length (now table) ≡ 320) × CipherTable 64 (now table) ⌝ }
-    ensures { λ r. ⌜ r ≡ mixing forward x key ⌝ }
+    ensures { λ r. ⌜ r ≡ mixing Forward x key ⌝ }
 {
     [x[3] ^ word_g(x[2], key, table), x[0], x[1], x[2]]
 }
@@ -102,7 +103,7 @@ fn mixed(x: [u64; 4], key: u64, table: &[u64]) -> [u64; 4]
 // That round taken back.
 fn unmixed(x: [u64; 4], key: u64, table: &[u64]) -> [u64; 4]
     requires { ⌜ (length (now table) ≡ 320) × CipherTable 64 (now table) ⌝ }
-    ensures { λ r. ⌜ r ≡ mixing backward x key ⌝ }
+    ensures { λ r. ⌜ r ≡ mixing Backward x key ⌝ }
 {
     [x[1], x[2], x[3], x[0] ^ word_g(x[3], key, table)]
 }
@@ -125,7 +126,7 @@ fn scheduled(key: [u64; 4], constant: u64, table: &[u64]) -> [u64; 4]
 // All rounds, each with its round key as the schedule comes to it.
 fn enciphered(x: [u64; 4], key: [u64; 4], table: &[u64]) -> [u64; 4]
     requires { ⌜ (length (now table) ≡ 320) × CipherTable 64 (now table) ⌝ }
-    ensures { λ r. ⌜ r ≡ rounds mixing forward (roundKeys cipherConstants key) x ⌝ }
+    ensures { λ r. ⌜ r ≡ rounds mixing Forward (roundKeys cipherConstants key) x ⌝ }
 {
     let mut words = x;
     let mut schedule = key;
@@ -160,7 +161,7 @@ fn round_keys(key: [u64; 4], table: &[u64]) -> [u64; 64]
 // All rounds taken back, the last first.
 fn deciphered(x: [u64; 4], keys: [u64; 64], table: &[u64]) -> [u64; 4]
     requires { ⌜ (length (now table) ≡ 320) × CipherTable 64 (now table) ⌝ }
-    ensures { λ r. ⌜ r ≡ rounds mixing backward keys x ⌝ }
+    ensures { λ r. ⌜ r ≡ rounds mixing Backward keys x ⌝ }
 {
     let mut words = x;
     let mut i: usize = 0;
@@ -279,7 +280,7 @@ fn key_words(key: &[u8]) -> [u64; 4]
 
 // A state enciphered under a key. Every key and every state will do.
 pub fn encrypt(key: [u8; 16], state: [u8; 32]) -> [u8; 32]
-    ensures { λ r. ⌜ r ≡ ciphered forward key state ⌝ }
+    ensures { λ r. ⌜ r ≡ ciphered Forward key state ⌝ }
 {
     let mut table = [0u64; TABLE_WORDS];
     fill_table(&mut table);
@@ -292,7 +293,7 @@ pub fn encrypt(key: [u8; 16], state: [u8; 32]) -> [u8; 32]
 // What was enciphered under the key at the front of bytes to the state at the front of others.
 pub fn decrypt_front(key: &[u8], state: &[u8]) -> [u8; 32]
     requires { ⌜ (16 ≤ length (now key)) × (32 ≤ length (now state)) ⌝ }
-    ensures { λ r. ⌜ r ≡ pack high-first 32 (cipher backward (take 128 (bitsIn high-first (now (key .entry)))) (take 256 (bitsIn high-first (now (state .entry))))) ⌝ }
+    ensures { λ r. ⌜ r ≡ pack high-first 32 (cipher Backward (take 128 (bitsIn high-first (now (key .entry)))) (take 256 (bitsIn high-first (now (state .entry))))) ⌝ }
 {
     let mut table = [0u64; TABLE_WORDS];
     fill_table(&mut table);
@@ -305,7 +306,7 @@ pub fn decrypt_front(key: &[u8], state: &[u8]) -> [u8; 32]
 
 // The state that is enciphered to this one under the key.
 pub fn decrypt(key: [u8; 16], state: [u8; 32]) -> [u8; 32]
-    ensures { λ r. ⌜ r ≡ ciphered backward key state ⌝ }
+    ensures { λ r. ⌜ r ≡ ciphered Backward key state ⌝ }
 {
     decrypt_front(&key, &state)
 }

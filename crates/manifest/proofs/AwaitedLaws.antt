@@ -8,7 +8,7 @@ use native.Mathlib.Omega.{arith}
 use lib.Dec.{ltb}
 use lib.ListN.{getD, replicate, getD-replicate}
 use borrow.Author.Tests.{lt-ltb, le-ltb}
-use Rattle.arrays.proofs.Upto.{Upto}
+use Rattle.bytes.proofs.Upto.{Upto}
 use Rattle.standard.specs.Bits.{digit}
 use Rattle.standard.proofs.Tab.{tab-self, tab-cong}
 use Rattle.standard.proofs.Tests.{lt-or-le}

@@ -21,7 +21,7 @@ use Rattle.answers.specs.declared.Status.the-variants.{Done}
 use Rattle.answers.specs.Outputs.{whenDone, most}
 use Rattle.hasher.specs.declared.Hasher.{Hasher}
 use Rattle.hasher.specs.declared.Advanced.{Advanced}
-use Rattle.hasher.specs.declared.Wanted.the-variants.{Digest}
+use Rattle.standard.specs.declared.Wanted.the-variants.{Digest}
 use Rattle.hasher.specs.Running.{wellFormed, blank, fresh, ended, started, updated, finished}
 use Rattle.hasher.specs.Reading.{readStatus, readInto}
 use Rattle.hasher.specs.Pieces.{withByte}

@@ -10,9 +10,9 @@ use lib.ListN.{replicate, getD, set}
 use Rattle.answers.specs.Outputs.{whenDone, most}
 use Rattle.standard.specs.Bits.{digit}
 use Rattle.standard.specs.Grid.{tab}
-use Rattle.sponge.specs.Layout.{digestRoom}
+use Rattle.chain.specs.Layout.{digestRoom}
 use Rattle.hasher.specs.declared.Hasher.{Hasher}
-use Rattle.hasher.specs.declared.Wanted.the-variants.{Digest}
+use Rattle.standard.specs.declared.Wanted.the-variants.{Digest}
 use Rattle.hasher.specs.Running.{blank, started, finished}
 use Rattle.hasher.specs.Reading.{readStatus, readInto}
 use Rattle.hasher.specs.Pieces.{withByte}

@@ -9,7 +9,7 @@ ghost use Rattle.manifest.specs.Lookups.{isOrdered, recordFor};
 ghost use Rattle.manifest.specs.Places.{Place};
 use answers::Refusal;
 use answers::Status;
-use sponge::DIGEST_BYTES;
+use chain::DIGEST_BYTES;
 
 // A record: two bytes of axis number, one of variant, and 32 of the digest and the filler after it.
 pub const RECORD_BYTES: usize = 35;
@@ -77,10 +77,10 @@ fn check_record(manifest: &[u8], k: usize) -> Status
     ensures { λ r. ⌜ r ≡ firstRefusal (recordChecks (now (manifest .entry)) k) ⌝ }
 {
     let v = variant_at(manifest, k);
-    if !sponge::sizes::is_known(v as u32) {
+    if !chain::sizes::is_known(v as u32) {
         return Status::Refused(Refusal::BadRecord);
     }
-    if !zero_from(filled_at(manifest, k), sponge::sizes::digest_bytes(v)) {
+    if !zero_from(filled_at(manifest, k), chain::sizes::digest_bytes(v)) {
         return Status::Refused(Refusal::BadRecord);
     }
     if !rises_at(manifest, k) {

@@ -17,7 +17,7 @@ use crate::records::MOST_RECORDS;
 use crate::records::RECORD_BYTES;
 use answers::Status;
 use hasher::Hasher;
-use sponge::DIGEST_BYTES;
+use chain::DIGEST_BYTES;
 
 // The tables read so far. Where no table of record k's axis has come, awaited[k] is 1.
 pub struct Tally {

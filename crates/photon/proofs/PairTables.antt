@@ -9,14 +9,14 @@ use native.Mathlib.Omega.{arith}
 use lib.Bits.{bitXor, xor-comm, xor-shifted, xor-zero-r}
 use lib.ListN.{length, getD}
 use lib.Pow.{pow-mono, shl-exact, field}
-use Rattle.standard.specs.Rounds.{forward}
+use Rattle.standard.specs.declared.Direction.the-variants.{Forward}
 use Rattle.standard.specs.Photon.{PhotonParameters}
 use Rattle.standard.proofs.Tests.{lt-or-le}
-use Rattle.shares.specs.Columns.{placeOf, share}
-use Rattle.shares.specs.Tables.{Entries, Pairs, sharePair}
-use Rattle.shares.proofs.EntryTests.{entry-constant, entry-share}
-use Rattle.shares.proofs.LookUps.{share-lt}
-use Rattle.shares.proofs.PairSums.{SideBySide}
+use Rattle.photon_tables.specs.Columns.{placeOf, share}
+use Rattle.photon_tables.specs.Tables.{Entries, Pairs, sharePair}
+use Rattle.photon_tables.proofs.EntryTests.{entry-constant, entry-share}
+use Rattle.photon_tables.proofs.LookUps.{share-lt}
+use Rattle.photon_tables.proofs.PairSums.{SideBySide}
 
 -- entry e of a table of pairs as the code makes it of the shares of each row: the share of a byte's lower half and, 32 bits higher, that of its upper half in the next row
 abbrev pub pairAt : List ℕ → ℕ → ℕ
@@ -62,7 +62,7 @@ module _ (p : PhotonParameters) (b : SideBySide (placeOf p) p) (shares : List �
   small : (i x : ℕ) → x < 16 → share (placeOf p) p i x < 2 ^ 32
   small i x hx =
       let sixteen : 2 ^ p .s ≡ 16 = ap (λ (k : ℕ). 2 ^ k) (b .four) in
-      lt-of-lt-of-le (share-lt p (b .sound) (placeOf p) (b .rise) i x (b .sound .boxes forward .within x (omega (arith, sixteen)))) (pow-mono (b .low))
+      lt-of-lt-of-le (share-lt p (b .sound) (placeOf p) (b .rise) i x (b .sound .boxes Forward .within x (omega (arith, sixteen)))) (pow-mono (b .low))
 
   pair-is : (e : ℕ) → e < 1024 → pairAt shares e ≡ sharePair (placeOf p) p (e / 256) (e % 256)
   unfolding sharePair

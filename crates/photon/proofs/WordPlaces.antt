@@ -9,10 +9,10 @@ use lib.Dec.{T, eqb, leb, leb→le, lit≤}
 use lib.Pow.{pow-mono}
 use Rattle.standard.specs.Variants.{variant}
 use Rattle.standard.proofs.Tests.{below, below-at, same-below, one-to-five}
-use Rattle.shares.specs.Columns.{placeOf, constantColumn}
-use Rattle.shares.proofs.LookUps.{constant-lt}
-use Rattle.shares.proofs.WordCells.{Rising}
-use Rattle.shares.proofs.PairSums.{SideBySide}
+use Rattle.photon_tables.specs.Columns.{placeOf, constantColumn}
+use Rattle.photon_tables.proofs.LookUps.{constant-lt}
+use Rattle.photon_tables.proofs.WordCells.{Rising}
+use Rattle.photon_tables.proofs.PairSums.{SideBySide}
 use Rattle.photon.specs.Parameters.{photonOf}
 use Rattle.photon.proofs.ParametersOf.{sound}
 

@@ -11,18 +11,18 @@ use lib.Bits.{bitXor, xor-zero-r}
 use lib.Dec.{eqb, lit≤}
 use lib.ListN.{length, getD, set, replicate}
 use lib.Seq.{getD-set-same, getD-set-other}
-use Rattle.standard.specs.Rounds.{forward}
+use Rattle.standard.specs.declared.Direction.the-variants.{Forward}
 use Rattle.standard.specs.Grid.{Grid}
 use Rattle.standard.specs.Photon.{PhotonParameters, inFirst, photonRound, photonRounds}
 use Rattle.standard.specs.Variants.{variant}
 use Rattle.standard.proofs.Xor.{xor-assoc}
 use Rattle.standard.proofs.PhotonLaws.{State, photonRounds-state}
-use Rattle.shares.specs.Columns.{cellOf, share, sumOf, placeOf, withColumn, constantColumn}
-use Rattle.shares.specs.Tables.{Entries, Pairs, sharePair}
-use Rattle.shares.proofs.EntryTests.{entry-share}
-use Rattle.shares.proofs.WordCells.{cell-xor, cell-none, cell-sum}
-use Rattle.shares.proofs.LookUps.{look-round, words-state, added-twice, nothing-added, constants-added}
-use Rattle.shares.proofs.PairSums.{pairs-joined}
+use Rattle.photon_tables.specs.Columns.{cellOf, share, sumOf, placeOf, withColumn, constantColumn}
+use Rattle.photon_tables.specs.Tables.{Entries, Pairs, sharePair}
+use Rattle.photon_tables.proofs.EntryTests.{entry-share}
+use Rattle.photon_tables.proofs.WordCells.{cell-xor, cell-none, cell-sum}
+use Rattle.photon_tables.proofs.LookUps.{look-round, words-state, added-twice, nothing-added, constants-added}
+use Rattle.photon_tables.proofs.PairSums.{pairs-joined}
 use Rattle.photon.specs.Parameters.{photonOf}
 use Rattle.photon.specs.Words.{matrixIn, roundThen}
 use Rattle.photon.proofs.ParametersOf.{sound}
@@ -146,7 +146,7 @@ module _ (v : ℕ) where
 
   -- r rounds are made, and the constants of the next are added: from words to which the first were added
   pub Rounded : ℕ → List ℕ → List ℕ → Type 0
-  Rounded r start words = matrixIn v words ≡ column r (first (photonOf v) forward (column 0 (matrixIn v start)) r)
+  Rounded r start words = matrixIn v words ≡ column r (first (photonOf v) Forward (column 0 (matrixIn v start)) r)
 
 module _ (v : ℕ) (low : 1 ≤ v) (high : v ≤ 5) where
   state : (words : List ℕ) → State (photonOf v) (matrixIn v words)
@@ -161,12 +161,12 @@ module _ (v : ℕ) (low : 1 ≤ v) (high : v ≤ 5) where
   unfolding Rounded photonRound
   rounded-more r c h ec start words next u e =
       let p = photonOf v in
-      let g : Grid = first p forward (column v 0 (matrixIn v start)) r in
+      let g : Grid = first p Forward (column v 0 (matrixIn v start)) r in
       e ∙ ap₂ (λ (x : ℕ) (y : Grid). roundThen v x y) ec (u ∙ constants-added p (sound v low high) (placeOf p) (rising-places v low high) r h g)
-      ∙ ap (column v (r + 1)) (first-more p forward (column v 0 (matrixIn v start)) r h)
+      ∙ ap (column v (r + 1)) (first-more p Forward (column v 0 (matrixIn v start)) r h)
 
   pub rounded-all : (start words entry : List ℕ) → (c : ℕ) → c ≡ constantColumn (placeOf (photonOf v)) (photonOf v) 0 → matrixIn v start ≡ withColumn (placeOf (photonOf v)) (photonOf v) c (matrixIn v entry)
-      → Rounded v 12 start words → matrixIn v words ≡ photonRounds (photonOf v) forward (matrixIn v entry)
+      → Rounded v 12 start words → matrixIn v words ≡ photonRounds (photonOf v) Forward (matrixIn v entry)
   unfolding Rounded
   rounded-all start words entry c ec es u =
       let p = photonOf v in
@@ -176,6 +176,6 @@ module _ (v : ℕ) (low : 1 ≤ v) (high : v ≤ 5) where
       let begun : column v 0 (matrixIn v start) ≡ matrixIn v entry =
       ap (column v 0) (es ∙ ap (λ (x : ℕ). withColumn place p x (matrixIn v entry)) ec) ∙ added-twice p h place rise _ (matrixIn v entry) (state entry) in
       u
-      ∙ ap₂ (λ (x : ℕ) (g : Grid). withColumn place p x (first p forward g 12)) (no-constants place p) begun
-      ∙ ap (withColumn place p 0) (first-all p forward (matrixIn v entry) 12 refl)
-      ∙ nothing-added p h place rise (photonRounds p forward (matrixIn v entry)) (photonRounds-state p h forward (matrixIn v entry) (state entry))
+      ∙ ap₂ (λ (x : ℕ) (g : Grid). withColumn place p x (first p Forward g 12)) (no-constants place p) begun
+      ∙ ap (withColumn place p 0) (first-all p Forward (matrixIn v entry) 12 refl)
+      ∙ nothing-added p h place rise (photonRounds p Forward (matrixIn v entry)) (photonRounds-state p h Forward (matrixIn v entry) (state entry))

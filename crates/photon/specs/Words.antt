@@ -4,7 +4,7 @@ use mathlib.Core.List.{List}
 use Prim.Native.Nat.{ℕ, _^_}
 use Rattle.standard.specs.Grid.{Grid}
 use Rattle.standard.specs.Photon.{PhotonParameters, subCells, shiftRows, mixColumns}
-use Rattle.shares.specs.Columns.{matrixOfWords, withColumn, placeOf}
+use Rattle.photon_tables.specs.Columns.{matrixOfWords, withColumn, placeOf}
 use Rattle.photon.specs.Parameters.{photonOf}
 
 -- the matrix of the variant v, 1 to 5, that the words hold

@@ -7,10 +7,10 @@ ghost use Prim.Native.Nat.{ℕ, _+_, _*_, _/_, _%_, _^_, _≤_, _<_};
 ghost use lib.Bits.{bitXor};
 ghost use lib.Dec.{eqb};
 ghost use lib.ListN.{length, getD};
-ghost use Rattle.standard.specs.Rounds.{forward};
+ghost use Rattle.standard.specs.declared.Direction.the-variants.{Forward};
 ghost use Rattle.standard.specs.Photon.{photonRounds};
-ghost use Rattle.shares.specs.Columns.{placeOf};
-ghost use Rattle.shares.specs.Tables.{Entries, Pairs};
+ghost use Rattle.photon_tables.specs.Columns.{placeOf};
+ghost use Rattle.photon_tables.specs.Tables.{Entries, Pairs};
 ghost use Rattle.photon.specs.Parameters.{photonOf};
 ghost use Rattle.photon.specs.Words.{matrixIn, roundThen};
 
@@ -81,7 +81,7 @@ fn round4(v: usize, w: &mut [u64; 8], d: usize, c: u64, table: &[u64])
 pub fn rounds4(v: usize, w: &mut [u64; 8], d: usize, table: &[u64])
     requires { ⌜ (length (now w) ≡ 8) × (1 ≤ v) × (v ≤ 4) × (d ≡ photonOf v .d) ⌝ }
     requires { ⌜ Pairs (photonOf v) (now table) ⌝ }
-    ensures { λ _. ⌜ (length (now (w .exit)) ≡ 8) × (matrixIn v (now (w .exit)) ≡ photonRounds (photonOf v) forward (matrixIn v (now (w .entry)))) ⌝ }
+    ensures { λ _. ⌜ (length (now (w .exit)) ≡ 8) × (matrixIn v (now (w .exit)) ≡ photonRounds (photonOf v) Forward (matrixIn v (now (w .entry)))) ⌝ }
 {
     w[0] = w[0] ^ table[0];
     let mut r: usize = 0;
@@ -135,7 +135,7 @@ fn round8(w: &mut [u64; 8], c: u64, table: &[u64])
 pub fn rounds8(w: &mut [u64; 8], table: &[u64])
     requires { ⌜ (length (now w) ≡ 8) × (length (now table) ≡ 1552) ⌝ }
     requires { ⌜ Entries 1552 (photonOf 5) (now table) ⌝ }
-    ensures { λ _. ⌜ (length (now (w .exit)) ≡ 8) × (matrixIn 5 (now (w .exit)) ≡ photonRounds (photonOf 5) forward (matrixIn 5 (now (w .entry)))) ⌝ }
+    ensures { λ _. ⌜ (length (now (w .exit)) ≡ 8) × (matrixIn 5 (now (w .exit)) ≡ photonRounds (photonOf 5) Forward (matrixIn 5 (now (w .entry)))) ⌝ }
 {
     w[0] = w[0] ^ table[0];
     let mut r: usize = 0;
@@ -194,7 +194,7 @@ fn pairs_100(out: &mut [u64])
     requires { ⌜ length (now out) ≡ 1040 ⌝ }
     ensures { λ _. ⌜ Pairs (photonOf 1) (now (out .exit)) × (length (now (out .exit)) ≡ 1040) ⌝ }
 {
-    let table = shares::shares_100();
+    let table = photon_tables::shares_100();
     pair_rows(1, out, &table);
 }
 
@@ -202,7 +202,7 @@ fn pairs_144(out: &mut [u64])
     requires { ⌜ length (now out) ≡ 1040 ⌝ }
     ensures { λ _. ⌜ Pairs (photonOf 2) (now (out .exit)) × (length (now (out .exit)) ≡ 1040) ⌝ }
 {
-    let table = shares::shares_144();
+    let table = photon_tables::shares_144();
     pair_rows(2, out, &table);
 }
 
@@ -210,7 +210,7 @@ fn pairs_196(out: &mut [u64])
     requires { ⌜ length (now out) ≡ 1040 ⌝ }
     ensures { λ _. ⌜ Pairs (photonOf 3) (now (out .exit)) × (length (now (out .exit)) ≡ 1040) ⌝ }
 {
-    let table = shares::shares_196();
+    let table = photon_tables::shares_196();
     pair_rows(3, out, &table);
 }
 
@@ -218,7 +218,7 @@ fn pairs_256(out: &mut [u64])
     requires { ⌜ length (now out) ≡ 1040 ⌝ }
     ensures { λ _. ⌜ Pairs (photonOf 4) (now (out .exit)) × (length (now (out .exit)) ≡ 1040) ⌝ }
 {
-    let table = shares::shares_256();
+    let table = photon_tables::shares_256();
     pair_rows(4, out, &table);
 }
 
@@ -246,5 +246,5 @@ pub fn fill_pairs(v: usize, out: &mut [u64])
 pub fn entries_288() -> [u64; 1552]
     ensures { λ r. ⌜ Entries 1552 (photonOf 5) r ⌝ }
 {
-    shares::shares_288()
+    photon_tables::shares_288()
 }

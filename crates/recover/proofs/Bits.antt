@@ -11,8 +11,8 @@ use Rattle.answers.proofs.Rows.{row-append}
 use Rattle.standard.specs.Chain.{blockCount}
 use Rattle.standard.specs.Messages.{Given, givenBits}
 use Rattle.standard.specs.Variants.{variant}
-use Rattle.sponge.specs.Messages.{messageChecks, Alike}
-use Rattle.sponge.proofs.PartBytes.{alike-asked}
+use Rattle.chain.specs.Messages.{messageChecks, Alike}
+use Rattle.chain.proofs.PartBytes.{alike-asked}
 use Rattle.recover.specs.Recovering.{placedChecks, foundChecks, recoveredBlock, recoverStatus, recoverInto}
 use Rattle.recover.specs.Promises.{RecoverAlike}
 

@@ -24,9 +24,9 @@ use Rattle.standard.proofs.Streaming.{block-count, run-length, blocks-sized}
 use Rattle.standard.proofs.OneBlock.{block-length}
 use Rattle.standard.proofs.ImageStates.{state-image}
 use Rattle.standard.proofs.Variants.{streams}
-use Rattle.sponge.specs.Messages.{messageChecks}
-use Rattle.sponge.proofs.PartBytes.{message-passes}
-use Rattle.sponge.proofs.ImageOfState.{image-is-image}
+use Rattle.chain.specs.Messages.{messageChecks}
+use Rattle.chain.proofs.PartBytes.{message-passes}
+use Rattle.chain.proofs.ImageOfState.{image-is-image}
 use Rattle.recover.specs.Leading.{endStateWith, NoneLeads, OnlyLeads}
 use Rattle.recover.specs.Difference.{difference}
 use Rattle.recover.specs.Recovering.{blockSize, searchable, placedChecks, recoveredBlock, askedChecks, recoverStatus, recoverInto}

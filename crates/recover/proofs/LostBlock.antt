@@ -18,11 +18,11 @@ use Rattle.standard.specs.Chain.{blockCount}
 use Rattle.standard.specs.Messages.{Given, givenBits}
 use Rattle.standard.specs.Variants.{variant, known}
 use Rattle.standard.proofs.Tests.{either, true-not-false}
-use Rattle.sponge.specs.Layout.{clear}
-use Rattle.sponge.proofs.Clear.{clear-zeros, zeros-clear}
-use Rattle.sponge.proofs.ImageLaws.{image-state}
-use Rattle.sponge.specs.Messages.{messageChecks}
-use Rattle.sponge.proofs.PartBytes.{message-passed}
+use Rattle.chain.specs.Layout.{clear}
+use Rattle.chain.proofs.Clear.{clear-zeros, zeros-clear}
+use Rattle.chain.proofs.ImageLaws.{image-state}
+use Rattle.chain.specs.Messages.{messageChecks}
+use Rattle.chain.proofs.PartBytes.{message-passed}
 use Rattle.recover.specs.Leading.{leading, NoneLeads, OnlyLeads}
 use Rattle.recover.specs.Difference.{difference}
 use Rattle.recover.specs.Recovering.{isEmpty, blockSize, placedChecks, leadingTo, foundChecks, recoveredBlock, askedChecks, recoverStatus}

@@ -16,8 +16,8 @@ use Rattle.standard.specs.Chain.{blockCount}
 use Rattle.standard.specs.Messages.{givenBits}
 use Rattle.standard.specs.Variants.{variant}
 use Rattle.standard.proofs.Streaming.{block-count}
-use Rattle.sponge.specs.Messages.{messageChecks}
-use Rattle.sponge.proofs.PartBytes.{message-passes}
+use Rattle.chain.specs.Messages.{messageChecks}
+use Rattle.chain.proofs.PartBytes.{message-passes}
 use Rattle.recover.specs.Recovering.{searchable, placedChecks, foundChecks, recoverStatus}
 use Rattle.recover.specs.Promises.{OtherPlace}
 

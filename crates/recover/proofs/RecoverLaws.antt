@@ -22,19 +22,19 @@ use Rattle.standard.specs.Bits.{high-first, bitsIn, pack, unpack}
 use Rattle.standard.specs.Families.{Variant, order, stateIn}
 use Rattle.standard.specs.Chain.{blocksOf, blockCount}
 use Rattle.standard.specs.Messages.{Given, givenBits}
-use Rattle.sponge.specs.Messages.{messageChecks}
+use Rattle.chain.specs.Messages.{messageChecks}
 use Rattle.standard.specs.Variants.{variant, known}
 use Rattle.standard.proofs.BitLaws.{length-bitsIn, length-pack, bitsIn-take, image-eq, pack-bytes}
 use Rattle.standard.proofs.Streaming.{block-count}
 use Rattle.standard.proofs.Tests.{true-not-false}
 use Rattle.standard.proofs.Variants.{Bounds, bounds, WholeBytes, layouts}
-use Rattle.sponge.specs.Layout.{packedState, clear}
-use Rattle.sponge.specs.Holding.{Holds}
-use Rattle.sponge.specs.Images.{isImage}
-use Rattle.sponge.proofs.ImageLaws.{image-ready, image-state, image-read}
-use Rattle.sponge.proofs.Clear.{clear-append, clear-zeros, zeros-clear, clear-order}
-use Rattle.sponge.proofs.LayoutLaws.{packed-bits}
-use Rattle.sponge.proofs.SqueezeLaws.{output-bits}
+use Rattle.chain.specs.Layout.{packedState, clear}
+use Rattle.chain.specs.Holding.{Holds}
+use Rattle.chain.specs.Images.{isImage}
+use Rattle.chain.proofs.ImageLaws.{image-ready, image-state, image-read}
+use Rattle.chain.proofs.Clear.{clear-append, clear-zeros, zeros-clear, clear-order}
+use Rattle.chain.proofs.LayoutLaws.{packed-bits}
+use Rattle.chain.proofs.SqueezeLaws.{output-bits}
 use Rattle.recover.specs.Difference.{difference}
 use Rattle.recover.specs.Recovering.{isEmpty, blockSize, searchable, placedChecks, leadingTo, foundChecks, recoveredBlock, recoverStatus, recoverInto}
 use Rattle.recover.proofs.LeadingLaws.{InBlock, blockFrom, leading-none, leading-one}

@@ -11,7 +11,7 @@ use mir.Val.{Fits}
 use lib.ListN.{length, take, drop, getD, replicate, length-append, length-drop, length-replicate}
 use lib.Seq.{drop-cons, drop-length, take-take, take-append-le, drop-append-le}
 use Rattle.standard.specs.Bits.{Order, high-first, bitsIn, unpack, pack, filled, xorInto}
-use Rattle.standard.specs.Rounds.{backward}
+use Rattle.standard.specs.declared.Direction.the-variants.{Backward}
 use Rattle.standard.specs.Sponge.{spongePadding}
 use Rattle.standard.specs.Families.{Variant, isSponge, order, stateIn}
 use Rattle.standard.specs.Chain.{startState, padded, wholeBlocks, blocksOf, blockCount, run}
@@ -22,22 +22,22 @@ use Rattle.standard.proofs.Sponge.{padding-sponge}
 use Rattle.standard.proofs.Streaming.{Streams, block-count, run-length}
 use Rattle.standard.proofs.PartBytes.{bit-block-count}
 use Rattle.standard.proofs.Variants.{bounds, streams, is-sponge}
-use Rattle.sponge.specs.Layout.{stateRoom, packedState, packedBlock}
-use Rattle.sponge.specs.Holding.{blockIn, Holds}
-use Rattle.sponge.specs.TakenBack.{permutedState, unstep, unrun}
-use Rattle.sponge.proofs.TakenBack.{unrun-one, unrun-none, unrun-length, wanted-length}
-use Rattle.sponge.specs.Blocks.{heldThen, firstBlocks}
-use Rattle.sponge.proofs.BlockRows.{withOne, length-first, first-take, marked-at, marked-blocks, heldThen-alone}
-use Rattle.sponge.specs.Endings.{markedCount, lengthBlocks}
-use Rattle.sponge.proofs.LastBlocks.{ending-blocks, place-marked, count-most}
-use Rattle.sponge.proofs.BlockRuns.{block-read, block-is, place-le}
-use Rattle.sponge.proofs.LayoutLaws.{packed-bits, holds}
-use Rattle.sponge.proofs.States.{stored, stored-ready}
+use Rattle.chain.specs.Layout.{stateRoom, packedState, packedBlock}
+use Rattle.chain.specs.Holding.{blockIn, Holds}
+use Rattle.chain.specs.TakenBack.{permutedState, unstep, unrun}
+use Rattle.chain.proofs.TakenBack.{unrun-one, unrun-none, unrun-length, wanted-length}
+use Rattle.chain.specs.Blocks.{heldThen, firstBlocks}
+use Rattle.chain.proofs.BlockRows.{withOne, length-first, first-take, marked-at, marked-blocks, heldThen-alone}
+use Rattle.chain.specs.Endings.{markedCount, lengthBlocks}
+use Rattle.chain.proofs.LastBlocks.{ending-blocks, place-marked, count-most}
+use Rattle.chain.proofs.BlockRuns.{block-read, block-is, place-le}
+use Rattle.chain.proofs.LayoutLaws.{packed-bits, holds}
+use Rattle.chain.proofs.States.{stored, stored-ready}
 use Rattle.recover.specs.Difference.{stateBefore, stateBehind, between, difference}
 use Rattle.recover.proofs.Searching.{between-sponge}
 use Rattle.standard.specs.Lesamnta.{cipher}
-use Rattle.sponge.specs.Parts.{messageIn, HoldsMessage}
-use Rattle.sponge.proofs.PartBytes.{held-length}
+use Rattle.chain.specs.Parts.{messageIn, HoldsMessage}
+use Rattle.chain.proofs.PartBytes.{held-length}
 
 -- the blocks of a message of n bits that the code holds
 pub count-held : (v : ℕ) {front : List ℕ} {last n count : ℕ} → HoldsMessage front last n → count ≡ blockCount (variant v) n → count ≡ length (blocksOf (variant v) (messageIn front last n))
@@ -173,15 +173,15 @@ module _ (v : ℕ) (k : known v ≡ true) {front : List ℕ} {last n : ℕ} (h :
 
     -- of a sponge: permuted back, and xored
     pub difference-held : isSponge (variant v) ≡ true → (y z r : List ℕ) → y ≡ packedState K (stateBehind K m place e)
-        → z ≡ packedState K (permutedState K backward (stateIn K y))
+        → z ≡ packedState K (permutedState K Backward (stateIn K y))
         → ((i : ℕ) → getD r i 0 < 256) → length r ≡ stateRoom → ((o : Order) → bitsIn o r ≡ xorInto (bitsIn o x) (bitsIn o z))
         → r ≡ packedState K (difference K m place e)
     difference-held q y z r ey ez hr lr er =
         let g : Streams K = streams v k in
-        states-xored v k x z r (stateBefore K m place) (permutedState K backward (stateBehind K m place e)) before-long
+        states-xored v k x z r (stateBefore K m place) (permutedState K Backward (stateBehind K m place e)) before-long
         (wanted-length K g (is-sponge v q) (startState K) (g .start-length) (blocksOf K m) place within e le)
         hr lr before-held
-        (ez ∙ ap (λ (u : List Bool). packedState K (permutedState K backward u)) (stored v k y (stateBehind K m place e) (unrun-length K (is-sponge v q) _ e le) ey))
+        (ez ∙ ap (λ (u : List Bool). packedState K (permutedState K Backward u)) (stored v k y (stateBehind K m place e) (unrun-length K (is-sponge v q) _ e le) ey))
         er
         ∙ ap (packedState K) (sym (between-sponge (K .family) q K (stateBefore K m place) (stateBehind K m place e)))
 
@@ -199,7 +199,7 @@ module _ (before end : List ℕ) (hb : Holds 11 before) where
   S = stateIn (variant 11) before
 
   abbrev X : List Bool
-  X = cipher backward (take 128 (stateIn (variant 11) before)) (stateIn (variant 11) end)
+  X = cipher Backward (take 128 (stateIn (variant 11) before)) (stateIn (variant 11) end)
 
   abbrev Z : List Bool
   Z = replicate 128 false ++ drop 128 (stateIn (variant 11) before)
@@ -213,14 +213,14 @@ module _ (before end : List ℕ) (hb : Holds 11 before) where
     unfolding variant
     before-bits = ap (bitsIn high-first) hb ∙ packed-bits high-first 36 S (omega (arith, long)) ∙ ap (λ (n : ℕ). S ++ replicate (288 - n) false) long
 
-    enciphered : (x y : List ℕ) → x ≡ pack high-first 32 (cipher backward (take 128 (bitsIn high-first before)) (take 256 (bitsIn high-first end)))
+    enciphered : (x y : List ℕ) → x ≡ pack high-first 32 (cipher Backward (take 128 (bitsIn high-first before)) (take 256 (bitsIn high-first end)))
         → y ≡ x ++ replicate (stateRoom - length x) 0 → bitsIn high-first y ≡ X ++ replicate 32 false
     unfolding stateIn unpack variant
     enciphered x y ex ey =
         let key : take 128 (bitsIn high-first before) ≡ take 128 (take 256 (bitsIn high-first before)) = sym (take-take 128 256 (bitsIn high-first before) (omega arith)) in
-        let x-is : x ≡ pack high-first 32 X = ex ∙ ap (λ (k : List Bool). pack high-first 32 (cipher backward k (take 256 (bitsIn high-first end)))) key in
+        let x-is : x ≡ pack high-first 32 X = ex ∙ ap (λ (k : List Bool). pack high-first 32 (cipher Backward k (take 256 (bitsIn high-first end)))) key in
         let lx : length x ≡ 32 = ap length x-is ∙ length-pack high-first 32 X in
-        let lX : length X ≡ 256 = cipher-length backward (take 128 (take 256 (bitsIn high-first before))) (take 256 (bitsIn high-first end)) in
+        let lX : length X ≡ 256 = cipher-length Backward (take 128 (take 256 (bitsIn high-first before))) (take 256 (bitsIn high-first end)) in
         ap (bitsIn high-first) (ey ∙ ap₂ (λ (a : List ℕ) (n : ℕ). a ++ replicate (stateRoom - n) 0) x-is lx ∙ sym (pack-whole high-first 32 36 X (omega arith) lX))
         ∙ packed-bits high-first 36 X (omega arith)
         ∙ ap (λ (n : ℕ). X ++ replicate (288 - n) false) lX
@@ -234,14 +234,14 @@ module _ (before end : List ℕ) (hb : Holds 11 before) where
         ∙ sym (append-assoc (replicate 128 false) (drop 128 S) (replicate 32 false))
 
     pub cipher-between : (x y z r : List ℕ)
-        → x ≡ pack high-first 32 (cipher backward (take 128 (bitsIn high-first before)) (take 256 (bitsIn high-first end)))
+        → x ≡ pack high-first 32 (cipher Backward (take 128 (bitsIn high-first before)) (take 256 (bitsIn high-first end)))
         → y ≡ x ++ replicate (stateRoom - length x) 0
         → z ≡ replicate 16 0 ++ drop 16 before
         → ((i : ℕ) → getD r i 0 < 256) → length r ≡ stateRoom → ((o : Order) → bitsIn o r ≡ xorInto (bitsIn o y) (bitsIn o z))
         → r ≡ packedState (variant 11) (between (variant 11 .family) (variant 11) (stateIn (variant 11) before) (stateIn (variant 11) end))
     unfolding variant
     cipher-between x y z r ex ey ez hr lr er =
-        let lX : length X ≡ 256 = cipher-length backward (take 128 S) (stateIn (variant 11) end) in
+        let lX : length X ≡ 256 = cipher-length Backward (take 128 S) (stateIn (variant 11) end) in
         let lZ : length Z ≡ 256 = length-append (replicate 128 false) (drop 128 S) ∙ omega (arith, length-replicate 128 false, length-drop 128 S, long) in
         holds high-first 256 (omega arith) r (xorInto X Z) hr lr (length-xorInto X Z ∙ lX)
         (er high-first

@@ -13,7 +13,7 @@ use lib.Seq.{set-split, drop-length}
 use borrow.Author.Tests.{eqb-true}
 use Rattle.standard.specs.Bits.{turned, xorInto}
 use Rattle.standard.proofs.Turned.{length-turned, turned-high}
-use Rattle.standard.specs.Rounds.{backward}
+use Rattle.standard.specs.declared.Direction.the-variants.{Backward}
 use Rattle.standard.specs.Families.{Family, sponge, lesamnta, Variant, spongeOf, isSponge, order}
 use Rattle.standard.specs.Chain.{startState, blocksOf, step, run}
 use Rattle.standard.specs.Lesamnta.{cipher}
@@ -25,8 +25,8 @@ use Rattle.standard.proofs.Sponge.{IsSponge}
 use Rattle.standard.proofs.Differences.{difference-of, difference-back}
 use Rattle.standard.proofs.LesamntaLaws as lw
 use Rattle.standard.proofs.Variants.{streams, is-sponge, not-sponge}
-use Rattle.sponge.specs.TakenBack.{permutedState, unrun}
-use Rattle.sponge.proofs.TakenBack.{before-length, wanted-length, leads-to, leads-from}
+use Rattle.chain.specs.TakenBack.{permutedState, unrun}
+use Rattle.chain.proofs.TakenBack.{before-length, wanted-length, leads-to, leads-from}
 use Rattle.recover.specs.Leading.{endStateWith}
 use Rattle.recover.specs.Difference.{stateBefore, stateBehind, between, difference}
 use Rattle.recover.specs.Recovering.{searchable}
@@ -43,7 +43,7 @@ pub record Searches (H : Variant) (m : List Bool) (place : ℕ) (s : List Bool) 
 
 -- ---- a sponge, at every place
 
-pub between-sponge : (f : Family) → spongeOf f ≡ true → (H : Variant) (s e : List Bool) → between f H s e ≡ xorInto s (permutedState H backward e)
+pub between-sponge : (f : Family) → spongeOf f ≡ true → (H : Variant) (s e : List Bool) → between f H s e ≡ xorInto s (permutedState H Backward e)
 between-sponge (sponge P r′) q H s e = refl
 between-sponge lesamnta q H s e = absurd (true-not-false (sym q))
 
@@ -52,7 +52,7 @@ module _ (H : Variant) (g : Streams H) (h : IsSponge H) (q : isSponge H ≡ true
   S = stateBefore H m place
 
   abbrev Z : List Bool
-  Z = permutedState H backward (stateBehind H m place s)
+  Z = permutedState H Backward (stateBehind H m place s)
 
   lS : length S ≡ H .t
   lS = before-length H g h (startState H) (g .start-length) (blocksOf H m) place within s ls
@@ -116,10 +116,10 @@ module _ (m : List Bool) (place : ℕ) (last : suc place ≡ length (blocksOf (v
   lesamnta-searches : Searches (variant 11) m place s
   unfolding variant step
   lesamnta-searches =
-      let here : (x : List Bool) → List Bool = λ x. xorInto (cipher backward (take 128 B) x) (replicate 128 false ++ drop 128 B) in
+      let here : (x : List Bool) → List Bool = λ x. xorInto (cipher Backward (take 128 B) x) (replicate 128 false ++ drop 128 B) in
       record {
         fits = omega arith;
-        size = length-xorInto (cipher backward (take 128 B) (stateBehind E m place s)) (replicate 128 false ++ drop 128 B) ∙ lw.cipher-length backward (take 128 B) (stateBehind E m place s);
+        size = length-xorInto (cipher Backward (take 128 B) (stateBehind E m place s)) (replicate 128 false ++ drop 128 B) ∙ lw.cipher-length Backward (take 128 B) (stateBehind E m place s);
         tells = λ b l e.
             ap here behind-is
             ∙ lw.step-found B s lB ls b l (sym (one-step b) ∙ e)

@@ -15,7 +15,7 @@ use Rattle.standard.specs.Families.{isSponge, imageOf, stateIn}
 use Rattle.standard.specs.Chain.{blocksOf, endState}
 use Rattle.standard.specs.Messages.{Given, givenBits}
 use Rattle.standard.specs.Variants.{variant, known}
-use Rattle.sponge.specs.Messages.{Fits, Alike}
+use Rattle.chain.specs.Messages.{Fits, Alike}
 use Rattle.recover.specs.Leading.{endStateWith, NoneLeads, OnlyLeads}
 use Rattle.recover.specs.Recovering.{blockSize, searchable, recoveredBlock, askedChecks, recoverStatus, recoverInto}
 

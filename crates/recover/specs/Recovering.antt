@@ -14,8 +14,8 @@ use Rattle.answers.specs.declared.Refusal.the-variants.{OutputTooShort, BadImag
 use Rattle.answers.specs.declared.Status.{Status}
 use Rattle.answers.specs.Checks.{Check, unless, when, firstRefusal}
 use Rattle.answers.specs.Outputs.{written}
-use Rattle.sponge.specs.Images.{isImage}
-use Rattle.sponge.specs.Messages.{messageChecks}
+use Rattle.chain.specs.Images.{isImage}
+use Rattle.chain.specs.Messages.{messageChecks}
 use Rattle.recover.specs.Leading.{leading}
 
 -- whether a row has no block

@@ -12,21 +12,21 @@ ghost use Rattle.standard.specs.Variants.{variant, known};
 ghost use Rattle.answers.specs.declared.Status.the-variants.{Done};
 ghost use Rattle.answers.specs.Checks.{firstRefusal};
 ghost use Rattle.answers.specs.Outputs.{written};
-ghost use Rattle.sponge.specs.Layout.{packedState};
-ghost use Rattle.sponge.specs.Holding.{Holds};
-ghost use Rattle.sponge.specs.Parts.{given, messageIn, HoldsMessage};
+ghost use Rattle.chain.specs.Layout.{packedState};
+ghost use Rattle.chain.specs.Holding.{Holds};
+ghost use Rattle.chain.specs.Parts.{given, messageIn, HoldsMessage};
 ghost use Rattle.recover.specs.Difference.{stateBehind, between, difference};
 ghost use Rattle.recover.specs.Recovering.{blockSize, searchable, placedChecks, foundChecks, recoveredBlock, recoverStatus, recoverInto};
 use answers::Refusal;
 use answers::Status;
-use sponge::Direction;
-use sponge::STATE_BYTES;
-use sponge::blocks;
-use sponge::images;
-use sponge::parts;
-use sponge::parts::Ending;
-use sponge::sizes;
-use sponge::step;
+use standard::Direction;
+use chain::STATE_BYTES;
+use chain::blocks;
+use chain::images;
+use chain::parts;
+use chain::parts::Ending;
+use chain::sizes;
+use chain::step;
 
 // The bytes of a block.
 pub fn block_bytes(v: u8) -> usize
@@ -104,7 +104,7 @@ fn difference(
     ensures { λ r. ⌜ r ≡ packedState (variant v) (difference (variant v) (messageIn (now (front .entry)) last bits) place (stateIn (variant v) end)) ⌝ }
 {
     let start = step::start(v);
-    let before = sponge::outcome::run_blocks(v, start, b"", 0, front, last, place);
+    let before = chain::outcome::run_blocks(v, start, b"", 0, front, last, place);
     if !sizes::is_sponge(v) {
         return cipher_difference(before, end);
     }

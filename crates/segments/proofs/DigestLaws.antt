@@ -22,7 +22,7 @@ use Rattle.standard.specs.Messages.{byteBits, bytes}
 use Rattle.standard.specs.Variants.{variant, known}
 use Rattle.hasher.specs.declared.Hasher.{Hasher}
 use Rattle.hasher.specs.declared.Advanced.{Advanced}
-use Rattle.hasher.specs.declared.Wanted.{Wanted}
+use Rattle.standard.specs.declared.Wanted.{Wanted}
 use Rattle.hasher.specs.Sized.{Sized}
 use Rattle.hasher.specs.Running.{wholeSoFar, started, updated, finished, stateOf}
 use Rattle.hasher.specs.ForCode.{Open}
@@ -32,8 +32,8 @@ use Rattle.hasher.proofs.Message.{fresh-sized, fresh-open, fresh-whole, calls-r
 use Rattle.hasher.proofs.UpdateAppend.{update-twice}
 use Rattle.standard.specs.Bits.{high-first, bitsIn}
 use Rattle.standard.proofs.BitLaws.{length-bitsIn}
-use Rattle.sponge.specs.declared.parts.Ending.the-variants.{Whole}
-use Rattle.sponge.proofs.PartBytes.{given-limit}
+use Rattle.chain.specs.declared.parts.Ending.the-variants.{Whole}
+use Rattle.chain.proofs.PartBytes.{given-limit}
 use Rattle.hasher.proofs.Owned.{Owned}
 use Rattle.hasher.proofs.WellFormed.{facts, state-kept, held-kept}
 use Rattle.hasher.proofs.Next.{onward-none, onward, onward-total, onward-whole, onward-open, onward-append}

@@ -22,7 +22,7 @@ use Rattle.standard.specs.Chain.{blocksOf, DifferAt, endState}
 use Rattle.standard.specs.Messages.{byteBits, bytes}
 use Rattle.standard.proofs.BitLaws.{length-bitsIn}
 use Rattle.standard.specs.Variants.{variant}
-use Rattle.hasher.specs.declared.Wanted.the-variants.{EndState}
+use Rattle.standard.specs.declared.Wanted.the-variants.{EndState}
 use Rattle.hasher.specs.Apart.{Differ, ToldApart}
 use Rattle.hasher.proofs.Apart.{row-told, block-told, value-told}
 use Rattle.segments.specs.Entries.{offsetOf, lengthOf, endOf, formerEnd, count, segmentIn, entryChecks, entriesStatus, segmentsOf, headerOf, messageOf}

@@ -10,7 +10,7 @@ use Rattle.answers.specs.declared.Status.the-variants.{Done}
 use Rattle.standard.specs.Grid.{tab}
 use Rattle.standard.specs.Families.{imageSize}
 use Rattle.standard.specs.Variants.{variant}
-use Rattle.hasher.specs.declared.Wanted.the-variants.{EndState}
+use Rattle.standard.specs.declared.Wanted.the-variants.{EndState}
 use Rattle.hasher.specs.Apart.{Differ}
 use Rattle.segments.specs.Entries.{offsetOf, lengthOf, endOf, isList, count, segmentStatus, entriesStatus, segmentOf}
 use Rattle.segments.specs.Digests.{listInto}

@@ -11,7 +11,7 @@ use Rattle.answers.specs.Outputs.{written, most}
 use Rattle.standard.specs.Chain.{endState}
 use Rattle.standard.specs.Messages.{byteBits}
 use Rattle.standard.specs.Variants.{variant, known}
-use Rattle.hasher.specs.declared.Wanted.{Wanted}
+use Rattle.standard.specs.declared.Wanted.{Wanted}
 use Rattle.hasher.specs.Reading.{resultOf, roomChecks}
 use Rattle.segments.specs.Entries.{isList, entriesChecks, messageOf}
 

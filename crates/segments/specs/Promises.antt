@@ -15,8 +15,8 @@ use Rattle.standard.specs.Messages.{byteBits}
 use Rattle.standard.specs.Families.{isSponge}
 use Rattle.standard.specs.Values.{DifferWithin, inOneBlock}
 use Rattle.standard.specs.Variants.{variant}
-use Rattle.hasher.specs.declared.Wanted.{Wanted}
-use Rattle.hasher.specs.declared.Wanted.the-variants.{EndState}
+use Rattle.standard.specs.declared.Wanted.{Wanted}
+use Rattle.standard.specs.declared.Wanted.the-variants.{EndState}
 use Rattle.segments.specs.declared.Step.the-variants.{Entry}
 use Rattle.standard.specs.KnownValues.{AllHold}
 use Rattle.segments.specs.KnownValues.{allValues}

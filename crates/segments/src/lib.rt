@@ -18,7 +18,7 @@ use answers::MOST;
 use answers::Refusal;
 use answers::Status;
 use hasher::Hasher;
-use hasher::Wanted;
+use standard::Wanted;
 
 pub fn offset_at(list: &[u8], k: usize) -> u32
     requires { ⌜ k < count (now list) ⌝ }
@@ -178,7 +178,7 @@ fn message_length(list: &[u8]) -> usize
 fn check_list(variant: u32, list: &[u8], buffer: &[u8], wanted: Wanted, n: usize) -> Status
     ensures { λ r. ⌜ r ≡ listStatus variant (now (list .entry)) (now (buffer .entry)) wanted n ⌝ }
 {
-    if !sponge::sizes::is_known(variant) {
+    if !chain::sizes::is_known(variant) {
         return Status::Refused(Refusal::UnknownVariant);
     }
     if !is_list(list) {

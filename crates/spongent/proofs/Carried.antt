@@ -9,7 +9,8 @@ use native.Mathlib.Omega.{arith}
 use lib.ListN.{length, getD, drop, replicate}
 use lib.Seq.{drop-length}
 use Rattle.standard.specs.Bits.{low-first, bitsIn}
-use Rattle.standard.specs.Rounds.{Direction, inTurn, rounds}
+use Rattle.standard.specs.Rounds.{inTurn, rounds}
+use Rattle.standard.specs.declared.Direction.{Direction}
 use Rattle.standard.specs.Spongent.{SpongentParameters, lCounters, spongentRound, spongentPermutation}
 use Rattle.standard.specs.Counters.{reversal, steppedCounter, steppedReversed, counterIn}
 use Rattle.standard.proofs.CounterSteps.{within, stepped-lt, stepped-reversed}

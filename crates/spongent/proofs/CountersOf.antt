@@ -4,7 +4,9 @@
 use mathlib.Core.Path.{_≡_, ap, _∙_}
 use Prim.Native.Nat.{ℕ, _-_, _%_, _^_, _≤_, _<_}
 use native.Mathlib.Omega.{arith}
-use Rattle.standard.specs.Rounds.{Direction, forward, opposite, iterate}
+use Rattle.standard.specs.Rounds.{opposite, iterate}
+use Rattle.standard.specs.declared.Direction.{Direction}
+use Rattle.standard.specs.declared.Direction.the-variants.{Forward}
 use Rattle.standard.specs.Spongent.{SpongentParameters}
 use Rattle.standard.specs.Counters.{reversal, steppedCounter, steppedReversed, counterIn}
 use Rattle.standard.proofs.CounterSteps.{stepped-undo, reversed-undo}
@@ -27,10 +29,10 @@ module _ (v : ℕ) (least : 6 ≤ v) (most : v ≤ 10) where
   reversed-of-round = reversed-stepped p sound
 
   -- forward, the first round has the reversal of Table 9's first value
-  pub reversed-from-first : (k : ℕ) → k < p .R → reversal (p .t) (counterIn p forward k) ≡ iterate k (steppedReversed forward (p .t) (p .width) (p .taps)) (reversal (p .t) (p .first))
+  pub reversed-from-first : (k : ℕ) → k < p .R → reversal (p .t) (counterIn p Forward k) ≡ iterate k (steppedReversed Forward (p .t) (p .width) (p .taps)) (reversal (p .t) (p .first))
   reversed-from-first k h =
-      reversed-of-round forward k h
-      ∙ ap (λ (c : ℕ). iterate k (steppedReversed forward (p .t) (p .width) (p .taps)) (reversal (p .t) c)) (first-counter p (omega arith))
+      reversed-of-round Forward k h
+      ∙ ap (λ (c : ℕ). iterate k (steppedReversed Forward (p .t) (p .width) (p .taps)) (reversal (p .t) c)) (first-counter p (omega arith))
 
   pub counter-back : (way : Direction) (c : ℕ) → c < 2 ^ p .width → steppedCounter (opposite way) (p .width) (p .taps) (steppedCounter way (p .width) (p .taps) c) ≡ c
   counter-back = stepped-undo (p .width) (p .taps) (sound .taps)

@@ -7,7 +7,7 @@ use Prim.Native.Nat.{ℕ, _-_, _≤_, _<_}
 use native.Mathlib.Omega.{arith}
 use lib.ListN.{length, getD, replicate}
 use Rattle.standard.specs.Bits.{low-first, bitsIn, pack, unpack}
-use Rattle.standard.specs.Rounds.{Direction}
+use Rattle.standard.specs.declared.Direction.{Direction}
 use Rattle.standard.specs.Spongent.{SpongentParameters, spongentPermutation}
 use Rattle.standard.proofs.BitLaws.{image-eq, length-unpack}
 use Rattle.standard.proofs.SpongentLaws.{length-spongentPermutation}

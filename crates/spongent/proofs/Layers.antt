@@ -14,7 +14,7 @@ use Rattle.standard.specs.Spongent.{cAddition, sBoxLayer}
 use Rattle.standard.specs.Counters.{reversal}
 use Rattle.standard.proofs.BitLaws.{length-lowBits, lowValue-lowBits, lowBits-lowValue, lowBits-add, lowValue-append, lowValue-of, bitsIn-append, bitsIn-take, bitsIn-drop, bitsIn-xor, xorInto-behind, xorInto-front, xorInto-append, xorInto-nil, length-xorInto, length-bitsOf, length-bitsIn, lowBits-byte, high-byte}
 use Rattle.standard.proofs.SpongentLaws.{sBoxLayer-none, sBoxLayer-more, length-sBoxLayer}
-use Rattle.arrays.proofs.Mapped.{mapped}
+use Rattle.bytes.proofs.Mapped.{mapped}
 
 -- ---- sBoxLayer
 

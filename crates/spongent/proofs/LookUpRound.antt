@@ -11,14 +11,14 @@ use lib.Bits.{bitXor, xor-zero-l, xor-zero-r}
 use lib.ListN.{length, getD, set, take, drop, replicate, length-set}
 use lib.Seq.{length-take-le}
 use Rattle.standard.specs.Bits.{low-first, bitsIn, unpack}
-use Rattle.standard.specs.Rounds.{forward}
+use Rattle.standard.specs.declared.Direction.the-variants.{Forward}
 use Rattle.standard.specs.Spongent.{nibbles, cAddition, sBoxLayer, pLayer, spongentRound}
 use Rattle.standard.specs.Counters.{reversal}
 use Rattle.standard.proofs.BitLaws.{length-bitsIn}
 use Rattle.standard.proofs.SpongentLaws.{length-sBoxLayer, length-cAddition}
 use Rattle.standard.proofs.Reversal.{reversal-lt}
 use Rattle.standard.proofs.Tests.{lt-or-le, bound-below}
-use Rattle.arrays.proofs.Mapped.{mapped, length-mapped}
+use Rattle.bytes.proofs.Mapped.{mapped, length-mapped}
 use Rattle.spongent.specs.Pairs.{pairOf}
 use Rattle.spongent.specs.Words.{bytesIn, pairIn, boxed, spreadWord, lanesInto}
 use Rattle.spongent.proofs.Layers.{byteBy, byte-nibbles, mapped-bits, bytes-cAddition, first-bits}
@@ -160,7 +160,7 @@ module _ (w : List ℕ) (n c r x y : ℕ) (lw : length w ≡ 8) (least : 0 < n) 
       ap (bitsIn low-first) last ∙ bytes-cAddition (bytesIn w) n c r least (omega (arith, length-bytesIn w)) byte mirror (bytesIn one) first
 
   pub looked-round : (j : ℕ) (out : List ℕ) → n ≤ 8 * j → Looked nibbles n (counted w n x y) j out
-      → unpack low-first (8 * n) (bytesIn out) ≡ spongentRound (8 * n) forward (unpack low-first (8 * n) (bytesIn w)) c
+      → unpack low-first (8 * n) (bytesIn out) ≡ spongentRound (8 * n) Forward (unpack low-first (8 * n) (bytesIn w)) c
   unfolding unpack spongentRound
   looked-round j out all done =
       let t : ℕ = 8 * n in

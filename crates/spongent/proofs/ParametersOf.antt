@@ -6,7 +6,7 @@ use mathlib.Core.List.{List, [], _∷_}
 use Prim.Native.Nat.{ℕ, _-_, _%_, _≤_, _<_}
 use native.Mathlib.Omega.{arith}
 use lib.ListN.{getD}
-use Rattle.standard.specs.Rounds.{forward, backward}
+use Rattle.standard.specs.declared.Direction.the-variants.{Forward, Backward}
 use Rattle.standard.specs.Spongent.{SpongentParameters, tapped, nextCounter, counters, lCounters}
 use Rattle.standard.specs.Counters.{counterIn}
 use Rattle.standard.specs.Families.{spongent, sponge}
@@ -68,8 +68,8 @@ pub record Tabled (p : SpongentParameters) (i : ℕ) : Type 0 where
   pub count : getD roundCounts i 0 ≡ p .R
   pub width : getD widths i 0 ≡ p .width
   pub taps : tapsOf (p .width) ≡ p .taps
-  pub first : getD firsts i 0 ≡ counterIn p forward 0
-  pub last : getD lasts i 0 ≡ counterIn p backward 0
+  pub first : getD firsts i 0 ≡ counterIn p Forward 0
+  pub last : getD lasts i 0 ≡ counterIn p Backward 0
 
 -- computed: the last counter by as many steps as there are rounds
 pub tabled : (v : ℕ) → 6 ≤ v → v ≤ 10 → Tabled (spongentOf v) (v - 6)

@@ -6,11 +6,13 @@ use Prim.Native.Nat.{ℕ, _+_, _<_}
 use native.Mathlib.Numerals.{add-one}
 use lib.ListN.{length, getD, drop, length-reverse}
 use lib.Seq.{drop-cons}
-use Rattle.standard.specs.Rounds.{Direction, forward, backward, inTurn}
+use Rattle.standard.specs.Rounds.{inTurn}
+use Rattle.standard.specs.declared.Direction.{Direction}
+use Rattle.standard.specs.declared.Direction.the-variants.{Forward, Backward}
 
 pub length-inTurn : (w : Direction) (cs : List ℕ) → length (inTurn w cs) ≡ length cs
-length-inTurn forward cs = refl
-length-inTurn backward cs = length-reverse cs
+length-inTurn Forward cs = refl
+length-inTurn Backward cs = length-reverse cs
 
 -- the k-th of what is left to do comes first
 pub foldl-drop : {A : Type 0} (f : A → ℕ → A) (x : A) (ds : List ℕ) (k : ℕ) → k < length ds

@@ -16,7 +16,7 @@ use Rattle.standard.specs.Bits.{low-first, bitsIn, pack, unpack}
 use Rattle.standard.proofs.BitLaws.{length-bitsIn, bitsIn-take, pack-bitsIn, pack-whole}
 use Rattle.standard.proofs.Tab.{getD-tab}
 use Rattle.standard.proofs.Tests.{lt-or-le}
-use Rattle.arrays.proofs.Upto.{Upto, upto-more}
+use Rattle.bytes.proofs.Upto.{Upto, upto-more}
 use Rattle.spongent.specs.Pairs.{pairAt}
 use Rattle.spongent.specs.Words.{bytesIn, pairIn}
 use Rattle.spongent.proofs.Places.{zeros-at}

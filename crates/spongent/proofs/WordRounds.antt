@@ -6,7 +6,7 @@ use Prim.Native.Nat.{ℕ, _+_, _-_, _*_, _≤_, _<_}
 use native.Mathlib.Omega.{arith}
 use lib.ListN.{length}
 use Rattle.standard.specs.Bits.{low-first, unpack}
-use Rattle.standard.specs.Rounds.{forward}
+use Rattle.standard.specs.declared.Direction.the-variants.{Forward}
 use Rattle.standard.specs.Spongent.{nextCounter, spongentRound}
 use Rattle.standard.specs.Counters.{reversal, nextReversed, steppedCounter, steppedReversed, counterIn}
 use Rattle.standard.specs.Variants.{variant}
@@ -24,7 +24,7 @@ pub record Row (v n R b c : ℕ) : Type 0 where
   pub count : spongentOf v .R ≡ R
   pub width : spongentOf v .width ≡ b
   pub taps : spongentOf v .taps ≡ tapsOf b
-  pub start : c ≡ counterIn (spongentOf v) forward 0
+  pub start : c ≡ counterIn (spongentOf v) Forward 0
 
 pub row-6 : Row 6 11 45 6 0x05
 unfolding variant spongentOf tapsOf
@@ -54,8 +54,8 @@ row-10 =
 -- k rounds are done on the words w, with these two counters for the next
 pub record Ahead (v : ℕ) (w now : List ℕ) (k counter reversed : ℕ) : Type 0 where
   pub size : length now ≡ 8
-  pub left : Left (spongentOf v) forward (unpack low-first (spongentOf v .t) (bytesIn w)) (unpack low-first (spongentOf v .t) (bytesIn now)) k
-  pub carried : Carried (spongentOf v) forward k counter reversed
+  pub left : Left (spongentOf v) Forward (unpack low-first (spongentOf v .t) (bytesIn w)) (unpack low-first (spongentOf v .t) (bytesIn now)) k
+  pub carried : Carried (spongentOf v) Forward k counter reversed
 
 module _ {v n R b c : ℕ} (z : Row v n R b c) (w : List ℕ) where
   sizes : Sizes (spongentOf v)
@@ -68,21 +68,21 @@ module _ {v n R b c : ℕ} (z : Row v n R b c) (w : List ℕ) where
   ahead-first l r m =
       record {
         size = l;
-        left = left-first (spongentOf v) sizes sound forward (unpack low-first (spongentOf v .t) (bytesIn w));
-        carried = carried-first (spongentOf v) sizes sound forward c r (z .start) m;
+        left = left-first (spongentOf v) sizes sound Forward (unpack low-first (spongentOf v .t) (bytesIn w));
+        carried = carried-first (spongentOf v) sizes sound Forward c r (z .start) m;
       }
 
   pub ahead-next : (now after : List ℕ) (k counter r counter′ r′ : ℕ) → k < R → length after ≡ 8
-      → unpack low-first (8 * n) (bytesIn after) ≡ spongentRound (8 * n) forward (unpack low-first (8 * n) (bytesIn now)) counter
+      → unpack low-first (8 * n) (bytesIn after) ≡ spongentRound (8 * n) Forward (unpack low-first (8 * n) (bytesIn now)) counter
       → counter′ ≡ nextCounter b (tapsOf b) counter → r′ ≡ nextReversed 8 b (tapsOf b) r → Ahead v w now k counter r → Ahead v w after (k + 1) counter′ r′
   unfolding steppedCounter steppedReversed
   ahead-next now after k counter r counter′ r′ h l e ec er u =
       let more : k < spongentOf v .R = rw (z .count) h in
       record {
         size = l;
-        left = left-next (spongentOf v) sizes sound forward _ _ _ k counter more (u .carried .counter more) (rw (z .bits) e) (u .left);
-        carried = carried-next (spongentOf v) sizes sound forward k counter r counter′ r′ (rw (z .width, z .taps) ec) (rw (z .width, z .taps) er) (u .carried);
+        left = left-next (spongentOf v) sizes sound Forward _ _ _ k counter more (u .carried .counter more) (rw (z .bits) e) (u .left);
+        carried = carried-next (spongentOf v) sizes sound Forward k counter r counter′ r′ (rw (z .width, z .taps) ec) (rw (z .width, z .taps) er) (u .carried);
       }
 
   pub ahead-none : (now : List ℕ) (k counter r : ℕ) → k ≡ R → Ahead v w now k counter r → Permuted v (bytesIn w) (bytesIn now)
-  ahead-none now k counter r e u = left-none (spongentOf v) sizes sound forward _ _ k (rw (z .count) e) (u .left)
+  ahead-none now k counter r e u = left-none (spongentOf v) sizes sound Forward _ _ k (rw (z .count) e) (u .left)

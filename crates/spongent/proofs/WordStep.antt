@@ -10,7 +10,7 @@ use lib.Bits.{bitXor}
 use lib.ListN.{length, getD, set, take, drop, length-take, length-drop}
 use lib.Seq.{length-take-le, getD-drop, take-at}
 use Rattle.standard.specs.Bits.{low-first, bitsIn, unpack, xorInto}
-use Rattle.standard.specs.Rounds.{forward}
+use Rattle.standard.specs.declared.Direction.the-variants.{Forward}
 use Rattle.standard.specs.Spongent.{spongentPermutation}
 use Rattle.standard.specs.Variants.{variant}
 use Rattle.standard.proofs.BitLaws.{length-bitsIn, length-xorInto, xorInto-front, bytesXor, bitsIn-bytesXor, bytesXor-none, bytesXor-more}
@@ -74,7 +74,7 @@ xored-front t s b hb hs =
 abbrev pub Stepped : ℕ → List ℕ → ℕ → List ℕ → List ℕ → Type 0
 Stepped v bytes at w w₂ =
     unpack low-first (spongentOf v .t) (bytesIn w₂)
-    ≡ spongentPermutation (spongentOf v) forward (xorInto (unpack low-first (spongentOf v .t) (bytesIn w)) (bitsIn low-first (take (variant v .r / 8) (drop at bytes))))
+    ≡ spongentPermutation (spongentOf v) Forward (xorInto (unpack low-first (spongentOf v .t) (bytesIn w)) (bitsIn low-first (take (variant v .r / 8) (drop at bytes))))
 
 -- a block of m bytes is xored in, which makes w₁ of w, and the permutation makes w₂ of that
 module _ (v m : ℕ) (least : 6 ≤ v) (most : v ≤ 10) (rate : variant v .r / 8 ≡ m) (bytes : List ℕ) (at : ℕ) (w : List ℕ) where
@@ -89,7 +89,7 @@ module _ (v m : ℕ) (least : 6 ≤ v) (most : v ≤ 10) (rate : variant v .r / 
       let x : unpack low-first t (bytesIn w₁) ≡ xorInto (unpack low-first t (bytesIn w)) (bitsIn low-first (take (variant v .r / 8) block)) =
       ap (unpack low-first t) e₁ ∙ xored-front t (bytesIn w) b (omega arith) (omega (arith, length-bytesIn w))
       ∙ ap (λ (j : ℕ). xorInto (unpack low-first t (bytesIn w)) (bitsIn low-first (take j block))) (sym rate) in
-      e₂ ∙ ap (spongentPermutation (spongentOf v) forward) x
+      e₂ ∙ ap (spongentPermutation (spongentOf v) Forward) x
 
 module _ (v : ℕ) (least : 6 ≤ v) (most : v ≤ 10) (bytes : List ℕ) (at : ℕ) (room : at + variant v .r / 8 ≤ length bytes) (w w₁ : List ℕ)
     (first : bytesIn w₁ ≡ set (bytesIn w) 0 (bitXor (getD (bytesIn w) 0 0) (getD bytes at 0))) where

@@ -6,7 +6,7 @@ use Prim.Native.Nat.{ℕ, zero, suc, _+_, _*_, _/_, _%_, _^_, _<_}
 use lib.Bits.{bitXor}
 use lib.ListN.{getD}
 use Rattle.standard.specs.Bits.{low-first, unpack}
-use Rattle.standard.specs.Rounds.{forward}
+use Rattle.standard.specs.declared.Direction.the-variants.{Forward}
 use Rattle.standard.specs.Grid.{tab}
 use Rattle.standard.specs.Spongent.{spongentPermutation}
 use Rattle.spongent.specs.Pairs.{pairOf}
@@ -52,4 +52,4 @@ pub record LookUps (box table : List ℕ) : Type 0 where
 
 -- the state of the variant v in one row of bytes, permuted, is that in another
 abbrev pub Permuted : ℕ → List ℕ → List ℕ → Type 0
-Permuted v before after = unpack low-first (spongentOf v .t) after ≡ spongentPermutation (spongentOf v) forward (unpack low-first (spongentOf v .t) before)
+Permuted v before after = unpack low-first (spongentOf v .t) after ≡ spongentPermutation (spongentOf v) Forward (unpack low-first (spongentOf v .t) before)

@@ -6,7 +6,7 @@ ghost use Prim.Native.Nat.{ℕ, min, _+_, _-_, _*_, _/_, _%_, _^_, _<_, _≤_};
 ghost use lib.Bits.{bitXor};
 ghost use lib.ListN.{length, getD, set, take, drop, replicate};
 ghost use Rattle.standard.specs.Bits.{low-first, bitsIn, unpack, xorInto};
-ghost use Rattle.standard.specs.Rounds.{forward};
+ghost use Rattle.standard.specs.declared.Direction.the-variants.{Forward};
 ghost use Rattle.standard.specs.Spongent.{nibbles, spongentRound, spongentPermutation};
 ghost use Rattle.standard.specs.Counters.{reversal};
 ghost use Rattle.standard.specs.Variants.{variant};
@@ -128,7 +128,7 @@ fn round(w: &mut [u64; 8], n: usize, counter: u8, reversed: u8, table: &[u64])
     requires { ⌜ reversed ≡ reversal 8 counter ⌝ }
     requires { ⌜ (length (now table) ≡ 2048) × LookUps nibbles (now table) ⌝ }
     ensures { λ _. ⌜ length (now (w .exit)) ≡ 8 ⌝ }
-    ensures { λ _. ⌜ unpack low-first (8 * n) (bytesIn (now (w .exit))) ≡ spongentRound (8 * n) forward (unpack low-first (8 * n) (bytesIn (now (w .entry)))) counter ⌝ }
+    ensures { λ _. ⌜ unpack low-first (8 * n) (bytesIn (now (w .exit))) ≡ spongentRound (8 * n) Forward (unpack low-first (8 * n) (bytesIn (now (w .entry)))) counter ⌝ }
 {
     w[0] = w[0] ^ crate::wide64(counter);
     w[(n - 1) / 8] = w[(n - 1) / 8] ^ byte_at(reversed, (n - 1) % 8);
@@ -242,7 +242,7 @@ fn with_first(w: [u64; 8], x: u8) -> [u64; 8]
 pub fn step(v: usize, w: &mut [u64; 8], bytes: &[u8], at: usize, table: &[u64])
     requires { ⌜ (6 ≤ v) × ((v ≤ 10) × (at + variant v .r / 8 ≤ length (now bytes))) ⌝ }
     requires { ⌜ (length (now table) ≡ 2048) × LookUps nibbles (now table) ⌝ }
-    ensures { λ _. ⌜ unpack low-first (spongentOf v .t) (bytesIn (now (w .exit))) ≡ spongentPermutation (spongentOf v) forward (xorInto (unpack low-first (spongentOf v .t) (bytesIn (now (w .entry)))) (bitsIn low-first (take (variant v .r / 8) (drop at (now (bytes .entry)))))) ⌝ }
+    ensures { λ _. ⌜ unpack low-first (spongentOf v .t) (bytesIn (now (w .exit))) ≡ spongentPermutation (spongentOf v) Forward (xorInto (unpack low-first (spongentOf v .t) (bytesIn (now (w .entry)))) (bitsIn low-first (take (variant v .r / 8) (drop at (now (bytes .entry)))))) ⌝ }
 {
     let mut s = with_first(*w, bytes[at]);
     if v == 6 {

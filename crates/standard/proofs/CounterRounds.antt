@@ -9,7 +9,9 @@ use native.Mathlib.Omega.{arith}
 use lib.Pow.{pow-pos}
 use lib.ListN.{length, getD}
 use Rattle.standard.specs.Bits.{digit}
-use Rattle.standard.specs.Rounds.{Direction, forward, backward, iterate}
+use Rattle.standard.specs.Rounds.{iterate}
+use Rattle.standard.specs.declared.Direction.{Direction}
+use Rattle.standard.specs.declared.Direction.the-variants.{Forward, Backward}
 use Rattle.standard.specs.Spongent.{tapped, nextCounter, counters, SpongentParameters, lCounters}
 use Rattle.standard.specs.Counters.{previousCounter, reversal, steppedCounter, steppedReversed, counterIn}
 use Rattle.standard.specs.Variants.{spongent88, spongent136, spongent176, spongent240, spongent272}
@@ -58,36 +60,36 @@ module _ (p : SpongentParameters) where
   length-lCounters = length-counters (p .width) (p .taps) (p .first) R
 
   -- the permutation begins with the first value
-  pub first-counter : 0 < R → counterIn p forward 0 ≡ p .first
+  pub first-counter : 0 < R → counterIn p Forward 0 ≡ p .first
   unfolding lCounters
   first-counter = counters-first (p .width) (p .taps) (p .first) R
 
   -- and its inverse with the last counter
-  last-first : (k : ℕ) → k < R → counterIn p backward k ≡ counterIn p forward (R - 1 - k)
+  last-first : (k : ℕ) → k < R → counterIn p Backward k ≡ counterIn p Forward (R - 1 - k)
   last-first k h = getD-reverse (lCounters p) k 0 (rw length-lCounters h) ∙ ap (λ (n : ℕ). getD (lCounters p) (n - 1 - k) 0) length-lCounters
 
 module _ (p : SpongentParameters) (z : SoundCounter p) where
   abbrev n : ℕ
   n = p .R
 
-  forward-lt : (k : ℕ) → k < n → counterIn p forward k < 2 ^ p .width
+  forward-lt : (k : ℕ) → k < n → counterIn p Forward k < 2 ^ p .width
   unfolding lCounters
   forward-lt k h = counters-lt (p .width) (p .taps) (p .first) n k (z .start) h
 
   pub counterIn-lt : (way : Direction) (k : ℕ) → k < n → counterIn p way k < 2 ^ p .width
-  counterIn-lt forward k h = forward-lt k h
-  counterIn-lt backward k h = rw (last-first p k h) (forward-lt (n - 1 - k) (omega arith))
+  counterIn-lt Forward k h = forward-lt k h
+  counterIn-lt Backward k h = rw (last-first p k h) (forward-lt (n - 1 - k) (omega arith))
 
   -- the counter of the next round is this one's, stepped
   pub counterIn-next : (way : Direction) (k : ℕ) → suc k < n → counterIn p way (suc k) ≡ steppedCounter way (p .width) (p .taps) (counterIn p way k)
   unfolding steppedCounter lCounters
-  counterIn-next forward k h = counters-next (p .width) (p .taps) (p .first) n k h
-  counterIn-next backward k h =
+  counterIn-next Forward k h = counters-next (p .width) (p .taps) (p .first) n k h
+  counterIn-next Backward k h =
       let j : ℕ = n - 1 - suc k in
       let e : n - 1 - k ≡ suc j = omega arith in
       last-first p (suc k) h
-      ∙ sym (previous-next (p .width) (p .taps) (z .taps) (counterIn p forward j) (forward-lt j (omega arith)))
-      ∙ ap (previousCounter (p .width) (p .taps)) (sym (counters-next (p .width) (p .taps) (p .first) n j (omega arith)) ∙ ap (λ (m : ℕ). counterIn p forward m) (sym e) ∙ sym (last-first p k (omega arith)))
+      ∙ sym (previous-next (p .width) (p .taps) (z .taps) (counterIn p Forward j) (forward-lt j (omega arith)))
+      ∙ ap (previousCounter (p .width) (p .taps)) (sym (counters-next (p .width) (p .taps) (p .first) n j (omega arith)) ∙ ap (λ (m : ℕ). counterIn p Forward m) (sym e) ∙ sym (last-first p k (omega arith)))
 
 -- what is f of the one before, from place to place, is f many times of the first
 steps-of : (f x : ℕ → ℕ) (n : ℕ) → ((k : ℕ) → suc k < n → x (suc k) ≡ f (x k)) → (k : ℕ) → k < n → x k ≡ iterate k f (x 0)

@@ -13,7 +13,9 @@ use lib.Arith.{digits-div, digits-mod, digits-lt, mod-mul}
 use lib.Pow.{pow-pos, pow-mono, shr-shr, shl-shr, high, low, split, shr-lt}
 use lib.ListN.{getD}
 use Rattle.standard.specs.Bits.{bit, digit, lowBits}
-use Rattle.standard.specs.Rounds.{Direction, forward, backward, opposite, iterate}
+use Rattle.standard.specs.Rounds.{opposite, iterate}
+use Rattle.standard.specs.declared.Direction.{Direction}
+use Rattle.standard.specs.declared.Direction.the-variants.{Forward, Backward}
 use Rattle.standard.specs.Spongent.{tapped, nextCounter}
 use Rattle.standard.specs.Counters.{previousCounter, reversal, mirrored, nextReversed, previousReversed, steppedCounter, steppedReversed}
 use Rattle.standard.proofs.BitLaws.{xor-false, false-xor, bit-digit, digit-bit, digit-lt, lowBits-at, xor-xor}
@@ -132,8 +134,8 @@ module _ (v m : ℕ) (taps : List ℕ) where
 -- a step leads from w bits to w bits
 pub stepped-lt : (w : ℕ) (taps : List ℕ) → 1 ≤ w → (way : Direction) (c : ℕ) → c < 2 ^ w → steppedCounter way w taps c < 2 ^ w
 unfolding steppedCounter nextCounter previousCounter
-stepped-lt w taps some forward c h = mod-lt (c * 2 + digit (tapped taps c)) {m = 2 ^ w} (pow-pos w)
-stepped-lt w taps some backward c h =
+stepped-lt w taps some Forward c h = mod-lt (c * 2 + digit (tapped taps c)) {m = 2 ^ w} (pow-pos w)
+stepped-lt w taps some Backward c h =
     let b : Bool = xor (bit (c % 2)) (tapped taps (c / 2)) in
     let width : suc (w - 1) ≡ w = omega arith in
     let e : 2 ^ w ≡ 2 * 2 ^ (w - 1) = ap (λ (n : ℕ). 2 ^ n) (sym width) ∙ pow-suc 2 (w - 1) ∙ mul-comm (2 ^ (w - 1)) 2 in
@@ -160,8 +162,8 @@ module _ (t w : ℕ) (taps : List ℕ) (some : 1 ≤ w) (fits : w ≤ t) (within
   -- either way
   pub stepped-reversed : (way : Direction) (c : ℕ) → c < 2 ^ w → steppedReversed way t w taps (reversal t c) ≡ reversal t (steppedCounter way w taps c)
   unfolding steppedReversed steppedCounter
-  stepped-reversed forward c h = next-reversed c
-  stepped-reversed backward c h = previous-reversed c h
+  stepped-reversed Forward c h = next-reversed c
+  stepped-reversed Backward c h = previous-reversed c h
 
   -- and as many times as one likes
   pub reversed-after : (way : Direction) (n c : ℕ) → c < 2 ^ w → iterate n (steppedReversed way t w taps) (reversal t c) ≡ reversal t (iterate n (steppedCounter way w taps) c)
@@ -270,8 +272,8 @@ module _ (w : ℕ) (taps : List ℕ) (z : TopTap w taps) where
   -- a step the other way leads back
   pub stepped-undo : (way : Direction) (c : ℕ) → c < 2 ^ w → steppedCounter (opposite way) w taps (steppedCounter way w taps c) ≡ c
   unfolding steppedCounter
-  stepped-undo forward c h = previous-next c h
-  stepped-undo backward c h = next-previous c h
+  stepped-undo Forward c h = previous-next c h
+  stepped-undo Backward c h = next-previous c h
 
   -- so it does for the reverse: w bits from the place t - w on
   module _ (t : ℕ) (fits : w ≤ t) where

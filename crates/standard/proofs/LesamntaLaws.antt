@@ -11,7 +11,9 @@ use lib.ListN.{length, getD, take, drop, replicate, length-append, length-map, l
 use lib.Seq.{take-at, drop-at, drop-append-add}
 use lib.Pow.{pow-mono}
 use Rattle.standard.specs.Bits.{high-first, bitsOf, valueOf, cut, xorInto}
-use Rattle.standard.specs.Rounds.{Direction, forward, backward, opposite, rounds}
+use Rattle.standard.specs.Rounds.{opposite, rounds}
+use Rattle.standard.specs.declared.Direction.{Direction}
+use Rattle.standard.specs.declared.Direction.the-variants.{Forward, Backward}
 use Rattle.standard.specs.Lesamnta.{fourWords, bitsOfWords, feistel, mixing, roundKeys, cipherConstants, cipher, lesamntaStart, lesamntaStep, lesamntaPadding, wordOf, bytesR, wordQ, wordG, bytesOf}
 use Rattle.standard.specs.Promises.{CipherUndo}
 use Rattle.standard.proofs.Xor.{xor-twice}
@@ -36,8 +38,8 @@ of-four P p x e = subst P (tab-self 4 x 0 e) (p (getD x 0 0) (getD x 1 0) (getD 
 -- any round is undone by that round taken back, and the other way round, whatever its inner function
 pub feistel-undo : (f : ℕ → ℕ) (w : Direction) (x : List ℕ) → length x ≡ 4 → feistel f (opposite w) (feistel f w x) ≡ x
 unfolding feistel
-feistel-undo f forward = of-four (λ x. feistel f backward (feistel f forward x) ≡ x) (λ a b c d. ap (λ (n : ℕ). a ∷ b ∷ c ∷ n ∷ []) (xor-twice d (f c)))
-feistel-undo f backward = of-four (λ x. feistel f forward (feistel f backward x) ≡ x) (λ a b c d. ap (λ (n : ℕ). n ∷ b ∷ c ∷ d ∷ []) (xor-twice a (f d)))
+feistel-undo f Forward = of-four (λ x. feistel f Backward (feistel f Forward x) ≡ x) (λ a b c d. ap (λ (n : ℕ). a ∷ b ∷ c ∷ n ∷ []) (xor-twice d (f c)))
+feistel-undo f Backward = of-four (λ x. feistel f Forward (feistel f Backward x) ≡ x) (λ a b c d. ap (λ (n : ℕ). n ∷ b ∷ c ∷ d ∷ []) (xor-twice a (f d)))
 
 -- words of w bits stay words of w bits, where the inner function gives such
 pub feistel-keeps : (f : ℕ → ℕ) (bits : ℕ) → ((y : ℕ) → f y < 2 ^ bits) → (w : Direction) (x : List ℕ) → Four bits x → Four bits (feistel f w x)
@@ -47,8 +49,8 @@ feistel-keeps f bits small w x h =
     go w (at 0 (omega arith)) (at 1 (omega arith)) (at 2 (omega arith)) (at 3 (omega arith))
   where
     go : (d : Direction) → getD x 0 0 < 2 ^ bits → getD x 1 0 < 2 ^ bits → getD x 2 0 < 2 ^ bits → getD x 3 0 < 2 ^ bits → Four bits (feistel f d x)
-    go forward a b c d = record { count = refl; below = (xor-lt bits (getD x 3 0) (f (getD x 2 0)) d (small (getD x 2 0)), (a, (b, (c, tt)))) }
-    go backward a b c d = record { count = refl; below = (b, (c, (d, (xor-lt bits (getD x 0 0) (f (getD x 3 0)) a (small (getD x 3 0)), tt)))) }
+    go Forward a b c d = record { count = refl; below = (xor-lt bits (getD x 3 0) (f (getD x 2 0)) d (small (getD x 2 0)), (a, (b, (c, tt)))) }
+    go Backward a b c d = record { count = refl; below = (b, (c, (d, (xor-lt bits (getD x 0 0) (f (getD x 3 0)) a (small (getD x 3 0)), tt)))) }
 
 -- ---- words and bits
 
@@ -149,14 +151,14 @@ module _ (s : List Bool) (ls : length s ≡ 256) where
   joined-length b lb = length-append b (drop 128 s) ∙ omega (arith, length-drop 128 s)
 
   -- the block and the half that the step takes in are what the inverse of the cipher gives
-  pub step-back : (b : List Bool) → length b ≡ 128 → cipher backward (take 128 s) (lesamntaStep s b) ≡ b ++ drop 128 s
+  pub step-back : (b : List Bool) → length b ≡ 128 → cipher Backward (take 128 s) (lesamntaStep s b) ≡ b ++ drop 128 s
   unfolding lesamntaStep
-  step-back b lb = cipher-undo forward (take 128 s) (b ++ drop 128 s) (joined-length b lb)
+  step-back b lb = cipher-undo Forward (take 128 s) (b ++ drop 128 s) (joined-length b lb)
 
   -- From one chaining value, two different blocks never lead to one next value.
   pub step-tells : (a b : List Bool) → length a ≡ 128 → length b ≡ 128 → lesamntaStep s a ≡ lesamntaStep s b → a ≡ b
   step-tells a b la lb e =
-      let same : a ++ drop 128 s ≡ b ++ drop 128 s = sym (step-back a la) ∙ ap (cipher backward (take 128 s)) e ∙ step-back b lb in
+      let same : a ++ drop 128 s ≡ b ++ drop 128 s = sym (step-back a la) ∙ ap (cipher Backward (take 128 s)) e ∙ step-back b lb in
       sym (take-at a (drop 128 s) 128 la) ∙ ap (take 128) same ∙ take-at b (drop 128 s) 128 lb
 
 zeros-xor : (s : List Bool) (n : ℕ) → length s ≡ n → xorInto (replicate n false) s ≡ s
@@ -179,23 +181,23 @@ module _ (s e : List Bool) (ls : length s ≡ 256) (le : length e ≡ 256) (b : 
   abbrev behind : List Bool
   behind = replicate 128 false ++ drop 128 s
 
-  pub step-found : lesamntaStep s b ≡ e → xorInto (cipher backward (take 128 s) e) behind ≡ b ++ replicate 128 false
+  pub step-found : lesamntaStep s b ≡ e → xorInto (cipher Backward (take 128 s) e) behind ≡ b ++ replicate 128 false
   step-found f =
       let same : xorInto half half ≡ replicate (length half - 0) false = difference-of half [] half (omega arith) (xorInto-nil half) in
-      ap (λ (x : List Bool). xorInto x behind) (ap (cipher backward (take 128 s)) (sym f) ∙ step-back s ls b lb)
+      ap (λ (x : List Bool). xorInto x behind) (ap (cipher Backward (take 128 s)) (sym f) ∙ step-back s ls b lb)
       ∙ xorInto-append b half (replicate 128 false) half (lb ∙ sym (length-replicate 128 false))
       ∙ ap₂ (λ (x y : List Bool). x ++ y) (xorInto-zeros b 128) (same ∙ ap (λ (n : ℕ). replicate (n - 0) false) half-long)
 
-  pub step-finds : xorInto (cipher backward (take 128 s) e) behind ≡ b ++ replicate 128 false → lesamntaStep s b ≡ e
+  pub step-finds : xorInto (cipher Backward (take 128 s) e) behind ≡ b ++ replicate 128 false → lesamntaStep s b ≡ e
   unfolding lesamntaStep
   step-finds f =
-      let x : List Bool = cipher backward (take 128 s) e in
+      let x : List Bool = cipher Backward (take 128 s) e in
       let taken : x ≡ b ++ half =
       sym (xorInto-twice x behind)
       ∙ ap (λ (y : List Bool). xorInto y behind) f
       ∙ xorInto-append b (replicate 128 false) (replicate 128 false) half (lb ∙ sym (length-replicate 128 false))
       ∙ ap₂ (λ (y z : List Bool). y ++ z) (xorInto-zeros b 128) (zeros-xor half 128 half-long) in
-      ap (cipher forward (take 128 s)) (sym taken) ∙ cipher-undo backward (take 128 s) e le
+      ap (cipher Forward (take 128 s)) (sym taken) ∙ cipher-undo Backward (take 128 s) e le
 
 pub start-length : length lesamntaStart ≡ 256
 unfolding lesamntaStart
@@ -203,7 +205,7 @@ start-length = bits-length 32 (replicate 8 0x256)
 
 pub step-length : (s b : List Bool) → length (lesamntaStep s b) ≡ 256
 unfolding lesamntaStep
-step-length s b = cipher-length forward (take 128 s) (b ++ drop 128 s)
+step-length s b = cipher-length Forward (take 128 s) (b ++ drop 128 s)
 
 -- ---- padding
 

@@ -10,7 +10,8 @@ use lib.Pow.{pow-mono}
 use lib.ListN.{length, getD, take, drop, length-map, length-take}
 use lib.Seq.{drop-drop}
 use Rattle.standard.specs.Bits.{high-first, bitsOf, valueOf, cut}
-use Rattle.standard.specs.Rounds.{Direction, opposite}
+use Rattle.standard.specs.Rounds.{opposite}
+use Rattle.standard.specs.declared.Direction.{Direction}
 use Rattle.standard.specs.Grid.{Grid, at}
 use Rattle.standard.specs.ForCode.{Square, Small}
 use Rattle.standard.specs.Photon.{PhotonParameters, matrixOf, bitsOfMatrix, photonRounds, photonPermutation}

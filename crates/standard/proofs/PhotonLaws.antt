@@ -8,7 +8,9 @@ use native.Mathlib.Omega.{arith}
 use lib.Bits.{bitXor, xor-lt}
 use lib.ListN.{getD}
 use lib.Pow.{pow-mono}
-use Rattle.standard.specs.Rounds.{Direction, forward, backward, opposite}
+use Rattle.standard.specs.Rounds.{opposite}
+use Rattle.standard.specs.declared.Direction.{Direction}
+use Rattle.standard.specs.declared.Direction.the-variants.{Forward, Backward}
 use Rattle.standard.specs.Grid.{Grid, at, grid}
 use Rattle.standard.specs.ForCode.{window, Square, Small}
 use Rattle.standard.specs.Photon.{inFirst, addConstants, subCells, shiftRows, PhotonParameters, photonRound, photonRounds, roundConstants}
@@ -22,16 +24,16 @@ use Rattle.standard.proofs.SerialLaws.{Undoes, mixing, Cells, mixing-ce
 
 -- what each direction takes
 abbrev pub boxFor : PhotonParameters → Direction → List ℕ
-boxFor p forward = p .box
-boxFor p backward = p .unbox
+boxFor p Forward = p .box
+boxFor p Backward = p .unbox
 
 abbrev pub turnFor : PhotonParameters → Direction → ℕ
-turnFor p forward = 1
-turnFor p backward = p .d - 1
+turnFor p Forward = 1
+turnFor p Backward = p .d - 1
 
 abbrev pub coefficientsFor : PhotonParameters → Direction → List ℕ
-coefficientsFor p forward = p .z
-coefficientsFor p backward = p .unz
+coefficientsFor p Forward = p .z
+coefficientsFor p Backward = p .unz
 
 -- What the laws ask of the parameters. The square may have any size, and a cell any width from four bits on, since a round constant has four.
 pub record Sound (p : PhotonParameters) : Type 0 where
@@ -114,8 +116,8 @@ module _ (p : PhotonParameters) (h : Sound p) where
       (λ i j hi hj. rw (at-grid (p .d) (λ a b. getD (boxFor p w) (at g a b) 0) i j hi hj) (h .boxes w .back (at g i j) (k .small .cell i j hi hj)))
 
   turns : (w : Direction) → turnFor p w + turnFor p (opposite w) ≡ p .d
-  turns forward = omega (arith, h .pos)
-  turns backward = omega (arith, h .pos)
+  turns Forward = omega (arith, h .pos)
+  turns Backward = omega (arith, h .pos)
 
   pub shift-back : (w : Direction) (g : Grid) → State p g → shiftRows (p .d) (turnFor p (opposite w)) (shiftRows (p .d) (turnFor p w) g) ≡ g
   unfolding shiftRows
@@ -132,20 +134,20 @@ module _ (p : PhotonParameters) (h : Sound p) where
 
   pub round-state : (w : Direction) (g : Grid) (rc : ℕ) → State p g → rc < 2 ^ p .s → State p (photonRound p w g rc)
   unfolding photonRound
-  round-state forward g rc k hr = mix-state forward _ (shift-state 1 _ (sub-state forward _ (add-state rc hr g k)))
-  round-state backward g rc k hr = add-state rc hr _ (sub-state backward _ (shift-state (p .d - 1) _ (mix-state backward g k)))
+  round-state Forward g rc k hr = mix-state Forward _ (shift-state 1 _ (sub-state Forward _ (add-state rc hr g k)))
+  round-state Backward g rc k hr = add-state rc hr _ (sub-state Backward _ (shift-state (p .d - 1) _ (mix-state Backward g k)))
 
   pub round-undo : (w : Direction) (g : Grid) (rc : ℕ) → State p g → rc < 2 ^ p .s → photonRound p (opposite w) (photonRound p w g rc) rc ≡ g
   unfolding photonRound
-  round-undo forward g rc k hr =
+  round-undo Forward g rc k hr =
       let ka : State p (addConstants (p .d) rc (p .ic) g) = add-state rc hr g k in
-      let kb : State p (subCells (p .d) (p .box) (addConstants (p .d) rc (p .ic) g)) = sub-state forward _ ka in
-      rw (mix-back forward _ (shift-state 1 _ kb), shift-back forward _ kb, sub-back forward _ ka) (add-add (p .d) rc (p .ic) g (k .square))
-  round-undo backward g rc k hr =
-      let ka : State p (mix backward g) = mix-state backward g k in
-      let kb : State p (shiftRows (p .d) (p .d - 1) (mix backward g)) = shift-state (p .d - 1) _ ka in
-      let kc = sub-state backward _ kb in
-      rw (add-add (p .d) rc (p .ic) _ (kc .square), sub-back backward _ kb, shift-back backward _ ka) (mix-back backward g k)
+      let kb : State p (subCells (p .d) (p .box) (addConstants (p .d) rc (p .ic) g)) = sub-state Forward _ ka in
+      rw (mix-back Forward _ (shift-state 1 _ kb), shift-back Forward _ kb, sub-back Forward _ ka) (add-add (p .d) rc (p .ic) g (k .square))
+  round-undo Backward g rc k hr =
+      let ka : State p (mix Backward g) = mix-state Backward g k in
+      let kb : State p (shiftRows (p .d) (p .d - 1) (mix Backward g)) = shift-state (p .d - 1) _ ka in
+      let kc = sub-state Backward _ kb in
+      rw (add-add (p .d) rc (p .ic) _ (kc .square), sub-back Backward _ kb, shift-back Backward _ ka) (mix-back Backward g k)
 
   constants-small : All (λ c. c < 2 ^ p .s) roundConstants
   constants-small =

@@ -6,7 +6,9 @@ use mathlib.Core.List.{List, [], _∷_, reverse}
 use Prim.Native.Nat.{ℕ, suc, _*_, _^_}
 use lib.Dec.{T, leb, ltb, eqb, leb→le, ltb→lt, eqb→eq}
 use lib.ListN.{length, getD}
-use Rattle.standard.specs.Rounds.{Direction, forward, backward, opposite}
+use Rattle.standard.specs.Rounds.{opposite}
+use Rattle.standard.specs.declared.Direction.{Direction}
+use Rattle.standard.specs.declared.Direction.the-variants.{Forward, Backward}
 use Rattle.standard.specs.Field.{double, times, mul}
 use Rattle.standard.specs.Photon.{PhotonParameters, aes}
 use Rattle.standard.specs.Backward.{unaes}
@@ -70,9 +72,9 @@ tests p =
     ∷ every (tableTests (2 ^ p .s) (p .box) (p .unbox)) ∷ every (tableTests (2 ^ p .s) (p .unbox) (p .box))
     ∷ every (undoTests (p .d) (2 ^ p .s) (p .poly) (p .z) (p .unz)) ∷ every (undoTests (p .d) (2 ^ p .s) (p .poly) (p .unz) (p .z)) ∷ []
 
-both : (P : Direction → Type 0) → P forward → P backward → (w : Direction) → P w
-both P a b forward = a
-both P a b backward = b
+both : (P : Direction → Type 0) → P Forward → P Backward → (w : Direction) → P w
+both P a b Forward = a
+both P a b Backward = b
 
 sound-of : (p : PhotonParameters) → T (every (tests p)) → Sound p
 sound-of p t =

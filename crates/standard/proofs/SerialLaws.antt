@@ -6,7 +6,9 @@ use Prim.Native.Nat.{ℕ, zero, suc, _-_, _*_, _^_, _≤_, _<_}
 use native.Mathlib.Nat.{suc-inj}
 use native.Mathlib.Omega.{arith}
 use lib.ListN.{length, getD, length-append, length-reverse, length-map}
-use Rattle.standard.specs.Rounds.{Direction, forward, backward, opposite, iterate}
+use Rattle.standard.specs.Rounds.{opposite, iterate}
+use Rattle.standard.specs.declared.Direction.{Direction}
+use Rattle.standard.specs.declared.Direction.the-variants.{Forward, Backward}
 use Rattle.standard.specs.Grid.{Grid, tab, at, transpose}
 use Rattle.standard.specs.ForCode.{Square, Small}
 use Rattle.standard.specs.Field.{mul, dot}
@@ -163,30 +165,30 @@ module _ (d top : ℕ) (f : List ℕ → List ℕ) (keeps : (c : List ℕ) → C
 
 -- the step of a round in either direction, and what it does d times to a column
 abbrev pub mixing : ℕ → ℕ → ℕ → Direction → List ℕ → Grid → Grid
-mixing top poly d forward z g = mixColumns top poly d z g
-mixing top poly d backward z g = unmixColumns top poly d z g
+mixing top poly d Forward z g = mixColumns top poly d z g
+mixing top poly d Backward z g = unmixColumns top poly d z g
 
 abbrev step : ℕ → ℕ → Direction → List ℕ → List ℕ → List ℕ
-step top poly forward z = serial top poly z
-step top poly backward z = upward (serial top poly z)
+step top poly Forward z = serial top poly z
+step top poly Backward z = upward (serial top poly z)
 
 module _ (d s poly : ℕ) (low : 2 ^ s ≤ poly) (high : poly < 2 ^ s * 2) (pos : 0 < d) where
   step-column : (w : Direction) (z c : List ℕ) → Column d (2 ^ s) c → Column d (2 ^ s) (step (2 ^ s) poly w z c)
-  step-column forward z = serial-column d s poly low high z pos
-  step-column backward z = upward-column d s poly low high (serial (2 ^ s) poly z) (serial-column d s poly low high z pos)
+  step-column Forward z = serial-column d s poly low high z pos
+  step-column Backward z = upward-column d s poly low high (serial (2 ^ s) poly z) (serial-column d s poly low high z pos)
 
   step-undo : (w : Direction) (z unz : List ℕ) → Undoes d (2 ^ s) poly z unz
       → (c : List ℕ) → Column d (2 ^ s) c → step (2 ^ s) poly (opposite w) unz (step (2 ^ s) poly w z c) ≡ c
-  step-undo forward z unz u = upward-serial d s poly low high z unz u
-  step-undo backward z unz u = serial-upward d s poly low high z unz u
+  step-undo Forward z unz u = upward-serial d s poly low high z unz u
+  step-undo Backward z unz u = serial-upward d s poly low high z unz u
 
   mixing-is : (w : Direction) (z : List ℕ) (g : Grid) → Cells d (2 ^ s) g
       → mixing (2 ^ s) poly d w z g ≡ columns d (iterate d (step (2 ^ s) poly w z)) g
   unfolding mixColumns unmixColumns columns
-  mixing-is forward z g k = refl
-  mixing-is backward z g k =
+  mixing-is Forward z g k = refl
+  mixing-is Backward z g k =
       let f : List ℕ → List ℕ = iterate d (serial (2 ^ s) poly z) in
-      rw (columns-reverse d (2 ^ s) f (iterate-keeps (Column d (2 ^ s)) (serial (2 ^ s) poly z) (step-column forward z) d) g k)
+      rw (columns-reverse d (2 ^ s) f (iterate-keeps (Column d (2 ^ s)) (serial (2 ^ s) poly z) (step-column Forward z) d) g k)
       (ap (transpose d) (map-cong (upward f) _ (upward-iterate d (serial (2 ^ s) poly z)) (transpose d g)))
 
   module _ (w : Direction) (z : List ℕ) (g : Grid) (k : Cells d (2 ^ s) g) where

@@ -8,7 +8,9 @@ use native.Mathlib.Nat.{not-suc-le-zero, le-of-suc-le-suc, suc-inj, suc-ne-zero,
 use native.Mathlib.Omega.{arith}
 use lib.ListN.{length, replicate, length-replicate}
 use Rattle.standard.specs.Bits.{Order, turned, xorInto}
-use Rattle.standard.specs.Rounds.{Direction, forward, opposite}
+use Rattle.standard.specs.Rounds.{opposite}
+use Rattle.standard.specs.declared.Direction.{Direction}
+use Rattle.standard.specs.declared.Direction.the-variants.{Forward}
 use Rattle.standard.specs.Sponge.{permutation, spongePadding, spongeStep}
 use Rattle.standard.specs.Families.{Permutation, Family, sponge, Variant, bitOrder, orderOf, order}
 use Rattle.standard.specs.Chain.{startState, paddingOf, padding, padded, blocksOf, blockCount, stepOf, step}
@@ -91,13 +93,13 @@ module _ (H : Variant) (h : IsSponge H) where
 
   pub step-length : (s b : List Bool) → length s ≡ H .t → length (step H s b) ≡ H .t
   unfolding spongeStep
-  step-length s b ls = rw (step-sponge H h) (h .keeps forward _ (taken-length s _ ls))
+  step-length s b ls = rw (step-sponge H h) (h .keeps Forward _ (taken-length s _ ls))
 
   -- the step loses nothing of the state
   pub step-state : (b s u : List Bool) → length s ≡ H .t → length u ≡ H .t → step H s b ≡ step H u b → s ≡ u
   unfolding spongeStep
   step-state b s u ls lu e =
-      state-injective _ s u (permutation-injective forward _ _ (taken-length s _ ls) (taken-length u _ lu) (rw (step-sponge H h s b, step-sponge H h u b) at e))
+      state-injective _ s u (permutation-injective Forward _ _ (taken-length s _ ls) (taken-length u _ lu) (rw (step-sponge H h s b, step-sponge H h u b) at e))
 
   -- nor of the block
   pub step-block : (s a b : List Bool) → length s ≡ H .t → length a ≡ H .r → length b ≡ H .r → step H s a ≡ step H s b → a ≡ b
@@ -108,7 +110,7 @@ module _ (H : Variant) (h : IsSponge H) where
       let ly : length (turned o b) ≡ H .r = length-turned o b ∙ lb in
       turned-injective o a b
       (block-injective s (turned o a) (turned o b) (lx ∙ sym ly) (omega (arith, h .fits))
-      (permutation-injective forward _ _ (taken-length s (turned o a) ls) (taken-length s (turned o b) ls) (rw (step-sponge H h s a, step-sponge H h s b) at e)))
+      (permutation-injective Forward _ _ (taken-length s (turned o a) ls) (taken-length s (turned o b) ls) (rw (step-sponge H h s a, step-sponge H h s b) at e)))
 
   -- ---- padding
 

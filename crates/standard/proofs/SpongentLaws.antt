@@ -11,7 +11,9 @@ use lib.ListN.{length, getD, length-set, length-append, length-replicate}
 use lib.Seq.{getD-set-same, getD-set-other, ext-getD}
 use borrow.Author.Tests.{eq-eqb, ne-eqb}
 use Rattle.standard.specs.Bits.{low-first, high-first, lowBits, lowValue, bitsOf, cut, xorInto}
-use Rattle.standard.specs.Rounds.{Direction, forward, backward, opposite}
+use Rattle.standard.specs.Rounds.{opposite}
+use Rattle.standard.specs.declared.Direction.{Direction}
+use Rattle.standard.specs.declared.Direction.the-variants.{Forward, Backward}
 use Rattle.standard.specs.Spongent.{cAddition, nibbles, sBoxLayer, goesTo, placed, pLayer, spongentRound, SpongentParameters, lCounters, spongentPermutation}
 use Rattle.standard.specs.Backward.{unnibbles}
 use Rattle.standard.proofs.BitLaws.{length-lowBits, length-xorInto, xorInto-twice, lowValue-lowBits, lowBits-lowValue, lowValue-lt, xor-false}
@@ -218,15 +220,15 @@ module _ (t : ℕ) (h : t % 4 ≡ 0) where
 
   pub length-spongentRound : (w : Direction) (s : List Bool) (c : ℕ) → length (spongentRound t w s c) ≡ t
   unfolding spongentRound
-  length-spongentRound forward s c = length-pLayer t (t / 4) _
-  length-spongentRound backward s c = length-cAddition t c _ ∙ length-replaced unnibbles (pLayer t 4 s) (length-pLayer t 4 s)
+  length-spongentRound Forward s c = length-pLayer t (t / 4) _
+  length-spongentRound Backward s c = length-cAddition t c _ ∙ length-replaced unnibbles (pLayer t 4 s) (length-pLayer t 4 s)
 
   pub spongentRound-undo : (w : Direction) (s : List Bool) (c : ℕ) → length s ≡ t → spongentRound t (opposite w) (spongentRound t w s c) c ≡ s
   unfolding spongentRound
-  spongentRound-undo forward s c e =
+  spongentRound-undo Forward s c e =
       let l : length (cAddition t c s) ≡ t = length-cAddition t c s ∙ e in
       rw (pLayer-undo t (t / 4) 4 quarter (sBoxLayer nibbles (cAddition t c s)) (length-replaced nibbles (cAddition t c s) l), sBoxLayer-undo nibbles unnibbles nibbles-back (cAddition t c s) (nibbles-whole (cAddition t c s) l), cAddition-twice)
-  spongentRound-undo backward s c e =
+  spongentRound-undo Backward s c e =
       rw (cAddition-twice, sBoxLayer-undo unnibbles nibbles unnibbles-back (pLayer t 4 s) (nibbles-whole (pLayer t 4 s) (length-pLayer t 4 s)))
       (pLayer-undo t 4 (t / 4) (mul-comm 4 (t / 4) ∙ quarter) s e)
 

@@ -5,7 +5,9 @@ use mathlib.Core.List.{List, [], _∷_, _++_, map, foldl, foldl-append, reverse,
 use Prim.Native.Nat.{ℕ, zero, suc, _<_, suc-le-suc}
 use native.Mathlib.Nat.{not-suc-le-zero, le-of-suc-le-suc, zero-lt-suc}
 use lib.ListN.{length, getD}
-use Rattle.standard.specs.Rounds.{Direction, forward, backward, opposite, inTurn, rounds, iterate}
+use Rattle.standard.specs.Rounds.{opposite, inTurn, rounds, iterate}
+use Rattle.standard.specs.declared.Direction.{Direction}
+use Rattle.standard.specs.declared.Direction.the-variants.{Forward, Backward}
 
 module _ {A : Type 0} (P : A → Type 0) where
   abbrev pub All : List A → Type 0
@@ -68,8 +70,8 @@ module _ {A : Type 0} where
         rw (reverse-cons c cs, foldl-append, foldl-undo w cs (q .1) (f w x c) (keeps w x c p (q .0))) (undo w x c p (q .0))
 
     all-inTurn : (w : Direction) (cs : List ℕ) → All Q cs → All Q (inTurn w cs)
-    all-inTurn forward cs q = q
-    all-inTurn backward cs q = all-reverse Q cs q
+    all-inTurn Forward cs q = q
+    all-inTurn Backward cs q = all-reverse Q cs q
 
     pub rounds-keep : (w : Direction) (cs : List ℕ) → All Q cs → (x : A) → P x → P (rounds f w cs x)
     unfolding rounds
@@ -77,8 +79,8 @@ module _ {A : Type 0} where
 
     -- the opposite direction uses the constants in the reverse order
     inTurn-opposite : (w : Direction) (cs : List ℕ) → inTurn (opposite w) cs ≡ reverse (inTurn w cs)
-    inTurn-opposite forward cs = refl
-    inTurn-opposite backward cs = sym (reverse-reverse cs)
+    inTurn-opposite Forward cs = refl
+    inTurn-opposite Backward cs = sym (reverse-reverse cs)
 
     pub rounds-undo : (w : Direction) (cs : List ℕ) → All Q cs → (x : A) → P x → rounds f (opposite w) cs (rounds f w cs x) ≡ x
     unfolding rounds

@@ -12,7 +12,9 @@ use lib.ListN.{length, take, List·getD-eq-default, length-append, length-replic
 use lib.Seq.{getD-take}
 use borrow.Author.Tests.{ltb-true, lt-ltb, le-leb, lt-leb}
 use Rattle.standard.specs.Bits.{high-first, turned}
-use Rattle.standard.specs.Rounds.{Direction, forward, opposite}
+use Rattle.standard.specs.Rounds.{opposite}
+use Rattle.standard.specs.declared.Direction.{Direction}
+use Rattle.standard.specs.declared.Direction.the-variants.{Forward}
 use Rattle.standard.specs.Sponge.{permutation, outputCount, outputBlocks, squeezed}
 use Rattle.standard.specs.Families.{Permutation, photon, spongent, Family, sponge, lesamnta, Variant, spongeOf, isSponge, bitOrder, order, imageSize}
 use Rattle.standard.specs.Chain.{startOf, startState, padding, padded, blocksOf, blockCount, step, givenOut}
@@ -242,7 +244,7 @@ lesamnta-block s a b ls la lb e = lw.step-tells s ls a b la lb e
 pub given-outputs : (v : ℕ) (q : isSponge (variant v) ≡ true) (s : List Bool) → length s ≡ variant v .t
     → givenOut (variant v .family) (variant v) s
     ≡ flatMap (turned (order (variant v)))
-    (outputs (permutation (is-sponge v q .inner) forward) (outputBits (variant v)) (variant v .n) (outputCount (outputBits (variant v)) (variant v .n)) s)
+    (outputs (permutation (is-sponge v q .inner) Forward) (outputBits (variant v)) (variant v .n) (outputCount (outputBits (variant v)) (variant v .n)) s)
 unfolding squeezed outputBlocks
 given-outputs v q s l =
     let H : Variant = variant v in
@@ -253,7 +255,7 @@ given-outputs v q s l =
     let whole : (high-first ≡ order H) ⊎ (outputBits H % 8 ≡ 0) = ⊎-elim inl (λ (w : WholeBytes H). inr (w .output)) (layouts v k) in
     ap (λ (f : Family). givenOut f H s) (h .family-is)
     ∙ rw (← rate, ← order-is)
-    (outputs-are (order H) (permutation (h .inner) forward) (outputBits H) (H .t) (rates v q .fits) (h .keeps forward) whole
+    (outputs-are (order H) (permutation (h .inner) Forward) (outputBits H) (H .t) (rates v q .fits) (h .keeps Forward) whole
     (outputCount (outputBits H) (H .n)) (H .n) s l (inr (bounds v k .digest-whole)))
 
 -- n bits give n / 128, rounded up, and one block more of Lesamnta-LW

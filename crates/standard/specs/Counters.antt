@@ -5,7 +5,9 @@ use mathlib.Core.List.{List, map}
 use Prim.Native.Nat.{ℕ, _+_, _-_, _*_, _/_, _%_, _^_}
 use lib.ListN.{getD}
 use Rattle.standard.specs.Bits.{high-first, bit, digit, lowValue, bitsOf}
-use Rattle.standard.specs.Rounds.{Direction, forward, backward, inTurn}
+use Rattle.standard.specs.Rounds.{inTurn}
+use Rattle.standard.specs.declared.Direction.{Direction}
+use Rattle.standard.specs.declared.Direction.the-variants.{Forward, Backward}
 use Rattle.standard.specs.Spongent.{tapped, nextCounter, SpongentParameters, lCounters}
 
 -- the counter of the round k, from 0 on, of the permutation or of its inverse
@@ -37,9 +39,9 @@ previousReversed t w taps d =
 
 -- from one round to the next, of the permutation or of its inverse
 unfoldable pub steppedCounter : Direction → ℕ → List ℕ → ℕ → ℕ
-steppedCounter forward w taps c = nextCounter w taps c
-steppedCounter backward w taps c = previousCounter w taps c
+steppedCounter Forward w taps c = nextCounter w taps c
+steppedCounter Backward w taps c = previousCounter w taps c
 
 unfoldable pub steppedReversed : Direction → ℕ → ℕ → List ℕ → ℕ → ℕ
-steppedReversed forward t w taps d = nextReversed t w taps d
-steppedReversed backward t w taps d = previousReversed t w taps d
+steppedReversed Forward t w taps d = nextReversed t w taps d
+steppedReversed Backward t w taps d = previousReversed t w taps d

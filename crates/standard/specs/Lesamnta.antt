@@ -8,7 +8,9 @@ use lib.Bits.{bitXor}
 use lib.Dec.{eqb}
 use lib.ListN.{getD, take, drop, replicate}
 use Rattle.standard.specs.Bits.{high-first, bitsOf, valueOf, cut}
-use Rattle.standard.specs.Rounds.{Direction, forward, backward, rounds, iterate}
+use Rattle.standard.specs.Rounds.{rounds, iterate}
+use Rattle.standard.specs.declared.Direction.{Direction}
+use Rattle.standard.specs.declared.Direction.the-variants.{Forward, Backward}
 use Rattle.standard.specs.Grid.{tab}
 use Rattle.standard.specs.Field.{dot}
 use Rattle.standard.specs.Photon.{aes}
@@ -35,8 +37,8 @@ bitsOfWords w xs = flatMap (bitsOf high-first w) xs
 
 -- 6.2.5.1: one round of a type-1 generalised Feistel network of four branches, with any inner function f, or that round taken back
 unfoldable pub feistel : (ℕ → ℕ) → Direction → List ℕ → List ℕ
-feistel f forward x = bitXor (getD x 3 0) (f (getD x 2 0)) ∷ getD x 0 0 ∷ getD x 1 0 ∷ getD x 2 0 ∷ []
-feistel f backward x = getD x 1 0 ∷ getD x 2 0 ∷ getD x 3 0 ∷ bitXor (getD x 0 0) (f (getD x 3 0)) ∷ []
+feistel f Forward x = bitXor (getD x 3 0) (f (getD x 2 0)) ∷ getD x 0 0 ∷ getD x 1 0 ∷ getD x 2 0 ∷ []
+feistel f Backward x = getD x 1 0 ∷ getD x 2 0 ∷ getD x 3 0 ∷ bitXor (getD x 0 0) (f (getD x 3 0)) ∷ []
 
 -- 6.2.5.2 SubBytes: the AES S-box on each byte
 unfoldable pub subBytes : List ℕ → List ℕ
@@ -74,7 +76,7 @@ mixing w x k = feistel (λ y. wordG y k) w x
 
 -- 6.2.5.3.1: the key state after a round with its constant
 unfoldable pub scheduled : List ℕ → ℕ → List ℕ
-scheduled k c = feistel (λ y. wordQ (bitXor c y)) forward k
+scheduled k c = feistel (λ y. wordQ (bitXor c y)) Forward k
 
 -- 6.2.5.3.1: the round keys, one for each constant: k_0 of each key state
 unfoldable pub roundKeys : List ℕ → List ℕ → List ℕ
@@ -106,7 +108,7 @@ lesamntaStart = bitsOfWords 32 (replicate 8 0x256)
 
 -- 6.2.4: h(H, M) = E_{H_0}(M || H_1), where H_0 and H_1 are the halves of H
 unfoldable pub lesamntaStep : List Bool → List Bool → List Bool
-lesamntaStep s b = cipher forward (take 128 s) (b ++ drop 128 s)
+lesamntaStep s b = cipher Forward (take 128 s) (b ++ drop 128 s)
 
 -- 6.2.2: what is added to a message of n bits: a 1 bit, k + 63 zeros, k the fewest that fill a block of 128, and n in 64 bits
 unfoldable pub lesamntaPadding : ℕ → List Bool

@@ -6,7 +6,9 @@ use mathlib.Core.List.{List, [], _∷_, _++_, map, tail, reverse, flatMap}
 use lib.ListN.{getD}
 use lib.Bits.{bitXor}
 use Rattle.standard.specs.Bits.{high-first, bitsOf, valueOf, cut}
-use Rattle.standard.specs.Rounds.{Direction, forward, backward, rounds, iterate}
+use Rattle.standard.specs.Rounds.{rounds, iterate}
+use Rattle.standard.specs.declared.Direction.{Direction}
+use Rattle.standard.specs.declared.Direction.the-variants.{Forward, Backward}
 use Rattle.standard.specs.Grid.{Grid, at, grid, transpose}
 use Rattle.standard.specs.Field.{dot}
 
@@ -56,10 +58,10 @@ pub record PhotonParameters : Type 0 where
 
 -- 5.2.4.1: one round with its round constant, or that round taken back
 unfoldable pub photonRound : PhotonParameters → Direction → Grid → ℕ → Grid
-photonRound p forward g rc =
+photonRound p Forward g rc =
     mixColumns (2 ^ p .s) (p .poly) (p .d) (p .z)
     (shiftRows (p .d) 1 (subCells (p .d) (p .box) (addConstants (p .d) rc (p .ic) g)))
-photonRound p backward g rc =
+photonRound p Backward g rc =
     addConstants (p .d) rc (p .ic)
     (subCells (p .d) (p .unbox) (shiftRows (p .d) (p .d - 1) (unmixColumns (2 ^ p .s) (p .poly) (p .d) (p .unz) g)))
 

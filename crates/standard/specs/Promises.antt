@@ -5,7 +5,8 @@ use mathlib.Core.Bool.{Bool, true}
 use mathlib.Core.List.{List, [], _∷_, map, tail}
 use Prim.Native.Nat.{ℕ, _*_, _%_, _≤_, _<_}
 use lib.ListN.{length, take, getD}
-use Rattle.standard.specs.Rounds.{Direction, opposite, iterate}
+use Rattle.standard.specs.Rounds.{opposite, iterate}
+use Rattle.standard.specs.declared.Direction.{Direction}
 use Rattle.standard.specs.Spongent.{SpongentParameters}
 use Rattle.standard.specs.Counters.{counterIn, reversal, steppedCounter, steppedReversed}
 use Rattle.standard.specs.Lesamnta.{cipher}

@@ -2,20 +2,19 @@
 -- Assumes nothing.
 use mathlib.Core.List.{List, foldl, reverse}
 use Prim.Native.Nat.{ℕ, zero, suc}
+use Rattle.standard.specs.declared.Direction.{Direction}
+use Rattle.standard.specs.declared.Direction.the-variants.{Forward, Backward}
 
--- The permutation itself, or its inverse. What is said of `backward`, here and in every clause, need not be believed: `permutation-undo` and `cipher-undo`
--- say that it takes the forward steps back.
-pub data Direction : Type 0 where
-  forward backward : Direction
-
+-- `Forward` is the permutation itself, `Backward` its inverse. What is said of `Backward`, here and in every clause, need not be believed:
+-- `permutation-undo` and `cipher-undo` say that it takes the forward steps back.
 abbrev pub opposite : Direction → Direction
-opposite forward = backward
-opposite backward = forward
+opposite Forward = Backward
+opposite Backward = Forward
 
 -- the constants in the order in which the rounds use them: the inverse begins with the last
 abbrev pub inTurn : Direction → List ℕ → List ℕ
-inTurn forward cs = cs
-inTurn backward cs = reverse cs
+inTurn Forward cs = cs
+inTurn Backward cs = reverse cs
 
 -- one round for each constant
 unfoldable pub rounds : {A : Type 0} → (Direction → A → ℕ → A) → Direction → List ℕ → A → A

@@ -5,7 +5,9 @@ use mathlib.Core.List.{List, _∷_, _++_, flatMap}
 use Prim.Native.Nat.{ℕ, _+_, _-_, _/_, _%_}
 use lib.ListN.{take, replicate}
 use Rattle.standard.specs.Bits.{high-first, bitsOf, turned, xorInto}
-use Rattle.standard.specs.Rounds.{Direction, forward, iterate}
+use Rattle.standard.specs.Rounds.{iterate}
+use Rattle.standard.specs.declared.Direction.{Direction}
+use Rattle.standard.specs.declared.Direction.the-variants.{Forward}
 use Rattle.standard.specs.Grid.{tab}
 use Rattle.standard.specs.Photon.{photonPermutation}
 use Rattle.standard.specs.Spongent.{spongentPermutation}
@@ -28,7 +30,7 @@ spongePadding r n = true ∷ replicate (r - 1 - n % r) false
 
 -- 5.2.3, 5.3.3, the block step: the block is xored into the first r bits, and the permutation runs. Byte 0 of the block goes into byte 0 of the state (5.3.2).
 unfoldable pub spongeStep : Permutation → List Bool → List Bool → List Bool
-spongeStep P s b = permutation P forward (xorInto s (turned (bitOrder P) b))
+spongeStep P s b = permutation P Forward (xorInto s (turned (bitOrder P) b))
 
 -- how many output blocks of r′ bits a digest of n bits takes: n / r′ rounded up (docs/DECISIONS.md, D-2)
 abbrev pub outputCount : ℕ → ℕ → ℕ
@@ -36,7 +38,7 @@ outputCount r′ n = (n + (r′ - 1)) / r′
 
 -- 5.2.3, 5.3.3, z_0, z_1, ..: the first r′ bits of the end state, and of each state that the permutation leads to from it
 unfoldable pub outputBlocks : Permutation → ℕ → ℕ → List Bool → List (List Bool)
-outputBlocks P r′ n s = tab (outputCount r′ n) (λ i. take r′ (iterate i (permutation P forward) s))
+outputBlocks P r′ n s = tab (outputCount r′ n) (λ i. take r′ (iterate i (permutation P Forward) s))
 
 -- 5.2.3, 5.3.3: the n bits of the digest, the output blocks one after the other and cut behind. Byte 0 of an output block comes first, each byte's most
 -- significant bit first (document 01; for SPONGENT B.2 agrees).

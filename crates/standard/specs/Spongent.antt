@@ -6,7 +6,9 @@ use Prim.Native.Nat.{ℕ, zero, suc, _+_, _-_, _*_, _/_, _%_, _^_}
 use lib.ListN.{length, getD, set, replicate}
 use lib.Dec.{eqb}
 use Rattle.standard.specs.Bits.{low-first, high-first, bit, digit, lowBits, lowValue, bitsOf, cut, xorInto}
-use Rattle.standard.specs.Rounds.{Direction, forward, backward, rounds}
+use Rattle.standard.specs.Rounds.{rounds}
+use Rattle.standard.specs.declared.Direction.{Direction}
+use Rattle.standard.specs.declared.Direction.the-variants.{Forward, Backward}
 use Rattle.standard.specs.Backward.{unnibbles}
 
 -- ---- 5.3.4.2 lCounter
@@ -56,8 +58,8 @@ pLayer t m s = placed (goesTo t m) t s t
 
 -- 5.3.4.1: one round with its counter, or that round taken back
 unfoldable pub spongentRound : ℕ → Direction → List Bool → ℕ → List Bool
-spongentRound t forward s c = pLayer t (t / 4) (sBoxLayer nibbles (cAddition t c s))
-spongentRound t backward s c = cAddition t c (sBoxLayer unnibbles (pLayer t 4 s))
+spongentRound t Forward s c = pLayer t (t / 4) (sBoxLayer nibbles (cAddition t c s))
+spongentRound t Backward s c = cAddition t c (sBoxLayer unnibbles (pLayer t 4 s))
 
 -- The parameters of a variant, Table 9: t bits of state, R rounds, the counter's width (log2 R, rounded up), its first value and its taps: bit k - 1 for each term x^k of the polynomial but the last
 pub record SpongentParameters : Type 0 where

@@ -5,7 +5,7 @@ use crate::running;
 use crate::show;
 use crate::whole;
 use hasher::Hasher;
-use hasher::Wanted;
+use standard::Wanted;
 ghost use Prim.Native.Nat.{_≤_};
 
 // Bytes and the bit number of the last.

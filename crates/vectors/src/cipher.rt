@@ -71,9 +71,9 @@ fn step(value: [u8; 32], block: &[u8]) -> [u8; 32]
     requires { ⌜ 16 ≤ length (now block) ⌝ }
 {
     let mut key = [0u8; 16];
-    sponge::images::copy_front(&value, 16, &mut key);
+    chain::images::copy_front(&value, 16, &mut key);
     let mut state = value;
-    sponge::images::copy_front(block, 16, &mut state);
+    chain::images::copy_front(block, 16, &mut state);
     let after = lesamnta::encrypt(key, state);
     line(b"encrypt", key, state, after);
     line(b"decrypt", key, after, lesamnta::decrypt(key, after));
@@ -82,9 +82,9 @@ fn step(value: [u8; 32], block: &[u8]) -> [u8; 32]
 
 // The blocks of the message "abc": its bytes with the 1 bit behind them, and its length.
 fn steps() {
-    let start = sponge::step::start(11);
+    let start = chain::step::start(11);
     let mut value = [0u8; 32];
-    sponge::images::copy_front(&start, 32, &mut value);
+    chain::images::copy_front(&start, 32, &mut value);
     let next = step(
         value,
         b"abc\x80\x00\x00\x00\x00\x00\x00\x00\x00\x00\x00\x00\x00",

@@ -2,7 +2,7 @@
 // buffer and, for one entry, its number.
 use crate::show;
 use crate::whole;
-use hasher::Wanted;
+use standard::Wanted;
 ghost use Prim.Native.Nat.{_≤_};
 
 fn segment(list: &[u8], buffer: &[u8], k: usize) {

@@ -2,7 +2,7 @@
 // message, the place and the image. The output is bytes A0.
 use crate::show;
 use crate::whole;
-use hasher::Wanted;
+use standard::Wanted;
 ghost use Prim.Native.Nat.{_≤_};
 
 // The bytes of an output that is long enough for any block.
@@ -41,7 +41,7 @@ pub fn end_of(v: u32, message: &[u8]) -> [u8; 36] {
 pub fn unreached_image() -> [u8; 36] {
     let mut s = [0u8; 36];
     s[1] = 1;
-    sponge::permute(6, &mut s[0..11]);
+    chain::permute(6, &mut s[0..11]);
     s
 }
 

@@ -1,7 +1,7 @@
 // The permutation and its inverse: the single permutations of Annex B, forward and back, and calls that are refused.
 use crate::show;
 use crate::whole;
-use hasher::Wanted;
+use standard::Wanted;
 ghost use Prim.Native.Nat.{_≤_};
 
 fn forward(v: u32, image: &mut [u8]) {
@@ -9,7 +9,7 @@ fn forward(v: u32, image: &mut [u8]) {
     show::variant(v);
     show::image(v, image);
     show::space();
-    show::status(sponge::permute(v, image));
+    show::status(chain::permute(v, image));
     show::image(v, image);
     show::newline();
 }
@@ -19,7 +19,7 @@ fn back(v: u32, image: &mut [u8]) {
     show::variant(v);
     show::image(v, image);
     show::space();
-    show::status(sponge::unpermute(v, image));
+    show::status(chain::unpermute(v, image));
     show::image(v, image);
     show::newline();
 }
@@ -48,7 +48,7 @@ fn permutation(v: u8)
     requires { ⌜ (1 ≤ v) × (v ≤ 10) ⌝ }
 {
     let mut s = example(v);
-    let mut by_words = sponge::outcome::permuted_by_words(v, s);
+    let mut by_words = chain::outcome::permuted_by_words(v, s);
     let n = whole::size(v, Wanted::EndState);
     forward(v as u32, &mut s[0..n]);
     back(v as u32, &mut by_words[0..n]);

@@ -3,7 +3,7 @@
 use crate::permutations;
 use crate::show;
 use crate::whole;
-use hasher::Wanted;
+use standard::Wanted;
 ghost use mathlib.Core.Path.{_≡_};
 ghost use Prim.Native.Nat.{_%_, _<_, _≤_};
 ghost use Rattle.standard.specs.Counters.{reversal};
@@ -93,7 +93,7 @@ fn both_ways(v: u8)
     let mut s = permutations::example(v);
     rounds(v as usize, s, false);
     let n = whole::size(v, Wanted::EndState);
-    sponge::permute(v as u32, &mut s[0..n]);
+    chain::permute(v as u32, &mut s[0..n]);
     rounds(v as usize, s, true);
 }
 

@@ -3,7 +3,7 @@
 use crate::show;
 use crate::whole;
 use hasher::Hasher;
-use hasher::Wanted;
+use standard::Wanted;
 ghost use Prim.Native.Nat.{_≤_};
 
 pub fn start(v: u32) -> Hasher {
@@ -80,7 +80,7 @@ fn stages() {
 // After 134,217,712 bits, a byte less than the longest message: bytes A0 in the state's image, and 12 bits held.
 pub fn near_limit() -> Hasher {
     let image = [0xA0u8; 13];
-    let state = sponge::images::at_front(&image);
+    let state = chain::images::at_front(&image);
     let held = [0xA5, 0xA0, 0, 0, 0, 0, 0, 0, 0, 0, 0, 0, 0, 0, 0, 0];
     Hasher {
         total: 134217712,

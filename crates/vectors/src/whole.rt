@@ -3,7 +3,7 @@
 use crate::show;
 use answers::Status;
 use hasher::Hasher;
-use hasher::Wanted;
+use standard::Wanted;
 ghost use Prim.Native.Nat.{_≤_};
 
 pub fn name(wanted: Wanted) {

@@ -3,8 +3,8 @@
 use mathlib.Core.Bool.{cond}
 use Prim.Native.Nat.{ℕ}
 use lib.Dec.{eqb}
-use Rattle.hasher.specs.declared.Wanted.{Wanted}
-use Rattle.hasher.specs.declared.Wanted.the-variants.{Digest, EndState}
+use Rattle.standard.specs.declared.Wanted.{Wanted}
+use Rattle.standard.specs.declared.Wanted.the-variants.{Digest, EndState}
 use Rattle.segments.specs.declared.Step.{Step}
 use Rattle.segments.specs.declared.Step.the-variants.{Entry, Refused}
 

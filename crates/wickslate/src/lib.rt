@@ -1,13 +1,13 @@
 // The functions that other languages call: numbers, slices and the running hash, each with one number as the answer: 0 where it is done, else the number of the refusal in the low byte and the entry that it names above it. The two of the cipher never refuse, and answer nothing.
 ghost use mathlib.Core.Path.{_≡_};
 ghost use lib.ListN.{length};
-ghost use Rattle.standard.specs.Rounds.{forward, backward};
+ghost use Rattle.standard.specs.declared.Direction.the-variants.{Forward, Backward};
 ghost use Rattle.lesamnta.specs.Words.{ciphered};
 ghost use Rattle.answers.specs.Refusals.{answer};
-ghost use Rattle.sponge.specs.Images.{imageStatus, permutedImage};
+ghost use Rattle.chain.specs.Images.{imageStatus, permutedImage};
 ghost use Rattle.standard.specs.Messages.{bytes, partial};
 ghost use Rattle.hasher.specs.Running.{startedOver, updated, finished};
-ghost use Rattle.hasher.specs.declared.Wanted.the-variants.{Digest, EndState};
+ghost use Rattle.standard.specs.declared.Wanted.the-variants.{Digest, EndState};
 ghost use Rattle.hasher.specs.Reading.{readStatus, readInto, wholeStatus, wholeInto};
 ghost use Rattle.recover.specs.Recovering.{recoverStatus, recoverInto};
 ghost use Rattle.segments.specs.Entries.{segmentStatus};
@@ -18,7 +18,7 @@ ghost use Rattle.lent.specs.Cursors.{movedOn};
 ghost use Rattle.wickslate.specs.Exports.{wantedOf, offsetGiven, lengthGiven};
 use answers::Status;
 use hasher::Hasher;
-use hasher::Wanted;
+use standard::Wanted;
 use lent::Cursor;
 use segments::Step;
 
@@ -112,24 +112,24 @@ pub extern "C" fn wickslate_whole_bits(
 #[no_mangle]
 pub extern "C" fn wickslate_permute(variant: u32, image: &mut [u8]) -> u32
     ensures { λ r. ⌜ (r ≡ answer (imageStatus variant (now (image .entry))))
-        × (now (image .exit) ≡ permutedImage variant forward (now (image .entry))) ⌝ }
+        × (now (image .exit) ≡ permutedImage variant Forward (now (image .entry))) ⌝ }
 {
-    answers::answer_of(sponge::permute(variant, image))
+    answers::answer_of(chain::permute(variant, image))
 }
 
 // Its inverse: refusals 1, 17, 6.
 #[no_mangle]
 pub extern "C" fn wickslate_unpermute(variant: u32, image: &mut [u8]) -> u32
     ensures { λ r. ⌜ (r ≡ answer (imageStatus variant (now (image .entry))))
-        × (now (image .exit) ≡ permutedImage variant backward (now (image .entry))) ⌝ }
+        × (now (image .exit) ≡ permutedImage variant Backward (now (image .entry))) ⌝ }
 {
-    answers::answer_of(sponge::unpermute(variant, image))
+    answers::answer_of(chain::unpermute(variant, image))
 }
 
 // The block cipher of Lesamnta-LW: a state enciphered under a key, in place. No call is refused.
 #[no_mangle]
 pub extern "C" fn wickslate_lesamnta_encrypt(key: &[u8; 16], state: &mut [u8; 32])
-    ensures { λ _. ⌜ now (state .exit) ≡ ciphered forward (now (key .entry)) (now (state .entry)) ⌝ }
+    ensures { λ _. ⌜ now (state .exit) ≡ ciphered Forward (now (key .entry)) (now (state .entry)) ⌝ }
 {
     let enciphered = lesamnta::encrypt(*key, *state);
     *state = enciphered;
@@ -138,7 +138,7 @@ pub extern "C" fn wickslate_lesamnta_encrypt(key: &[u8; 16], state: &mut [u8; 32
 // Its inverse under the key.
 #[no_mangle]
 pub extern "C" fn wickslate_lesamnta_decrypt(key: &[u8; 16], state: &mut [u8; 32])
-    ensures { λ _. ⌜ now (state .exit) ≡ ciphered backward (now (key .entry)) (now (state .entry)) ⌝ }
+    ensures { λ _. ⌜ now (state .exit) ≡ ciphered Backward (now (key .entry)) (now (state .entry)) ⌝ }
 {
     let deciphered = lesamnta::decrypt(*key, *state);
     *state = deciphered;

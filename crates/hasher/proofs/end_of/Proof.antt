@@ -5,8 +5,8 @@ use native.Mathlib.Omega.{arith}
 use borrow.Author.Needs.{needs}
 use Rattle.standard.specs.Chain.{run}
 use Rattle.standard.specs.Variants.{variant}
-use Rattle.sponge.specs.Layout.{packedState}
-use Rattle.sponge.specs.Words.{outcome}
+use Rattle.chain.specs.Layout.{packedState}
+use Rattle.chain.specs.Words.{outcome}
 use Rattle.hasher.proofs.Calls.{outcome-front, other-front}
 use Rattle.hasher.proofs.WholeRuns.{start-ready, count-most, sponge-run, marked-ready, marked-run}
 use Rattle.hasher.proofs.end_of.Statement.{statement}

@@ -6,9 +6,9 @@ use native.Mathlib.Omega.{arith}
 use borrow.Author.Needs.{needs}
 use Rattle.standard.specs.Families.{stateIn}
 use Rattle.standard.specs.Chain.{run}
-use Rattle.sponge.specs.Layout.{packedState}
-use Rattle.sponge.specs.Blocks.{heldThen, firstBlocks}
-use Rattle.sponge.specs.Endings.{markedCount}
+use Rattle.chain.specs.Layout.{packedState}
+use Rattle.chain.specs.Blocks.{heldThen, firstBlocks}
+use Rattle.chain.specs.Endings.{markedCount}
 use Rattle.hasher.specs.Running.{variantOf}
 use Rattle.hasher.proofs.Owned.{owned}
 use Rattle.hasher.proofs.WellFormed.{facts, state-kept}

@@ -7,7 +7,7 @@ use native.Mathlib.Omega.{arith}
 use lib.ListN.{take, getD, replicate}
 use lib.Pow.{shr-lt}
 use borrow.Author.Needs.{needs}
-use Rattle.arrays.proofs.Elements.{bytes-lt}
+use Rattle.bytes.proofs.Elements.{bytes-lt}
 use Rattle.standard.specs.Bits.{high-first, bitsOf}
 use Rattle.standard.proofs.HighBits.{high-take}
 use Rattle.hasher.proofs.last_byte.Statement.{statement}

@@ -1,7 +1,7 @@
 -- `lent::digest` meets its contract: `hasher::digest` on what is lent. Assumes nothing.
 use contract.Monad.{fact-mono}
 use Rattle.answers.proofs.Status as S
-use Rattle.hasher.specs.declared.Wanted.the-variants.{Digest}
+use Rattle.standard.specs.declared.Wanted.the-variants.{Digest}
 use Rattle.hasher.proofs.digest as callee
 use Rattle.lent.proofs.Passed.{Promised}
 use Rattle.lent.proofs.Beside.{none}

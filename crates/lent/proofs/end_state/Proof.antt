@@ -1,7 +1,7 @@
 -- `lent::end_state` meets its contract: `hasher::end_state` on what is lent. Assumes nothing.
 use contract.Monad.{fact-mono}
 use Rattle.answers.proofs.Status as S
-use Rattle.hasher.specs.declared.Wanted.the-variants.{EndState}
+use Rattle.standard.specs.declared.Wanted.the-variants.{EndState}
 use Rattle.hasher.proofs.end_state as callee
 use Rattle.lent.proofs.Passed.{Promised}
 use Rattle.lent.proofs.Beside.{none}

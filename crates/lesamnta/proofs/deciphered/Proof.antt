@@ -5,7 +5,7 @@ use mathlib.Core.List.{List}
 use Prim.Native.Nat.{ℕ, _+_, _-_, _≤_}
 use native.Mathlib.Omega.{arith}
 use lib.ListN.{length, getD}
-use Rattle.standard.specs.Rounds.{backward}
+use Rattle.standard.specs.declared.Direction.the-variants.{Backward}
 use Rattle.standard.specs.Lesamnta.{mixing}
 use Rattle.lesamnta.proofs.RoundLaws.{backTo, back-all, back-none, back-more}
 use Rattle.lesamnta.proofs.deciphered.Statement.{statement}
@@ -27,7 +27,7 @@ loop-again c =
     let next : 64 - (l .i + 1) ≡ r - 1 = omega arith in (
       omega arith,
       l .inv .1,
-      ap₂ (λ (n : ℕ) (x : List ℕ). backTo n keys x) next (c .unmixed .ensures ∙ ap (λ (n : ℕ). mixing backward (l .words) (getD keys n 0)) key)
+      ap₂ (λ (n : ℕ) (x : List ℕ). backTo n keys x) next (c .unmixed .ensures ∙ ap (λ (n : ℕ). mixing Backward (l .words) (getD keys n 0)) key)
           ∙ back-more r keys (l .words) (omega arith) (omega (arith, l .inv .1))
           ∙ l .inv .2,
     )

@@ -8,7 +8,7 @@ use native.Mathlib.Omega.{arith}
 use lib.Seq.{take-all}
 use borrow.Author.Needs.{needs}
 use Rattle.standard.specs.Bits.{high-first, bitsIn, pack}
-use Rattle.standard.specs.Rounds.{backward}
+use Rattle.standard.specs.declared.Direction.the-variants.{Backward}
 use Rattle.standard.specs.Lesamnta.{cipher}
 use Rattle.standard.proofs.BitLaws.{length-bitsIn}
 use Rattle.lesamnta.specs.Words.{ciphered}
@@ -22,7 +22,7 @@ returns c =
     let key : List ℕ = s .args .t1 in
     let state : List ℕ = s .args .t2 in
     c .decrypt-front .ensures
-    ∙ ap₂ (λ (k x : List Bool). pack high-first 32 (cipher backward k x))
+    ∙ ap₂ (λ (k x : List Bool). pack high-first 32 (cipher Backward k x))
     (take-all 128 (bitsIn high-first key) (omega (arith, length-bitsIn high-first key)))
     (take-all 256 (bitsIn high-first state) (omega (arith, length-bitsIn high-first state)))
 

@@ -7,7 +7,8 @@ use native.Mathlib.Omega.{arith}
 use lib.ListN.{take}
 use borrow.Author.Needs.{needs}
 use Rattle.standard.specs.Bits.{high-first, bitsIn, pack}
-use Rattle.standard.specs.Rounds.{backward, rounds}
+use Rattle.standard.specs.Rounds.{rounds}
+use Rattle.standard.specs.declared.Direction.the-variants.{Backward}
 use Rattle.standard.specs.Lesamnta.{mixing}
 use Rattle.standard.proofs.BitLaws.{length-bitsIn}
 use Rattle.lesamnta.proofs.WordLaws.{words-front}
@@ -23,10 +24,10 @@ returns c =
     c .before .put-state .ensures
     ∙ append-nil _
     ∙ ap (pack high-first 32)
-    (cipher-is backward (take 128 (bitsIn high-first key)) (take 256 (bitsIn high-first state)) _ _ _
+    (cipher-is Backward (take 128 (bitsIn high-first key)) (take 256 (bitsIn high-first state)) _ _ _
     (c .before .before .before .before .before .before .before .before .key-words .ensures ∙ words-front 32 (bitsIn high-first key) (omega (arith, length-bitsIn high-first key, s .pre .0)))
     (c .before .before .before .before .before .state-words .ensures ∙ words-front 64 (bitsIn high-first state) (omega (arith, length-bitsIn high-first state, s .pre .1)))
-    (c .before .before .before .deciphered .ensures ∙ ap (λ (ks : List ℕ). rounds mixing backward ks (c .before .before .before .before .before .state-words .result)) (c .before .before .before .before .before .before .round-keys .ensures)))
+    (c .before .before .before .deciphered .ensures ∙ ap (λ (ks : List ℕ). rounds mixing Backward ks (c .before .before .before .before .before .state-words .result)) (c .before .before .before .before .before .before .round-keys .ensures)))
 
 pub decrypt-front-spec : {M : Type 1} → statement M
 decrypt-front-spec = tie.close (tie.spec (λ c. search needs) (λ c κs. search needs) (λ c κs. search needs) (λ c. search needs) (λ c κs. search needs) (λ c κs. search needs) (λ c. search needs) (λ c κs. search needs) (λ c. search needs) (λ c κs. search needs) returns)

@@ -4,7 +4,7 @@ use mathlib.Core.Path.{ap, _∙_}
 use mathlib.Core.List.{append-nil}
 use borrow.Author.Needs.{needs}
 use Rattle.standard.specs.Bits.{high-first, bitsIn, pack}
-use Rattle.standard.specs.Rounds.{forward}
+use Rattle.standard.specs.declared.Direction.the-variants.{Forward}
 use Rattle.lesamnta.proofs.StepLaws.{cipher-is}
 use Rattle.lesamnta.specs.Words.{ciphered}
 use Rattle.lesamnta.proofs.encrypt.Statement.{statement}
@@ -17,7 +17,7 @@ returns c =
     c .before .put-state .ensures
     ∙ append-nil _
     ∙ ap (pack high-first 32)
-    (cipher-is forward (bitsIn high-first (s .args .t1)) (bitsIn high-first (s .args .t2)) _ _ _ (c .before .before .before .before .before .key-words .ensures) (c .before .before .before .before .before .before .before .state-words .ensures) (c .before .before .before .enciphered .ensures))
+    (cipher-is Forward (bitsIn high-first (s .args .t1)) (bitsIn high-first (s .args .t2)) _ _ _ (c .before .before .before .before .before .key-words .ensures) (c .before .before .before .before .before .before .before .state-words .ensures) (c .before .before .before .enciphered .ensures))
 
 pub encrypt-spec : {M : Type 1} → statement M
 encrypt-spec = tie.close (tie.spec (λ c. search needs) (λ c κs. search needs) (λ c. search needs) (λ c κs. search needs) (λ c. search needs) (λ c κs. search needs) (λ c. search needs) (λ c κs. search needs) (λ c. search needs) (λ c κs. search needs) returns)

@@ -10,7 +10,7 @@ use Rattle.standard.specs.Bits.{high-first, bitsIn}
 use Rattle.standard.specs.Lesamnta.{bitsOfWords}
 use Rattle.standard.proofs.BitLaws.{length-bitsIn}
 use Rattle.standard.proofs.Tab.{tab-self}
-use Rattle.arrays.proofs.Elements.{numbers-lt}
+use Rattle.bytes.proofs.Elements.{numbers-lt}
 use Rattle.lesamnta.specs.States.{stateOfFour}
 use Rattle.lesamnta.proofs.StepLaws.{stepped-is}
 use Rattle.lesamnta.proofs.stepped.Statement.{statement}

@@ -7,7 +7,7 @@ use lib.Bits.{bitXor}
 use lib.ListN.{getD}
 use Rattle.standard.specs.Grid.{at}
 use Rattle.standard.specs.Photon.{inFirst}
-use Rattle.arrays.proofs.Upto.{Upto, upto-none, upto-more}
+use Rattle.bytes.proofs.Upto.{Upto, upto-none, upto-more}
 use Rattle.photon.proofs.add_constants.Statement.{statement}
 use Rattle.photon.proofs.add_constants.Tie as tie
 

@@ -5,7 +5,7 @@ use Prim.Native.Nat.{_-_, _≤_}
 use native.Mathlib.Omega.{arith}
 use lib.ListN.{getD}
 use Rattle.standard.proofs.Tab.{window-reverse}
-use Rattle.arrays.proofs.Upto.{Upto, upto-none, upto-more}
+use Rattle.bytes.proofs.Upto.{Upto, upto-none, upto-more}
 use Rattle.photon.proofs.flipped.Statement.{statement}
 use Rattle.photon.proofs.flipped.Tie as tie
 

@@ -2,7 +2,7 @@
 use mathlib.Core.Path.{_≡_}
 use Prim.Native.Nat.{_+_, _-_, _≤_, _<_}
 use native.Mathlib.Omega.{arith}
-use Rattle.arrays.proofs.Elements.{bytes-lt}
+use Rattle.bytes.proofs.Elements.{bytes-lt}
 use Rattle.photon.proofs.Lanes.{Held, held-none, held-room, held-more}
 use Rattle.photon.proofs.packed.Statement.{statement}
 use Rattle.photon.proofs.packed.Tie as tie

@@ -3,7 +3,7 @@ use mathlib.Core.Path.{_≡_, refl}
 use Prim.Native.Nat.{ℕ, _-_, _≤_, _<_}
 use native.Mathlib.Omega.{arith}
 use Rattle.standard.specs.Grid.{at}
-use Rattle.arrays.proofs.Upto.{Upto, upto-none, upto-more}
+use Rattle.bytes.proofs.Upto.{Upto, upto-none, upto-more}
 use Rattle.photon.specs.Rows.{lane}
 use Rattle.photon.proofs.packed_rows.Statement.{statement}
 use Rattle.photon.proofs.packed_rows.Tie as tie

@@ -11,7 +11,7 @@ use lib.ListN.{getD}
 use Rattle.standard.specs.Grid.{Grid, at}
 use Rattle.standard.specs.Photon.{shiftRows}
 use Rattle.standard.proofs.Tab.{at-window, window-is}
-use Rattle.arrays.proofs.Upto.{Upto, upto-more}
+use Rattle.bytes.proofs.Upto.{Upto, upto-more}
 use Rattle.photon.proofs.shift_rows.Statement.{statement}
 use Rattle.photon.proofs.shift_rows.Tie as tie
 

@@ -5,7 +5,7 @@ use Prim.Native.Nat.{ℕ, _-_, _≤_, _<_}
 use native.Mathlib.Omega.{arith}
 use lib.ListN.{getD}
 use Rattle.standard.specs.Grid.{at}
-use Rattle.arrays.proofs.Upto.{Upto, upto-none, upto-more}
+use Rattle.bytes.proofs.Upto.{Upto, upto-none, upto-more}
 use Rattle.photon.proofs.sub_rows.Statement.{statement}
 use Rattle.photon.proofs.sub_rows.Tie as tie
 

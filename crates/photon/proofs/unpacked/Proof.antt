@@ -3,7 +3,7 @@ use mathlib.Core.Path.{_≡_, refl, _∙_}
 use Prim.Native.Nat.{ℕ, suc, _+_, _-_, _≤_}
 use native.Mathlib.Nat.{add-zero, zero-add}
 use native.Mathlib.Omega.{arith}
-use Rattle.arrays.proofs.Upto.{Upto, upto-none, upto-more}
+use Rattle.bytes.proofs.Upto.{Upto, upto-none, upto-more}
 use Rattle.photon.specs.Rows.{lane}
 use Rattle.photon.proofs.unpacked.Statement.{statement}
 use Rattle.photon.proofs.unpacked.Tie as tie

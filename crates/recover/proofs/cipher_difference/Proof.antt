@@ -1,8 +1,8 @@
 -- `recover::cipher_difference` meets its contract. Assumes nothing.
 use native.Mathlib.Omega.{arith}
 use borrow.Author.Needs.{needs}
-use Rattle.arrays.proofs.Elements.{bytes-lt}
-use Rattle.sponge.specs.Layout.{stateRoom}
+use Rattle.bytes.proofs.Elements.{bytes-lt}
+use Rattle.chain.specs.Layout.{stateRoom}
 use Rattle.recover.proofs.Runs.{cipher-between}
 use Rattle.recover.proofs.cipher_difference.Statement.{statement}
 use Rattle.recover.proofs.cipher_difference.Tie as tie

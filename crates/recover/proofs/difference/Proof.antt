@@ -13,11 +13,11 @@ use Rattle.standard.specs.Chain.{blocksOf}
 use Rattle.standard.specs.Variants.{variant}
 use Rattle.standard.proofs.Tests.{true-not-false}
 use Rattle.standard.proofs.Variants.{streams, not-sponge}
-use Rattle.arrays.proofs.Elements.{bytes-lt}
-use Rattle.sponge.specs.Layout.{stateRoom, packedState}
-use Rattle.sponge.specs.Holding.{Holds}
-use Rattle.sponge.specs.Parts.{messageIn}
-use Rattle.sponge.proofs.States.{state-length, stored-ready}
+use Rattle.bytes.proofs.Elements.{bytes-lt}
+use Rattle.chain.specs.Layout.{stateRoom, packedState}
+use Rattle.chain.specs.Holding.{Holds}
+use Rattle.chain.specs.Parts.{messageIn}
+use Rattle.chain.proofs.States.{state-length, stored-ready}
 use Rattle.recover.specs.Difference.{between}
 use Rattle.recover.proofs.Searching.{way}
 use Rattle.recover.proofs.Runs.{few, back-ready, before-ready, difference-held, last-held}

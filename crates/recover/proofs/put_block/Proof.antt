@@ -6,9 +6,9 @@ use lib.ListN.{length, getD}
 use borrow.Author.Tests.{not-true, not-false}
 use borrow.Author.Needs.{needs}
 use Rattle.standard.proofs.Variants.{bounds}
-use Rattle.arrays.proofs.Elements.{bytes-lt}
-use Rattle.sponge.proofs.ImageLaws.{image-length}
-use Rattle.sponge.specs.Parts.{messageIn}
+use Rattle.bytes.proofs.Elements.{bytes-lt}
+use Rattle.chain.proofs.ImageLaws.{image-length}
+use Rattle.chain.specs.Parts.{messageIn}
 use Rattle.recover.proofs.RecoverLaws.{Placed, checks-passed, ready, none-found, one-found}
 use Rattle.recover.proofs.put_block.Statement.{statement}
 use Rattle.recover.proofs.put_block.Tie as tie

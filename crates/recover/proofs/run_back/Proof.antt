@@ -7,12 +7,12 @@ use lib.ListN.{length, drop}
 use Rattle.standard.specs.Families.{stateIn}
 use Rattle.standard.specs.Chain.{blocksOf}
 use Rattle.standard.specs.Variants.{variant}
-use Rattle.sponge.specs.TakenBack.{unrun}
-use Rattle.sponge.specs.Layout.{packedState}
-use Rattle.sponge.specs.Blocks.{heldThen}
-use Rattle.sponge.proofs.BlockRuns.{few-halves, block-at-ready}
-use Rattle.sponge.proofs.States.{state-length}
-use Rattle.sponge.specs.Parts.{messageIn}
+use Rattle.chain.specs.TakenBack.{unrun}
+use Rattle.chain.specs.Layout.{packedState}
+use Rattle.chain.specs.Blocks.{heldThen}
+use Rattle.chain.proofs.BlockRuns.{few-halves, block-at-ready}
+use Rattle.chain.proofs.States.{state-length}
+use Rattle.chain.specs.Parts.{messageIn}
 use Rattle.recover.proofs.Runs.{count-held, few, place-low, place-fits, back-start, back-at, back-ready, back-more}
 use borrow.Author.Needs.{needs}
 use Rattle.recover.proofs.run_back.Statement.{statement}

@@ -4,7 +4,7 @@ use mathlib.Core.Path.{_≡_, _∙_}
 use Prim.Native.Nat.{ℕ, _+_, _-_, _*_, _≤_, _<_}
 use native.Mathlib.Omega.{arith}
 use lib.ListN.{getD}
-use Rattle.arrays.proofs.Upto.{Upto, upto-none, upto-more}
+use Rattle.bytes.proofs.Upto.{Upto, upto-none, upto-more}
 use Rattle.spongent.specs.Pairs.{pairOf}
 use Rattle.spongent.proofs.Places.{Gathered, in-planes, zeros-at}
 use Rattle.spongent.proofs.all_gathered.Statement.{statement}

@@ -5,7 +5,7 @@ use mathlib.Core.Logic.{⊎-elim}
 use Prim.Native.Nat.{_-_, _/_, _≤_, _<_}
 use native.Mathlib.Omega.{arith}
 use Rattle.standard.proofs.Tests.{lt-or-le}
-use Rattle.arrays.proofs.Upto.{Upto, upto-none, upto-more}
+use Rattle.bytes.proofs.Upto.{Upto, upto-none, upto-more}
 use Rattle.spongent.specs.Pairs.{Joined}
 use Rattle.spongent.proofs.Places.{joined-at, zeros-at}
 use Rattle.spongent.proofs.all_joined.Statement.{statement}

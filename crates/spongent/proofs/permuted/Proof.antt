@@ -7,13 +7,13 @@ use Prim.Native.Nat.{ℕ, _-_, _≤_, _<_}
 use native.Mathlib.Omega.{arith}
 use lib.ListN.{take, replicate, take-append-drop}
 use Rattle.standard.specs.Bits.{low-first, bitsIn, unpack}
-use Rattle.standard.specs.Rounds.{Direction}
+use Rattle.standard.specs.declared.Direction.{Direction}
 use Rattle.standard.specs.ForCode.{direction}
 use Rattle.standard.specs.Spongent.{spongentRound}
 use Rattle.standard.proofs.BitLaws.{image-rest}
 use Rattle.standard.proofs.SpongentLaws.{length-spongentRound}
 use Rattle.standard.proofs.Reversal.{reversal-low}
-use Rattle.arrays.proofs.Elements.{bytes-lt}
+use Rattle.bytes.proofs.Elements.{bytes-lt}
 use Rattle.spongent.specs.Parameters.{spongentOf}
 use Rattle.spongent.proofs.Layers.{first-bits, other-bits}
 use Rattle.spongent.proofs.ParametersOf.{quarters, sizes-of, sound-of, tabled}

@@ -7,7 +7,7 @@ use native.Mathlib.Omega.{arith}
 use native.Mathlib.Numerals.{add-one}
 use lib.ListN.{getD, set}
 use Rattle.standard.specs.Bits.{low-first, bitsIn}
-use Rattle.arrays.proofs.Mapped.{mapped, mapped-at, mapped-set}
+use Rattle.bytes.proofs.Mapped.{mapped, mapped-at, mapped-set}
 use Rattle.spongent.proofs.Layers.{byteBy, mapped-bits}
 use Rattle.spongent.proofs.substituted.Statement.{statement}
 use Rattle.spongent.proofs.substituted.Tie as tie

@@ -5,7 +5,7 @@ use mathlib.Core.List.{List}
 use Prim.Native.Nat.{ℕ, _+_, _-_, _≤_, _<_}
 use native.Mathlib.Omega.{arith}
 use lib.ListN.{getD, set}
-use Rattle.arrays.proofs.Upto.{Upto, upto-more}
+use Rattle.bytes.proofs.Upto.{Upto, upto-more}
 use Rattle.spongent.specs.Pairs.{pairOf}
 use Rattle.spongent.proofs.with_plane.Statement.{statement}
 use Rattle.spongent.proofs.with_plane.Tie as tie

@@ -1,4 +1,4 @@
--- `wickslate::wickslate_permute` meets its contract: the number of `sponge::permute`'s refusal. Assumes nothing.
+-- `wickslate::wickslate_permute` meets its contract: the number of `chain::permute`'s refusal. Assumes nothing.
 use mathlib.Core.Path.{_∙_, ap}
 use borrow.Author.Needs.{needs}
 use Rattle.answers.specs.Refusals.{answer}

@@ -1,4 +1,4 @@
--- `wickslate::wickslate_unpermute` meets its contract: the number of `sponge::unpermute`'s refusal. Assumes nothing.
+-- `wickslate::wickslate_unpermute` meets its contract: the number of `chain::unpermute`'s refusal. Assumes nothing.
 use mathlib.Core.Path.{_∙_, ap}
 use borrow.Author.Needs.{needs}
 use Rattle.answers.specs.Refusals.{answer}

@@ -4,7 +4,7 @@ use Prim.Native.Nat.{_+_, _-_, _*_, _≤_}
 use native.Mathlib.Omega.{arith}
 use lib.ListN.{getD}
 use lib.Seq.{ext-getD}
-use Rattle.arrays.proofs.Upto.{Upto, upto-none, upto-more}
+use Rattle.bytes.proofs.Upto.{Upto, upto-none, upto-more}
 use Rattle.digest.specs.Hex.{hexOf}
 use Rattle.digest.proofs.HexLaws.{length-hexOf, upper-at, lower-at}
 use Rattle.digest.proofs.text.hex.Statement.{statement}

@@ -2,7 +2,7 @@
 use mathlib.Core.Path.{refl}
 use Prim.Native.Nat.{_-_, _≤_}
 use native.Mathlib.Omega.{arith}
-use Rattle.arrays.proofs.Upto.{upto-none, upto-more}
+use Rattle.bytes.proofs.Upto.{upto-none, upto-more}
 use Rattle.manifest.proofs.RecordLaws.{manifest-few}
 use Rattle.manifest.proofs.AwaitedLaws.{Awaited, all-awaited}
 use Rattle.manifest.proofs.tally.awaited_all.Statement.{statement}

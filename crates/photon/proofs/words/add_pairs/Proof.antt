@@ -7,7 +7,7 @@ use native.Mathlib.Omega.{arith}
 use lib.Bits.{bitXor}
 use lib.Dec.{eqb}
 use lib.ListN.{getD}
-use Rattle.arrays.proofs.Upto.{Upto, upto-none, upto-more}
+use Rattle.bytes.proofs.Upto.{Upto, upto-none, upto-more}
 use Rattle.photon.proofs.words.add_pairs.Statement.{statement}
 use Rattle.photon.proofs.words.add_pairs.Tie as tie
 

@@ -5,8 +5,8 @@ use native.Mathlib.Nat.{mod-lt}
 use native.Mathlib.Omega.{arith}
 use lib.Bits.{bitXor}
 use lib.ListN.{getD}
-use Rattle.arrays.proofs.Upto.{Upto, upto-none, upto-more}
-use Rattle.shares.specs.Columns.{placeOf}
+use Rattle.bytes.proofs.Upto.{Upto, upto-none, upto-more}
+use Rattle.photon_tables.specs.Columns.{placeOf}
 use Rattle.photon.specs.Parameters.{photonOf}
 use Rattle.photon.proofs.words.add_shares.Statement.{statement}
 use Rattle.photon.proofs.words.add_shares.Tie as tie

@@ -7,7 +7,7 @@ use lib.Dec.{eqb}
 use lib.Pow.{shr-shr}
 use Rattle.standard.specs.Variants.{variant}
 use Rattle.standard.proofs.Tests.{same-below}
-use Rattle.shares.specs.Columns.{placeOf}
+use Rattle.photon_tables.specs.Columns.{placeOf}
 use Rattle.photon.specs.Parameters.{photonOf}
 use borrow.Author.Needs.{needs}
 use Rattle.photon.proofs.words.byte_of_six.Statement.{statement}

@@ -3,8 +3,8 @@ use mathlib.Core.Path.{_≡_}
 use Prim.Native.Nat.{_+_, _-_, _≤_, _<_, _^_}
 use native.Mathlib.Omega.{arith}
 use lib.ListN.{length, getD, length-set}
-use Rattle.shares.specs.Columns.{placeOf}
-use Rattle.shares.proofs.LookUps.{first-added}
+use Rattle.photon_tables.specs.Columns.{placeOf}
+use Rattle.photon_tables.proofs.LookUps.{first-added}
 use Rattle.photon.specs.Parameters.{photonOf}
 use Rattle.photon.proofs.ParametersOf.{sound}
 use Rattle.photon.proofs.WordPlaces.{rising-places, constants-low}

@@ -4,9 +4,9 @@ use Prim.Native.Nat.{_+_, _-_, _≤_}
 use native.Mathlib.Omega.{arith}
 use lib.Dec.{lit≤}
 use lib.ListN.{length, length-set}
-use Rattle.shares.specs.Columns.{placeOf}
-use Rattle.shares.proofs.LookUps.{first-added}
-use Rattle.shares.proofs.EntryTests.{entry-constant}
+use Rattle.photon_tables.specs.Columns.{placeOf}
+use Rattle.photon_tables.proofs.LookUps.{first-added}
+use Rattle.photon_tables.proofs.EntryTests.{entry-constant}
 use Rattle.photon.specs.Parameters.{photonOf}
 use Rattle.photon.proofs.ParametersOf.{sound}
 use Rattle.photon.proofs.WordPlaces.{rising-places}

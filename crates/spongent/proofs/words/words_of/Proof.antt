@@ -5,7 +5,7 @@ use mathlib.Core.List.{List}
 use Prim.Native.Nat.{ℕ, _-_, _≤_}
 use native.Mathlib.Omega.{arith}
 use lib.ListN.{length, getD, length-set}
-use Rattle.arrays.proofs.Upto.{upto-none}
+use Rattle.bytes.proofs.Upto.{upto-none}
 use Rattle.spongent.proofs.WordLaws.{Filled, filled-more, filled-all, length-bytesIn}
 use Rattle.spongent.proofs.words.words_of.Statement.{statement}
 use Rattle.spongent.proofs.words.words_of.Tie as tie

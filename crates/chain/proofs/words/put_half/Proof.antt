@@ -1,0 +1,14 @@
+-- `chain::words::put_half` meets its contract: an xor into the upper or the lower half of a byte. Assumes nothing.
+use borrow.Author.Needs.{needs}
+use Rattle.chain.proofs.RowsIntoBytes.{half-put}
+use Rattle.chain.proofs.words.put_half.Statement.{statement}
+use Rattle.chain.proofs.words.put_half.Tie as tie
+
+returns : tie.Need-returns
+returns c =
+    let s = c .before .before .before in
+    let a = s .args in
+    rw (c .lifted .ensures) (half-put (a .out .now) (a .p) (a .x) (s .pre .0 .0) (s .pre .0 .1) (s .pre .1))
+
+pub put-half-spec : {M : Type 1} → statement M
+put-half-spec = tie.close (tie.spec (λ c. search needs) (λ c κs. search needs) (λ c. search needs) (λ c. search needs) returns)

@@ -1,0 +1,126 @@
+// Images: a state in bytes that a caller lends, and the permutation on it.
+ghost use mathlib.Core.Path.{_≡_};
+ghost use mathlib.Core.Bool.{true};
+ghost use mathlib.Core.List.{_++_};
+ghost use Prim.Native.Nat.{_+_, _-_, _%_, _≤_};
+ghost use lib.ListN.{length, take, drop, replicate};
+ghost use Rattle.standard.specs.Bits.{high-first, bitsIn};
+ghost use Rattle.standard.specs.declared.Direction.the-variants.{Forward, Backward};
+ghost use Rattle.standard.specs.Families.{isSponge, imageOf, stateIn};
+ghost use Rattle.standard.specs.Variants.{variant, known};
+ghost use Rattle.chain.specs.Layout.{stateRoom, clear};
+ghost use Rattle.chain.specs.TakenBack.{permutedState};
+ghost use Rattle.chain.specs.Images.{isImage, imageStatus, permutedImage};
+use crate::sizes;
+use crate::sizes::STATE_BYTES;
+use crate::step;
+use standard::Direction;
+use answers::Refusal;
+use answers::Status;
+
+// Whether every byte from k on is zero.
+fn zero_from(bytes: &[u8], k: usize) -> bool
+    ensures { λ r. ⌜ r ≡ clear (bitsIn high-first (drop k (now (bytes .entry)))) ⌝ }
+{
+    let mut i = k;
+    while i < bytes.len() {
+        if bytes[i] != 0 {
+            return false;
+        }
+        i += 1;
+    }
+    true
+}
+
+// Whether no bit from bit c on is set, a byte's highest bit first.
+pub fn clear_from(bytes: &[u8], c: usize) -> bool
+    ensures { λ r. ⌜ r ≡ clear (drop c (bitsIn high-first (now (bytes .entry)))) ⌝ }
+{
+    let k = c / 8;
+    if bytes.len() <= k {
+        return true;
+    }
+    if (bytes[k] as u32) % (1 << (8 - c % 8)) != 0 {
+        return false;
+    }
+    zero_from(bytes, k + 1)
+}
+
+// The bytes at the front of 36, zeros behind them.
+pub fn at_front(bytes: &[u8]) -> [u8; STATE_BYTES]
+    requires { ⌜ length (now bytes) ≤ stateRoom ⌝ }
+    ensures { λ r. ⌜ r ≡ now (bytes .entry) ++ replicate (stateRoom - length (now (bytes .entry))) 0 ⌝ }
+{
+    let mut out = [0u8; STATE_BYTES];
+    copy_front(bytes, bytes.len(), &mut out);
+    out
+}
+
+// The first n bytes of s written over the front of out.
+pub fn copy_front(s: &[u8], n: usize, out: &mut [u8])
+    requires { ⌜ (n ≤ length (now s)) × (n ≤ length (now out)) ⌝ }
+    ensures { λ _. ⌜ now (out .exit) ≡ take n (now (s .entry)) ++ drop n (now (out .entry)) ⌝ }
+{
+    let mut i = 0;
+    while i < n {
+        out[i] = s[i];
+        i += 1;
+    }
+}
+
+// Whether the bytes are an image of the variant.
+pub fn is_image(v: u8, image: &[u8]) -> bool
+    requires { ⌜ known v ≡ true ⌝ }
+    ensures { λ r. ⌜ r ≡ isImage (variant v) (now (image .entry)) ⌝ }
+{
+    if image.len() != sizes::image_bytes(v) {
+        return false;
+    }
+    clear_from(image, sizes::state_bits(v))
+}
+
+// The state of a sponge's image, permuted in place.
+fn permute_state(v: u8, image: &mut [u8], way: Direction)
+    requires { ⌜ (known v ≡ true) × (isSponge (variant v) ≡ true) ⌝ }
+    requires { ⌜ isImage (variant v) (now image) ≡ true ⌝ }
+    ensures { λ _. ⌜ now (image .exit) ≡ imageOf (variant v) (permutedState (variant v) way (stateIn (variant v) (now (image .entry)))) ⌝ }
+{
+    let s = at_front(image);
+    let r = step::permuted(v, s, way);
+    copy_front(&r, sizes::image_bytes(v), image);
+}
+
+// Both directions of the public operation: the checks in order, then the bytes through the permutation.
+fn permute_image(variant: u32, image: &mut [u8], way: Direction) -> Status
+    ensures { λ r. ⌜ (r ≡ imageStatus variant (now (image .entry)))
+        × (now (image .exit) ≡ permutedImage variant way (now (image .entry))) ⌝ }
+{
+    if !sizes::is_known(variant) {
+        return Status::Refused(Refusal::UnknownVariant);
+    }
+    let v = variant as u8;
+    if !sizes::is_sponge(v) {
+        return Status::Refused(Refusal::NotSponge);
+    }
+    if !is_image(v, image) {
+        return Status::Refused(Refusal::BadImage);
+    }
+    permute_state(v, image, way);
+    Status::Done
+}
+
+// The permutation on an image: refusals 1, 17, 6. A refusal leaves every byte.
+pub fn permute(variant: u32, image: &mut [u8]) -> Status
+    ensures { λ r. ⌜ (r ≡ imageStatus variant (now (image .entry)))
+        × (now (image .exit) ≡ permutedImage variant Forward (now (image .entry))) ⌝ }
+{
+    permute_image(variant, image, Direction::Forward)
+}
+
+// Its inverse: the rounds taken back.
+pub fn unpermute(variant: u32, image: &mut [u8]) -> Status
+    ensures { λ r. ⌜ (r ≡ imageStatus variant (now (image .entry)))
+        × (now (image .exit) ≡ permutedImage variant Backward (now (image .entry))) ⌝ }
+{
+    permute_image(variant, image, Direction::Backward)
+}
