@@ -1,3 +1,10 @@
 pub mod Elements
 pub mod Upto
 pub mod Mapped
+pub mod Front
+pub mod Shifts
+pub mod Clear
+pub mod LayoutLaws
+pub mod CellLaws
+pub mod PackedNibbles
+pub mod RowsIntoBytes

@@ -1,1 +1,3 @@
--- No definitions: this crate has lemmas alone.
+-- The definitions that the contracts of this crate cite.
+pub mod Nibbles
+pub mod Cells

@@ -14,11 +14,12 @@ use Rattle.answers.proofs.ByteLaws.{cons-bytes}
 use Rattle.standard.specs.Bits.{high-first, valueOf, bitsIn, unpack, filled}
 use Rattle.standard.proofs.Tests.{lt-or-le}
 use Rattle.standard.proofs.BitLaws.{filled-take, length-bitsIn, bitsIn-append, length-unpack, length-filled, length-pack, filled-add, valueOf-lt}
-use Rattle.chain.specs.Layout.{blockRoom, packedBlock}
-use Rattle.chain.specs.Cells.{cellIn}
-use Rattle.chain.specs.Blocks.{halfOf, halfIn, heldThen}
-use Rattle.chain.proofs.CellLaws.{cell-even, cell-odd}
-use Rattle.chain.proofs.MatrixImage.{pack-halves, filled-nothing}
+use Rattle.standard.specs.Layout.{blockRoom, packedBlock}
+use Rattle.bytes.specs.Cells.{cellIn}
+use Rattle.chain.specs.Blocks.{heldThen}
+use Rattle.bytes.specs.Nibbles.{nibbleOf, nibbleIn}
+use Rattle.bytes.proofs.CellLaws.{cell-even, cell-odd}
+use Rattle.bytes.proofs.PackedNibbles.{pack-halves, filled-nothing}
 
 -- ---- half bytes of bits
 
@@ -33,30 +34,30 @@ middle a w l bs h =
 
 module _ (n : ℕ) where
   -- inside the bits
-  half-take : (bs : List Bool) → 4 * n + 4 ≤ length bs → halfIn bs n ≡ valueOf high-first (take 4 (drop (4 * n) bs))
+  half-take : (bs : List Bool) → 4 * n + 4 ≤ length bs → nibbleIn bs n ≡ valueOf high-first (take 4 (drop (4 * n) bs))
   half-take bs h = ap (valueOf high-first) (filled-take 4 (drop (4 * n) bs) (omega (arith, length-drop (4 * n) bs)))
 
   -- what stands behind changes nothing
-  half-front : (x y : List Bool) → 4 * n + 4 ≤ length x → halfIn x n ≡ halfIn (x ++ y) n
+  half-front : (x y : List Bool) → 4 * n + 4 ≤ length x → nibbleIn x n ≡ nibbleIn (x ++ y) n
   half-front x y h =
       let here : 4 * n ≤ length x = omega arith in
       let four : 4 ≤ length (drop (4 * n) x) = omega (arith, length-drop (4 * n) x) in
       rw (half-take x h, half-take (x ++ y) (omega (arith, length-append x y)), drop-append-le, take-append-le)
 
   -- past the first bits
-  half-behind : (x y : List Bool) (p : ℕ) → length x ≡ 4 * p → p ≤ n → halfIn y (n - p) ≡ halfIn (x ++ y) n
+  half-behind : (x y : List Bool) (p : ℕ) → length x ≡ 4 * p → p ≤ n → nibbleIn y (n - p) ≡ nibbleIn (x ++ y) n
   half-behind x y p e h =
       let k : length x + 4 * (n - p) ≡ 4 * n = omega arith in
       ap (λ (l : List Bool). valueOf high-first (filled 4 l)) (sym (drop-append-add x y (4 * (n - p))) ∙ ap (λ (i : ℕ). drop i (x ++ y)) k)
 
   -- the first bits alone
-  half-within : (c : ℕ) (bs : List Bool) → 4 * n + 4 ≤ c → c ≤ length bs → halfIn (take c bs) n ≡ halfIn bs n
+  half-within : (c : ℕ) (bs : List Bool) → 4 * n + 4 ≤ c → c ≤ length bs → nibbleIn (take c bs) n ≡ nibbleIn bs n
   half-within c bs h l =
       half-front (take c bs) (drop c bs) (omega (arith, length-take-le c bs l))
-      ∙ ap (λ (l : List Bool). halfIn l n) (take-append-drop c bs)
+      ∙ ap (λ (l : List Bool). nibbleIn l n) (take-append-drop c bs)
 
   -- in bytes
-  half-byte : (s : List ℕ) → ((i : ℕ) → getD s i 0 < 256) → n / 2 < length s → halfOf (getD s (n / 2) 0) n ≡ halfIn (bitsIn high-first s) n
+  half-byte : (s : List ℕ) → ((i : ℕ) → getD s i 0 < 256) → n / 2 < length s → nibbleOf (getD s (n / 2) 0) n ≡ nibbleIn (bitsIn high-first s) n
   unfolding cellIn
   half-byte s hb h =
       let e : 4 * n ≡ n * 4 = omega arith in
@@ -65,7 +66,7 @@ module _ (n : ℕ) where
       (λ l. rw (ne-eqb (n % 2) 0 (λ z. omega arith)) (sym (cell-odd s hb n h (omega arith)))) (lt-or-le (n % 2) 1))
 
   -- nothing past the bits
-  pub half-past : (bs : List Bool) → length bs ≤ 4 * n → 0 ≡ halfIn bs n
+  pub half-past : (bs : List Bool) → length bs ≤ 4 * n → 0 ≡ nibbleIn bs n
   half-past bs h = sym (ap (λ (l : List Bool). valueOf high-first (filled 4 l)) (drop-of-length-le bs {i = 4 * n} h) ∙ filled-nothing 4)
 
 -- ---- held half bytes, and bytes behind them
@@ -80,7 +81,7 @@ module _ (held : List ℕ) (p : ℕ) (few : p ≤ 2 * length held) (n : ℕ) whe
   front-size : length front ≡ 4 * p
   front-size = length-unpack high-first (4 * p) held (omega arith)
 
-  pub half-held : (bytes : List ℕ) → ((i : ℕ) → getD held i 0 < 256) → n < p → halfOf (getD held (n / 2) 0) n ≡ halfIn (heldThen held p bytes) n
+  pub half-held : (bytes : List ℕ) → ((i : ℕ) → getD held i 0 < 256) → n < p → nibbleOf (getD held (n / 2) 0) n ≡ nibbleIn (heldThen held p bytes) n
   unfolding unpack
   half-held bytes hb h =
       half-byte n held hb (omega arith)
@@ -101,14 +102,14 @@ module _ (held : List ℕ) (p : ℕ) (few : p ≤ 2 * length held) (n : ℕ) whe
         ∙ ap (λ (bs : List Bool). front ++ bs) (sym (bitsIn-append high-first piece (last ∷ [])))
 
     pub half-piece : ((i : ℕ) → getD piece i 0 < 256) → (n - p) / 2 < length piece
-        → halfOf (getD piece ((n - p) / 2) 0) (n - p) ≡ halfIn (heldThen held p (piece ++ last ∷ [])) n
+        → nibbleOf (getD piece ((n - p) / 2) 0) (n - p) ≡ nibbleIn (heldThen held p (piece ++ last ∷ [])) n
     half-piece hb l =
         half-byte (n - p) piece hb l
         ∙ half-behind n front (bitsIn high-first piece) p front-size h
         ∙ half-front n (heldThen held p piece) end (omega (arith, size))
-        ∙ ap (λ (bs : List Bool). halfIn bs n) parts
+        ∙ ap (λ (bs : List Bool). nibbleIn bs n) parts
 
-    pub half-last : last < 256 → (n - p) / 2 ≡ length piece → halfOf last (n - p) ≡ halfIn (heldThen held p (piece ++ last ∷ [])) n
+    pub half-last : last < 256 → (n - p) / 2 ≡ length piece → nibbleOf last (n - p) ≡ nibbleIn (heldThen held p (piece ++ last ∷ [])) n
     half-last hl e =
         let i : ℕ = n - (p + 2 * length piece) in
         let first : i / 2 ≡ 0 = omega arith in
@@ -116,16 +117,16 @@ module _ (held : List ℕ) (p : ℕ) (few : p ≤ 2 * length held) (n : ℕ) whe
         ap₂ (λ (b k : ℕ). cond (eqb k 0) (b / 16) (b % 16)) (ap (λ (k : ℕ). getD (last ∷ []) k 0) (sym first)) side
         ∙ half-byte i (last ∷ []) (cons-bytes last [] hl (λ k. omega arith)) (omega arith)
         ∙ half-behind n (heldThen held p piece) end (p + 2 * length piece) size (omega arith)
-        ∙ ap (λ (bs : List Bool). halfIn bs n) parts
+        ∙ ap (λ (bs : List Bool). nibbleIn bs n) parts
 
-    pub half-nothing : length piece < (n - p) / 2 → 0 ≡ halfIn (heldThen held p (piece ++ last ∷ [])) n
+    pub half-nothing : length piece < (n - p) / 2 → 0 ≡ nibbleIn (heldThen held p (piece ++ last ∷ [])) n
     half-nothing l =
         half-past n (heldThen held p (piece ++ last ∷ []))
         (omega (arith, length-heldThen held p (piece ++ last ∷ []) few, length-append piece (last ∷ [])))
 
 -- ---- q half bytes in bytes
 
-pub half-from : (bs : List Bool) (first i : ℕ) → halfIn bs (first + i) ≡ halfIn (drop (4 * first) bs) i
+pub half-from : (bs : List Bool) (first i : ℕ) → nibbleIn bs (first + i) ≡ nibbleIn (drop (4 * first) bs) i
 half-from bs first i =
     let e : 4 * (first + i) ≡ 4 * first + 4 * i = omega arith in
     rw (e, drop-drop)
@@ -134,23 +135,23 @@ module _ (bs : List Bool) (q : ℕ) where
   abbrev block : List Bool
   block = filled (4 * q) bs
 
-  within : (i : ℕ) → i < q → halfIn block i ≡ halfIn bs i
+  within : (i : ℕ) → i < q → nibbleIn block i ≡ nibbleIn bs i
   within i h =
       half-take i block (omega (arith, length-filled (4 * q) bs)) ∙ ap (valueOf high-first) (middle (4 * i) 4 (4 * q) bs (omega arith))
 
-  byte-is : (k : ℕ) → k < blockRoom → halfIn block (2 * k) * 16 + halfIn block (2 * k + 1) ≡ getD (packedBlock block) k 0
+  byte-is : (k : ℕ) → k < blockRoom → nibbleIn block (2 * k) * 16 + nibbleIn block (2 * k + 1) ≡ getD (packedBlock block) k 0
   byte-is k h =
       let first : 4 * (2 * k) ≡ k * 8 = omega arith in
       let second : 4 * (2 * k + 1) ≡ k * 8 + 4 = omega arith in
       rw (first, second, pack-halves blockRoom block k h)
 
-  pub byte-both : (k : ℕ) → 2 * k + 1 < q → q ≤ 32 → halfIn bs (2 * k) * 16 + halfIn bs (2 * k + 1) ≡ getD (packedBlock block) k 0
+  pub byte-both : (k : ℕ) → 2 * k + 1 < q → q ≤ 32 → nibbleIn bs (2 * k) * 16 + nibbleIn bs (2 * k + 1) ≡ getD (packedBlock block) k 0
   byte-both k h l =
       omega (arith, within (2 * k) (omega arith), within (2 * k + 1) h, byte-is k (omega arith))
 
-  pub byte-upper : (k : ℕ) → q ≡ 2 * k + 1 → q ≤ 32 → halfIn bs (2 * k) * 16 ≡ getD (packedBlock block) k 0
+  pub byte-upper : (k : ℕ) → q ≡ 2 * k + 1 → q ≤ 32 → nibbleIn bs (2 * k) * 16 ≡ getD (packedBlock block) k 0
   byte-upper k e l =
-      let z : 0 ≡ halfIn block (2 * k + 1) = half-past (2 * k + 1) block (omega (arith, length-filled (4 * q) bs)) in
+      let z : 0 ≡ nibbleIn block (2 * k + 1) = half-past (2 * k + 1) block (omega (arith, length-filled (4 * q) bs)) in
       omega (arith, within (2 * k) (omega arith), byte-is k (omega arith))
 
   byte-none : (k : ℕ) → q ≤ 2 * k → k < blockRoom → 0 ≡ getD (packedBlock block) k 0

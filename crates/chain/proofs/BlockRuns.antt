@@ -14,7 +14,7 @@ use Rattle.standard.specs.Variants.{variant, known}
 use Rattle.standard.proofs.BitLaws.{length-filled, unpack-pack}
 use Rattle.standard.proofs.Streaming.{run-append, run-one, run-none}
 use Rattle.standard.proofs.Variants.{Bounds, bounds}
-use Rattle.chain.specs.Layout.{blockRoom, packedBlock}
+use Rattle.standard.specs.Layout.{blockRoom, packedBlock}
 use Rattle.chain.specs.Holding.{blockIn, HoldsBlock}
 use Rattle.chain.specs.Blocks.{firstBlocks}
 use Rattle.chain.proofs.BlockRows.{first-none, first-more}

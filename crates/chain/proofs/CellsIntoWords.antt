@@ -24,8 +24,8 @@ use Rattle.standard.proofs.CutLaws.{take-drop-take}
 use Rattle.standard.proofs.MatrixLaws.{at-matrixOf, matrixOf-square, matrix-bits, length-bitsOfMatrix}
 use Rattle.photon_tables.specs.Columns.{cellOf}
 use Rattle.photon_tables.proofs.WordCells.{Rising, cell-xor, cell-none, cell-moved}
-use Rattle.chain.specs.Cells.{cellIn}
-use Rattle.chain.proofs.MatrixImage.{filled-nothing}
+use Rattle.bytes.specs.Cells.{cellIn}
+use Rattle.bytes.proofs.PackedNibbles.{filled-nothing}
 
 pub cell-in-lt : (s : ℕ) (bytes : List ℕ) (n : ℕ) → cellIn s bytes n < 2 ^ s
 unfolding cellIn

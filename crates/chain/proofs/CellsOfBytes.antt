@@ -9,24 +9,24 @@ use lib.ListN.{length, getD}
 use lib.Pow.{shl-exact}
 use borrow.Author.Tests.{eq-eqb, ne-eqb}
 use Rattle.standard.proofs.Tests.{lt-or-le}
-use Rattle.chain.specs.Cells.{cellIn}
-use Rattle.chain.specs.Blocks.{halfOf}
-use Rattle.chain.proofs.CellLaws.{cell-even, cell-odd, cell-wide}
+use Rattle.bytes.specs.Cells.{cellIn}
+use Rattle.bytes.specs.Nibbles.{nibbleOf}
+use Rattle.bytes.proofs.CellLaws.{cell-even, cell-odd, cell-wide}
 
 -- a half of a byte has four bits
-pub half-below : (x n : ℕ) → x < 256 → halfOf x n < 16
+pub half-below : (x n : ℕ) → x < 256 → nibbleOf x n < 16
 half-below x n h =
     ⊎-elim (λ l. rw (eq-eqb (n % 2) 0 (omega arith)) (omega arith)) (λ l. rw (ne-eqb (n % 2) 0 (λ z. omega arith)) (omega arith)) (lt-or-le (n % 2) 1)
 
 module _ (bytes : List ℕ) (hb : (i : ℕ) → getD bytes i 0 < 256) where
   -- a half of a byte is a cell of four bits
-  pub half-is : (n : ℕ) → n / 2 < length bytes → halfOf (getD bytes (n / 2) 0) n ≡ cellIn 4 bytes n
+  pub half-is : (n : ℕ) → n / 2 < length bytes → nibbleOf (getD bytes (n / 2) 0) n ≡ cellIn 4 bytes n
   half-is n h =
       ⊎-elim (λ l. rw (eq-eqb (n % 2) 0 (omega arith)) (sym (cell-even bytes hb n h (omega arith))))
       (λ l. rw (ne-eqb (n % 2) 0 (λ z. omega arith)) (sym (cell-odd bytes hb n h (omega arith)))) (lt-or-le (n % 2) 1)
 
   -- as it is read from the half `odd` of the byte `at` on, and moved
-  pub half-cell : (at odd j bit x : ℕ) → 2 * at + odd + j < 2 * length bytes → bit ≤ 28 → x < 16 → x ≡ halfOf (getD bytes (at + (odd + j) / 2) 0) (odd + j)
+  pub half-cell : (at odd j bit x : ℕ) → 2 * at + odd + j < 2 * length bytes → bit ≤ 28 → x < 16 → x ≡ nibbleOf (getD bytes (at + (odd + j) / 2) 0) (odd + j)
       → x * 2 ^ bit % 2 ^ 64 ≡ cellIn 4 bytes (2 * at + odd + j) * 2 ^ bit
   half-cell at odd j bit x h hbit hx e =
       let place : at + (odd + j) / 2 ≡ (2 * at + odd + j) / 2 = omega arith in

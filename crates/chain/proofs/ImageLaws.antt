@@ -22,12 +22,12 @@ use Rattle.standard.specs.Variants.{variant, known}
 use Rattle.standard.proofs.Tests.{and-true, true-not-false}
 use Rattle.standard.proofs.BitLaws.{take-pack, length-unpack}
 use Rattle.standard.proofs.Variants.{Bounds, bounds, WholeBytes, layouts}
-use Rattle.chain.specs.Layout.{stateRoom, packedState, clear}
+use Rattle.standard.specs.Layout.{stateRoom, packedState, clear}
 use Rattle.chain.specs.Holding.{Holds}
 use Rattle.chain.specs.Images.{isImage, imageChecks, imageStatus, permutedBytes, permutedImage}
 use Rattle.chain.specs.TakenBack.{permutedBy, permutedState}
-use Rattle.chain.proofs.Clear.{clear-order}
-use Rattle.chain.proofs.LayoutLaws.{front-holds}
+use Rattle.bytes.proofs.Clear.{clear-order}
+use Rattle.bytes.proofs.LayoutLaws.{front-holds}
 use Rattle.chain.proofs.States.{stored, stored-ready}
 
 -- ---- what an image is, as the code looks at it

@@ -22,8 +22,8 @@ use Rattle.chain.specs.Promises.{PermutedBack}
 use Rattle.chain.specs.Images.{isImage, permutedImage}
 use Rattle.chain.specs.TakenBack.{permutedState}
 use Rattle.chain.proofs.TakenBack.{permuted-length, permuted-undo}
-use Rattle.chain.proofs.Clear.{zeros-clear, clear-zeros}
-use Rattle.chain.proofs.LayoutLaws.{packed-bits}
+use Rattle.bytes.proofs.Clear.{zeros-clear, clear-zeros}
+use Rattle.bytes.proofs.LayoutLaws.{packed-bits}
 use Rattle.chain.proofs.ImageLaws.{image-length, image-clear, image-state, left-unknown, left-other, left-bad, left-permuted}
 
 -- ---- from a state to its image

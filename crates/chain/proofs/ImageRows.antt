@@ -31,11 +31,11 @@ use Rattle.spongent.specs.Parameters.{spongentOf}
 use Rattle.spongent.specs.Words.{bytesIn}
 use Rattle.spongent.proofs.ParametersOf.{family-of, bits-of, sizes-of}
 use Rattle.spongent.proofs.WordLaws.{length-bytesIn, image-packed}
-use Rattle.chain.specs.Layout.{stateRoom, packedState}
+use Rattle.standard.specs.Layout.{stateRoom, packedState}
 use Rattle.chain.specs.Words.{stateInWords}
-use Rattle.chain.proofs.LayoutLaws.{packed-bits}
+use Rattle.bytes.proofs.LayoutLaws.{packed-bits}
 use Rattle.chain.proofs.MatrixImage.{square-le}
-use Rattle.chain.proofs.RowsIntoBytes.{row-length, read-back, kept-back}
+use Rattle.bytes.proofs.RowsIntoBytes.{row-length, read-back, kept-back}
 
 -- ---- the first rows of a matrix
 

@@ -11,7 +11,7 @@ use lib.Seq.{drop-append-add, drop-append-le, take-append-le}
 use Rattle.standard.specs.Bits.{high-first, bitsIn, unpack, filled}
 use Rattle.standard.specs.Variants.{variant, known}
 use Rattle.standard.proofs.BitLaws.{filled-take, bitsIn-append, length-bitsIn, length-unpack, length-filled}
-use Rattle.chain.specs.Layout.{packedBlock}
+use Rattle.standard.specs.Layout.{packedBlock}
 use Rattle.chain.specs.Blocks.{heldThen}
 use Rattle.chain.proofs.BlockRuns.{block-read}
 

@@ -23,7 +23,7 @@ use Rattle.standard.proofs.Streaming.{whole-append, whole-one, length-rest}
 use Rattle.standard.proofs.Sponge.{padding-sponge, sponge-count}
 use Rattle.standard.proofs.Variants.{streams, is-sponge, not-sponge, lesamnta-count}
 use Rattle.lesamnta.proofs.WordLaws.{bytes-bits}
-use Rattle.chain.specs.Layout.{packedBlock}
+use Rattle.standard.specs.Layout.{packedBlock}
 use Rattle.chain.specs.Blocks.{heldThen, firstBlocks}
 use Rattle.chain.specs.Endings.{markedCount, lengthBlock, lengthBlocks}
 use Rattle.chain.proofs.BlockRows.{withOne, padded-first, whole-first}

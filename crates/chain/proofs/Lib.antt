@@ -1,8 +1,4 @@
 pub mod TakenBack
-pub mod Clear
-pub mod Front
-pub mod LayoutLaws
-pub mod CellLaws
 pub mod MatrixImage
 pub mod States
 pub mod ImageLaws
@@ -14,7 +10,6 @@ pub mod PartBytes
 pub mod BlockRuns
 pub mod LastBlocks
 pub mod WordPlaces
-pub mod RowsIntoBytes
 pub mod CellsOfBytes
 pub mod CellsIntoWords
 pub mod WordSteps

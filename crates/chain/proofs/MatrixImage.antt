@@ -18,9 +18,9 @@ use Rattle.standard.proofs.BitLaws.{filled-take, length-filled, filled-add, low
 use Rattle.standard.proofs.CutLaws.{take-drop-take}
 use Rattle.standard.proofs.Tab.{grid-cong, grid-self, window-square, window-small}
 use Rattle.standard.proofs.MatrixLaws.{matrixOf-square, at-matrixOf, length-bitsOfMatrix, matrix-bits}
-use Rattle.chain.specs.Layout.{stateRoom}
-use Rattle.chain.specs.Cells.{nth}
-use Rattle.chain.proofs.Clear.{low-zeros}
+use Rattle.standard.specs.Layout.{stateRoom}
+use Rattle.bytes.specs.Cells.{nth}
+use Rattle.bytes.proofs.PackedNibbles.{pack-at, filled-nothing, pack-halves}
 
 -- ---- the cells of a matrix, one after the other
 
@@ -43,36 +43,6 @@ pub nth-lt : (d top : ℕ) (g : Grid) → Square d g → Small d top g → 0 < d
 nth-lt d top g q m pos tpos n =
     ⊎-elim (λ l. m .cell (n / d) (n % d) (row-lt d n l) (col-lt d n l))
     (λ l. subst (λ (x : ℕ). x < top) (sym (past d g q n l pos)) tpos) (lt-or-le n (d * d))
-
--- ---- bytes of packed bits
-
-pub pack-at : (n : ℕ) (bs : List Bool) (k : ℕ) → k < n → getD (pack high-first n bs) k 0 ≡ valueOf high-first (filled 8 (drop (k * 8) bs))
-unfolding pack
-pack-at zero bs k h = absurd (not-suc-le-zero h)
-pack-at (suc n) bs zero h = refl
-pack-at (suc n) bs (suc k) h =
-    let e : 8 + k * 8 ≡ suc k * 8 = omega arith in
-    pack-at n (drop 8 bs) k (le-of-suc-le-suc h)
-    ∙ ap (λ (l : List Bool). valueOf high-first (filled 8 l)) (drop-drop (k * 8) 8 bs ∙ ap (λ (m : ℕ). drop m bs) e)
-
--- zeros are worth nothing
-pub filled-nothing : (w : ℕ) → valueOf high-first (filled w []) ≡ 0
-unfolding valueOf ordered filled
-filled-nothing w = rw (zeros w, reverse-replicate, low-zeros)
-  where
-    zeros : (n : ℕ) → filled n [] ≡ replicate n false
-    zeros zero = refl
-    zeros (suc n) = ap (λ (l : List Bool). false ∷ l) (zeros n)
-
--- two halves of a byte
-pub value-halves : (x y : List Bool) → length y ≡ 4 → valueOf high-first (x ++ y) ≡ valueOf high-first x * 16 + valueOf high-first y
-unfolding valueOf ordered
-value-halves x y e =
-    rw (reverse-append, lowValue-append, length-reverse, e) (omega arith)
-
-pub pack-halves : (n : ℕ) (bs : List Bool) (k : ℕ) → k < n
-    → getD (pack high-first n bs) k 0 ≡ valueOf high-first (filled 4 (drop (k * 8) bs)) * 16 + valueOf high-first (filled 4 (drop (k * 8 + 4) bs))
-pack-halves n bs k h = rw (pack-at n bs k h, filled-add 4 4 (drop (k * 8) bs), value-halves _ _ (length-filled 4 (drop 4 (drop (k * 8) bs))), drop-drop)
 
 -- the cells of a matrix that stands in the front of a grid
 module _ (w d : ℕ) (f : Grid) (small : Small d (2 ^ w) f) (pos : 0 < d) where

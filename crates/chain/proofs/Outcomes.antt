@@ -8,7 +8,7 @@ use Rattle.standard.specs.Bits.{high-first, pack}
 use Rattle.standard.specs.Families.{Variant}
 use Rattle.standard.specs.Chain.{givenOut, run}
 use Rattle.standard.specs.Variants.{variant}
-use Rattle.chain.specs.Layout.{stateRoom, packedState}
+use Rattle.standard.specs.Layout.{stateRoom, packedState}
 use Rattle.chain.specs.Words.{stateInWords, outcome}
 
 -- the words `at` hold the state S, and the words `end` what the blocks make of it

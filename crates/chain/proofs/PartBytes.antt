@@ -29,6 +29,7 @@ use Rattle.standard.proofs.HighBits.{top-bits, top-one}
 use Rattle.standard.proofs.PartBytes.{bits-are, bits-eight, bits-length, uncounted, same-bytes}
 use Rattle.chain.specs.declared.parts.Ending.{Ending}
 use Rattle.chain.specs.declared.parts.Ending.the-variants.{Whole, Bits}
+use Rattle.bytes.proofs.Shifts.{power}
 use Rattle.chain.specs.Messages.{isBitNumber, numberChecks, Fits, messageChecks, Alike}
 use Rattle.chain.specs.Promises.{EightAlike, UncountedAlike}
 use Rattle.chain.specs.Parts.{given, countOf, Marked, messageIn, HoldsMessage}
@@ -66,13 +67,6 @@ spongent-counts = six-to-ten (λ v. (k b : ℕ) → countedOf (variant v .family
 pub lesamnta-counts : (v : ℕ) → v ≡ 11 → (k b : ℕ) → countedOf (variant v .family) k b ≡ b / 2 ^ (8 - k)
 unfolding variant
 lesamnta-counts v e k b = ap (λ (n : ℕ). countedOf (variant n .family) k b) e
-
--- a power that the code makes by a shift
-pub power : (k : ℕ) → k ≤ 8 → 1 * 2 ^ k % 2 ^ 32 ≡ 2 ^ k
-power k h = shl-exact 1 k 32 (omega arith) (omega arith) ∙ one-mul (2 ^ k)
-
-pub power-pos : (k : ℕ) → k ≤ 8 → 0 < 1 * 2 ^ k % 2 ^ 32
-power-pos k h = subst (λ (n : ℕ). 0 < n) (sym (power k h)) (pow-pos k)
 
 -- ---- k bits at the high end of a byte
 

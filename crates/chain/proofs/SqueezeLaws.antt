@@ -23,14 +23,14 @@ use Rattle.standard.specs.Variants.{variant, known}
 use Rattle.standard.proofs.BitLaws.{filled-take, filled-short, length-bitsIn, length-unpack, length-pack, bitsOf-valueOf, bitsIn-take, bitsIn-zeros, take-pack, pack-none, xorInto-zeros}
 use Rattle.standard.proofs.Streaming.{run-one, run-none}
 use Rattle.standard.proofs.Variants.{Bounds, bounds, Rates, rates, WholeBytes, layouts, is-sponge, given-outputs}
-use Rattle.chain.specs.Layout.{stateRoom, blockRoom, packedState}
+use Rattle.standard.specs.Layout.{stateRoom, blockRoom, packedState}
 use Rattle.chain.specs.Blocks.{heldThen, firstBlocks}
-use Rattle.chain.specs.Cells.{cellIn}
+use Rattle.bytes.specs.Cells.{cellIn}
 use Rattle.chain.specs.TakenBack.{permutedState}
 use Rattle.chain.proofs.TakenBack.{permuted-same, permuted-length, step-permutes}
-use Rattle.chain.proofs.LayoutLaws.{packed-bits}
+use Rattle.bytes.proofs.LayoutLaws.{packed-bits}
 use Rattle.chain.proofs.BlockRows.{first-none, first-more, filled-zeros, pack-filled, heldThen-alone}
-use Rattle.chain.proofs.RowsIntoBytes.{read-back, kept-back}
+use Rattle.bytes.proofs.RowsIntoBytes.{read-back, kept-back}
 
 -- r holds p half bytes of the digest, and the first i of the bytes s behind them
 module _ (out s : List ℕ) (lo : length out ≡ stateRoom) (ls : length s ≡ stateRoom) (p i : ℕ) (h : p + i ≤ 64) (r : List ℕ)

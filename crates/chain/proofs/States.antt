@@ -28,12 +28,12 @@ use Rattle.photon.specs.Parameters.{photonOf}
 use Rattle.photon.proofs.ParametersOf.{photon-variant, sound}
 use Rattle.spongent.specs.Parameters.{spongentOf}
 use Rattle.spongent.proofs.ParametersOf.{family-of, bits-of}
-use Rattle.chain.specs.Layout.{blockRoom, stateRoom, packedState}
+use Rattle.standard.specs.Layout.{blockRoom, stateRoom, packedState}
 use Rattle.chain.specs.Holding.{blockIn, Holds, HoldsBlock}
 use Rattle.chain.specs.TakenBack.{permutedState, unstep}
 use Rattle.chain.proofs.TakenBack.{permuted-length}
 use Rattle.chain.proofs.MatrixImage.{matrix-front}
-use Rattle.chain.proofs.LayoutLaws.{state-back, taken-bytes}
+use Rattle.bytes.proofs.LayoutLaws.{state-back, taken-bytes}
 
 -- ---- the two families
 

@@ -37,14 +37,14 @@ use Rattle.spongent.specs.Parameters.{spongentOf}
 use Rattle.spongent.specs.Words.{bytesIn}
 use Rattle.spongent.proofs.ParametersOf.{family-of, bits-of, sizes-of}
 use Rattle.spongent.proofs.WordLaws.{length-bytesIn}
-use Rattle.chain.specs.Cells.{cellIn}
+use Rattle.bytes.specs.Cells.{cellIn}
 use Rattle.chain.specs.Words.{stateInWords}
 use Rattle.chain.specs.TakenBack.{permutedState}
 use Rattle.chain.proofs.TakenBack.{step-permutes}
 use Rattle.standard.specs.Lesamnta.{lesamntaStep}
 use Rattle.standard.proofs.LesamntaLaws as lw
 use Rattle.lesamnta.specs.States.{stateOfFour}
-use Rattle.chain.specs.Layout.{stateRoom, packedState}
+use Rattle.standard.specs.Layout.{stateRoom, packedState}
 use Rattle.chain.proofs.MatrixImage.{matrix-front}
 use Rattle.chain.proofs.CellsIntoWords.{Taken, taken-none, taken-row, columns-are, matrix-xor, block-cell}
 

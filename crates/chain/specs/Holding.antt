@@ -7,7 +7,7 @@ use Prim.Native.Nat.{ℕ}
 use Rattle.standard.specs.Bits.{high-first, unpack}
 use Rattle.standard.specs.Families.{Variant, stateIn}
 use Rattle.standard.specs.Variants.{variant}
-use Rattle.chain.specs.Layout.{packedState, packedBlock}
+use Rattle.standard.specs.Layout.{packedState, packedBlock}
 
 -- the block at the front of bytes
 abbrev pub blockIn : Variant → List ℕ → List Bool

@@ -14,7 +14,7 @@ use Rattle.standard.specs.declared.Direction.{Direction}
 use Rattle.standard.specs.Sponge.{permutation}
 use Rattle.standard.specs.Families.{Family, sponge, lesamnta, Variant, isSponge, order, imageSize, imageOf, stateIn}
 use Rattle.standard.specs.Variants.{variant, known}
-use Rattle.chain.specs.Layout.{clear}
+use Rattle.standard.specs.Layout.{clear}
 
 -- bytes are an image if their length is that of one and no bit past the state's is set
 unfoldable pub isImage : Variant → List ℕ → Bool

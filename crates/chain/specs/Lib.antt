@@ -1,7 +1,5 @@
 -- The definitions that the contracts of this crate cite.
-pub mod Layout
 pub mod Holding
-pub mod Cells
 pub mod Blocks
 pub mod Messages
 pub mod Parts

@@ -16,7 +16,7 @@ use Rattle.photon.specs.Parameters.{photonOf}
 use Rattle.spongent.specs.Words.{bytesIn, LookUps}
 use Rattle.lesamnta.specs.LookUps as boxes
 use Rattle.lesamnta.specs.States.{stateOfFour}
-use Rattle.chain.specs.Layout.{stateRoom, packedState}
+use Rattle.standard.specs.Layout.{stateRoom, packedState}
 
 -- by family: PHOTON's matrix has a column in each word, SPONGENT's bytes stand in order, eight to a word, and Lesamnta-LW's words are its own
 abbrev pub stateOfWords : Family → List ℕ → List Bool

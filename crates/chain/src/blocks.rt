@@ -7,8 +7,9 @@ ghost use lib.ListN.{length, drop, getD};
 ghost use Rattle.standard.specs.Bits.{filled};
 ghost use Rattle.standard.specs.Chain.{step, run};
 ghost use Rattle.standard.specs.Variants.{variant, known};
-ghost use Rattle.chain.specs.Layout.{packedBlock};
-ghost use Rattle.chain.specs.Blocks.{halfIn, heldThen, firstBlocks};
+ghost use Rattle.standard.specs.Layout.{packedBlock};
+ghost use Rattle.chain.specs.Blocks.{heldThen, firstBlocks};
+ghost use Rattle.bytes.specs.Nibbles.{nibbleIn};
 ghost use Rattle.chain.specs.Words.{stateInWords, TableOf};
 use crate::sizes;
 use crate::sizes::BLOCK_BYTES;
@@ -17,21 +18,21 @@ use crate::words;
 // The half byte n of the first p half bytes of `held`, the piece and the last byte.
 fn half_at(held: &[u8], p: usize, piece: &[u8], last: u8, n: usize) -> u8
     requires { ⌜ p ≤ 2 * length (now held) ⌝ }
-    ensures { λ r. ⌜ r ≡ halfIn (heldThen (now (held .entry)) p (now (piece .entry) ++ last ∷ [])) n ⌝ }
+    ensures { λ r. ⌜ r ≡ nibbleIn (heldThen (now (held .entry)) p (now (piece .entry) ++ last ∷ [])) n ⌝ }
 {
     if n < p {
         let i = n / 2;
-        return words::half_of(held[i], n);
+        return bytes::nibbles::nibble_of(held[i], n);
     }
     let m = n - p;
     let k = m / 2;
     if k < piece.len() {
-        return words::half_of(piece[k], m);
+        return bytes::nibbles::nibble_of(piece[k], m);
     }
     if piece.len() < k {
         return 0;
     }
-    words::half_of(last, m)
+    bytes::nibbles::nibble_of(last, m)
 }
 
 // The byte k of q half bytes from the half byte `first` on.

@@ -6,7 +6,7 @@ ghost use lib.Dec.{eqb};
 ghost use Rattle.standard.specs.Families.{stateIn};
 ghost use Rattle.standard.specs.Chain.{run};
 ghost use Rattle.standard.specs.Variants.{variant, known};
-ghost use Rattle.chain.specs.Layout.{packedState, packedBlock};
+ghost use Rattle.standard.specs.Layout.{packedState, packedBlock};
 ghost use Rattle.chain.specs.Holding.{Holds};
 ghost use Rattle.chain.specs.Endings.{lengthBlock, lengthBlocks};
 use crate::outcome;

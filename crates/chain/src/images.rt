@@ -8,7 +8,7 @@ ghost use Rattle.standard.specs.Bits.{high-first, bitsIn};
 ghost use Rattle.standard.specs.declared.Direction.the-variants.{Forward, Backward};
 ghost use Rattle.standard.specs.Families.{isSponge, imageOf, stateIn};
 ghost use Rattle.standard.specs.Variants.{variant, known};
-ghost use Rattle.chain.specs.Layout.{stateRoom, clear};
+ghost use Rattle.standard.specs.Layout.{stateRoom, clear};
 ghost use Rattle.chain.specs.TakenBack.{permutedState};
 ghost use Rattle.chain.specs.Images.{isImage, imageStatus, permutedImage};
 use crate::sizes;
@@ -18,54 +18,14 @@ use standard::Direction;
 use answers::Refusal;
 use answers::Status;
 
-// Whether every byte from k on is zero.
-fn zero_from(bytes: &[u8], k: usize) -> bool
-    ensures { λ r. ⌜ r ≡ clear (bitsIn high-first (drop k (now (bytes .entry)))) ⌝ }
-{
-    let mut i = k;
-    while i < bytes.len() {
-        if bytes[i] != 0 {
-            return false;
-        }
-        i += 1;
-    }
-    true
-}
-
-// Whether no bit from bit c on is set, a byte's highest bit first.
-pub fn clear_from(bytes: &[u8], c: usize) -> bool
-    ensures { λ r. ⌜ r ≡ clear (drop c (bitsIn high-first (now (bytes .entry)))) ⌝ }
-{
-    let k = c / 8;
-    if bytes.len() <= k {
-        return true;
-    }
-    if (bytes[k] as u32) % (1 << (8 - c % 8)) != 0 {
-        return false;
-    }
-    zero_from(bytes, k + 1)
-}
-
 // The bytes at the front of 36, zeros behind them.
 pub fn at_front(bytes: &[u8]) -> [u8; STATE_BYTES]
     requires { ⌜ length (now bytes) ≤ stateRoom ⌝ }
     ensures { λ r. ⌜ r ≡ now (bytes .entry) ++ replicate (stateRoom - length (now (bytes .entry))) 0 ⌝ }
 {
     let mut out = [0u8; STATE_BYTES];
-    copy_front(bytes, bytes.len(), &mut out);
+    bytes::copies::copy_front(bytes, bytes.len(), &mut out);
     out
-}
-
-// The first n bytes of s written over the front of out.
-pub fn copy_front(s: &[u8], n: usize, out: &mut [u8])
-    requires { ⌜ (n ≤ length (now s)) × (n ≤ length (now out)) ⌝ }
-    ensures { λ _. ⌜ now (out .exit) ≡ take n (now (s .entry)) ++ drop n (now (out .entry)) ⌝ }
-{
-    let mut i = 0;
-    while i < n {
-        out[i] = s[i];
-        i += 1;
-    }
 }
 
 // Whether the bytes are an image of the variant.
@@ -76,7 +36,7 @@ pub fn is_image(v: u8, image: &[u8]) -> bool
     if image.len() != sizes::image_bytes(v) {
         return false;
     }
-    clear_from(image, sizes::state_bits(v))
+    bytes::bits::clear_from(image, sizes::state_bits(v))
 }
 
 // The state of a sponge's image, permuted in place.
@@ -87,7 +47,7 @@ fn permute_state(v: u8, image: &mut [u8], way: Direction)
 {
     let s = at_front(image);
     let r = step::permuted(v, s, way);
-    copy_front(&r, sizes::image_bytes(v), image);
+    bytes::copies::copy_front(&r, sizes::image_bytes(v), image);
 }
 
 // Both directions of the public operation: the checks in order, then the bytes through the permutation.

@@ -6,11 +6,11 @@ ghost use Rattle.standard.specs.Bits.{high-first, bitsIn, pack};
 ghost use Rattle.standard.specs.ForCode.{direction, window, Small};
 ghost use Rattle.standard.specs.Families.{stateIn};
 ghost use Rattle.standard.specs.Variants.{variant};
-ghost use Rattle.chain.specs.Layout.{stateRoom, packedState};
+ghost use Rattle.standard.specs.Layout.{stateRoom, packedState};
 ghost use Rattle.chain.specs.TakenBack.{permutedState};
 ghost use mathlib.Core.Logic.{_⊎_};
 ghost use Rattle.photon.specs.Parameters.{photonOf};
-ghost use Rattle.chain.specs.Cells.{cellIn, nth};
+ghost use Rattle.bytes.specs.Cells.{cellIn, nth};
 ghost use Rattle.standard.specs.Photon.{matrixOf, bitsOfMatrix};
 use crate::sizes::STATE_BYTES;
 

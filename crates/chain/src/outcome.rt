@@ -8,7 +8,7 @@ ghost use Rattle.standard.specs.declared.Direction.the-variants.{Forward};
 ghost use Rattle.standard.specs.Families.{isSponge, stateIn};
 ghost use Rattle.standard.specs.Chain.{run};
 ghost use Rattle.standard.specs.Variants.{variant, known};
-ghost use Rattle.chain.specs.Layout.{packedState};
+ghost use Rattle.standard.specs.Layout.{packedState};
 ghost use Rattle.chain.specs.Holding.{Holds};
 ghost use Rattle.chain.specs.Blocks.{heldThen, firstBlocks};
 ghost use Rattle.chain.specs.TakenBack.{permutedState};

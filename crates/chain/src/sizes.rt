@@ -7,7 +7,7 @@ ghost use Rattle.standard.specs.Chain.{blockCount};
 ghost use Rattle.standard.specs.Variants.{variant, known};
 ghost use Rattle.standard.specs.ForCode.{outputBits};
 ghost use Rattle.answers.specs.Outputs.{mostBits};
-ghost use Rattle.chain.specs.Layout.{stateRoom};
+ghost use Rattle.standard.specs.Layout.{stateRoom};
 ghost use Rattle.chain.specs.Endings.{markedCount};
 
 // Room for the state of every variant, for a block and for a digest.

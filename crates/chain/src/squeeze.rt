@@ -12,7 +12,7 @@ ghost use Rattle.standard.specs.Families.{isSponge};
 ghost use Rattle.standard.specs.Chain.{givenOut};
 ghost use Rattle.standard.specs.ForCode.{outputBits};
 ghost use Rattle.standard.specs.Variants.{variant, known};
-ghost use Rattle.chain.specs.Layout.{stateRoom};
+ghost use Rattle.standard.specs.Layout.{stateRoom};
 ghost use Rattle.chain.specs.TakenBack.{permutedState};
 ghost use Rattle.chain.specs.Words.{stateInWords, TableOf};
 use crate::sizes;
@@ -28,7 +28,7 @@ fn put_front(out: &mut [u8], p: usize, s: &[u8], q: usize)
 {
     let mut i: usize = 0;
     while i < q {
-        words::put_half(out, p + i, words::half_of(s[i / 2], i));
+        bytes::nibbles::put_nibble(out, p + i, bytes::nibbles::nibble_of(s[i / 2], i));
         i += 1;
     }
 }

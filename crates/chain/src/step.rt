@@ -8,7 +8,7 @@ ghost use Rattle.standard.specs.ForCode.{direction};
 ghost use Rattle.standard.specs.Families.{isSponge, stateIn};
 ghost use Rattle.standard.specs.Chain.{startState};
 ghost use Rattle.standard.specs.Variants.{variant, known};
-ghost use Rattle.chain.specs.Layout.{stateRoom, packedState};
+ghost use Rattle.standard.specs.Layout.{stateRoom, packedState};
 ghost use Rattle.chain.specs.Holding.{blockIn, Holds, HoldsBlock};
 ghost use Rattle.chain.specs.TakenBack.{permutedState, unstep};
 use crate::matrix;

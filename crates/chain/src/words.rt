@@ -16,9 +16,9 @@ ghost use Rattle.standard.specs.ForCode.{outputBits};
 ghost use Rattle.photon_tables.specs.Columns.{placeIn};
 ghost use Rattle.photon.specs.Parameters.{photonOf};
 ghost use Rattle.photon.specs.Words.{matrixIn};
-ghost use Rattle.chain.specs.Layout.{stateRoom, packedState};
-ghost use Rattle.chain.specs.Blocks.{halfOf};
-ghost use Rattle.chain.specs.Cells.{cellIn};
+ghost use Rattle.standard.specs.Layout.{stateRoom, packedState};
+ghost use Rattle.bytes.specs.Nibbles.{nibbleOf};
+ghost use Rattle.bytes.specs.Cells.{cellIn};
 ghost use Rattle.chain.specs.Words.{stateInWords, TableOf};
 use crate::sizes;
 use crate::sizes::STATE_BYTES;
@@ -49,20 +49,10 @@ fn byte_bit(i: usize) -> usize
     }
 }
 
-// A half of the byte x: the upper one where n is even.
-pub fn half_of(x: u8, n: usize) -> u8
-    ensures { λ r. ⌜ r ≡ halfOf x n ⌝ }
-{
-    if n % 2 == 0 {
-        return x / 16;
-    }
-    x % 16
-}
-
 fn half(x: u8, n: usize) -> u64
-    ensures { λ r. ⌜ (r ≡ halfOf x n) × (r < 16) ⌝ }
+    ensures { λ r. ⌜ (r ≡ nibbleOf x n) × (r < 16) ⌝ }
 {
-    half_of(x, n) as u64
+    bytes::nibbles::nibble_of(x, n) as u64
 }
 
 fn whole(x: u8) -> u64
@@ -154,27 +144,6 @@ pub fn words_of(v: u8, s: [u8; STATE_BYTES]) -> [u64; 8]
 
 // ---- columns into bytes
 
-// A half byte as the half n of bytes: the upper one where n is even.
-fn lifted(x: u8, n: usize) -> u8
-    requires { ⌜ x < 16 ⌝ }
-    ensures { λ r. ⌜ r ≡ cond (eqb (n % 2) 0) (x * 16) x ⌝ }
-{
-    if n % 2 == 0 {
-        return x * 16;
-    }
-    x
-}
-
-// The half byte x behind the first p half bytes, which are all that the bytes hold.
-pub fn put_half(out: &mut [u8], p: usize, x: u8)
-    requires { ⌜ (p < 2 * length (now out)) × (x < 16) ⌝ }
-    requires { ⌜ now out ≡ pack high-first (length (now out)) (unpack high-first (4 * p) (now out)) ⌝ }
-    ensures { λ _. ⌜ now (out .exit) ≡ pack high-first (length (now (out .entry))) (unpack high-first (4 * p) (now (out .entry)) ++ bitsOf high-first 4 x) ⌝ }
-{
-    let k = p / 2;
-    out[k] = out[k] ^ lifted(x, p);
-}
-
 // A cell of four bits, and of eight.
 fn cell4(w: u64, bit: usize) -> u8
     requires { ⌜ bit < 64 ⌝ }
@@ -199,7 +168,7 @@ fn put_row4(out: &mut [u8], w: &[u64; 8], d: usize, bit: usize, p: usize)
 {
     let mut j: usize = 0;
     while j < d {
-        put_half(out, p + j, cell4(w[j], bit));
+        bytes::nibbles::put_nibble(out, p + j, cell4(w[j], bit));
         j += 1;
     }
 }
@@ -210,8 +179,8 @@ fn put_byte(out: &mut [u8], p: usize, x: u8)
     requires { ⌜ now out ≡ pack high-first stateRoom (unpack high-first (4 * p) (now out)) ⌝ }
     ensures { λ _. ⌜ now (out .exit) ≡ pack high-first stateRoom (unpack high-first (4 * p) (now (out .entry)) ++ bitsOf high-first 8 x) ⌝ }
 {
-    put_half(out, p, x / 16);
-    put_half(out, p + 1, x % 16);
+    bytes::nibbles::put_nibble(out, p, x / 16);
+    bytes::nibbles::put_nibble(out, p + 1, x % 16);
 }
 
 // A row of six cells of eight bits behind the first p half bytes.

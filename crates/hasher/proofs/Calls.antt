@@ -25,7 +25,7 @@ use Rattle.standard.proofs.BitLaws.{length-pack, take-pack}
 use Rattle.standard.proofs.Tests.{lt-or-le, either}
 use Rattle.standard.proofs.Variants.{Bounds, bounds, not-sponge}
 use Rattle.chain.proofs.Outcomes.{either-way}
-use Rattle.chain.specs.Layout.{stateRoom, packedState}
+use Rattle.standard.specs.Layout.{stateRoom, packedState}
 use Rattle.chain.specs.Words.{outcome}
 use Rattle.chain.specs.Blocks.{firstBlocks}
 use Rattle.chain.specs.declared.parts.Ending.{Ending}

@@ -21,7 +21,7 @@ use Rattle.answers.specs.declared.Status.the-variants.{Done}
 use Rattle.answers.specs.Checks.{firstRefusal}
 use Rattle.answers.specs.Outputs.{written, most, mostBits}
 use Rattle.answers.proofs.Rows.{row-second}
-use Rattle.chain.specs.Layout.{packedState, packedBlock}
+use Rattle.standard.specs.Layout.{packedState, packedBlock}
 use Rattle.chain.specs.Messages.{Fits, messageChecks}
 use Rattle.chain.proofs.PartBytes.{message-passes}
 use Rattle.hasher.specs.declared.Hasher.{Hasher}

@@ -17,7 +17,7 @@ use Rattle.standard.proofs.BitLaws.{length-pack, unpack-pack, length-bitsIn, bi
 use Rattle.standard.proofs.Streaming.{Streams, run-append, run-none, run-length, length-rest, whole-append, rest-append, whole-short, rest-short}
 use Rattle.standard.proofs.Variants.{Bounds, bounds, streams}
 use Rattle.answers.specs.Outputs.{mostBits}
-use Rattle.chain.specs.Layout.{stateRoom, blockRoom, packedState, packedBlock}
+use Rattle.standard.specs.Layout.{stateRoom, blockRoom, packedState, packedBlock}
 use Rattle.chain.proofs.States.{stored}
 use Rattle.hasher.specs.declared.Hasher.{Hasher}
 use Rattle.hasher.specs.Running.{variantOf, heldCount, wholeSoFar, heldIn, stateOf, going, grown, ended}

@@ -13,8 +13,8 @@ use Rattle.standard.specs.Messages.{byteBits, countedOf, messageBits}
 use Rattle.standard.specs.PartBytes.{beforeLast, lastOf}
 use Rattle.standard.proofs.BitLaws.{length-bitsIn, bitsIn-append, bitsIn-zeros}
 use Rattle.standard.proofs.PartBytes.{front-size, bits-are, bits-length}
-use Rattle.chain.specs.Layout.{clear}
-use Rattle.chain.proofs.Clear.{zeros-clear}
+use Rattle.standard.specs.Layout.{clear}
+use Rattle.bytes.proofs.Clear.{zeros-clear}
 
 -- bytes that hold the bits m and zeros
 module _ (m : List Bool) (z : ℕ) (bytes : List ℕ) (e : bitsIn high-first bytes ≡ m ++ replicate z false) (n : ℕ) (en : n ≡ length m) where

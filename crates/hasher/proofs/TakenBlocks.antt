@@ -15,11 +15,11 @@ use Rattle.standard.proofs.BitLaws.{length-bitsOf, length-unpack, bitsIn-drop, 
 use Rattle.standard.proofs.Streaming.{Streams, length-rest, run-append, run-length}
 use Rattle.standard.proofs.Variants.{Bounds, bounds, streams}
 use Rattle.answers.specs.Outputs.{mostBits}
-use Rattle.chain.specs.Layout.{blockRoom, packedState, packedBlock, clear}
+use Rattle.standard.specs.Layout.{blockRoom, packedState, packedBlock, clear}
 use Rattle.chain.specs.Holding.{Holds}
 use Rattle.chain.specs.Endings.{markedCount, lengthBlocks}
 use Rattle.chain.specs.Blocks.{heldThen, firstBlocks}
-use Rattle.chain.proofs.Clear.{first-byte, clear-zeros}
+use Rattle.bytes.proofs.Clear.{first-byte, clear-zeros}
 use Rattle.chain.proofs.BlockRows.{withOne, whole-first, first-zeros, filled-zeros, pack-zeros}
 use Rattle.chain.proofs.LastBlocks.{ending-blocks}
 use Rattle.chain.proofs.States.{stored, stored-ready}

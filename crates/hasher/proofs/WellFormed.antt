@@ -18,9 +18,9 @@ use Rattle.standard.proofs.Tests.{and-true, either}
 use Rattle.standard.proofs.BitLaws.{length-bitsIn, length-unpack, image-eq}
 use Rattle.standard.proofs.Variants.{Bounds, bounds, WholeBytes, layouts}
 use Rattle.answers.specs.Outputs.{mostBits}
-use Rattle.chain.specs.Layout.{stateRoom, blockRoom, packedState, packedBlock, clear}
-use Rattle.chain.proofs.Clear.{clear-zeros, zeros-clear, clear-order}
-use Rattle.chain.proofs.LayoutLaws.{packed-bits}
+use Rattle.standard.specs.Layout.{stateRoom, blockRoom, packedState, packedBlock, clear}
+use Rattle.bytes.proofs.Clear.{clear-zeros, zeros-clear, clear-order}
+use Rattle.bytes.proofs.LayoutLaws.{packed-bits}
 use Rattle.chain.proofs.States.{state-length}
 use Rattle.hasher.specs.declared.Hasher.{Hasher}
 use Rattle.hasher.specs.Running.{variantOf, closed, heldCount, wholeSoFar, heldIn, stateOf, wellFormed}

@@ -12,7 +12,7 @@ use Rattle.standard.specs.Variants.{variant, known}
 use Rattle.standard.proofs.Streaming.{run-append, run-length, run-none}
 use Rattle.standard.proofs.Variants.{streams}
 use Rattle.answers.specs.Outputs.{mostBits}
-use Rattle.chain.specs.Layout.{packedState}
+use Rattle.standard.specs.Layout.{packedState}
 use Rattle.chain.specs.Holding.{Holds}
 use Rattle.chain.specs.Blocks.{heldThen, firstBlocks}
 use Rattle.chain.specs.Endings.{markedCount, lengthBlock, lengthBlocks}

@@ -14,7 +14,7 @@ use Rattle.standard.specs.Variants.{variant, known}
 use Rattle.answers.specs.declared.Refusal.the-variants.{UnknownVariant, Malformed, WrongStage, TooLong, InsideByte}
 use Rattle.answers.specs.Checks.{Check, unless, when, firstRefusal}
 use Rattle.answers.specs.Outputs.{whenDone, mostBits}
-use Rattle.chain.specs.Layout.{stateRoom, blockRoom, packedState, packedBlock, clear}
+use Rattle.standard.specs.Layout.{stateRoom, blockRoom, packedState, packedBlock, clear}
 use Rattle.chain.specs.Messages.{numberChecks}
 use Rattle.hasher.specs.declared.Hasher.{Hasher}
 use Rattle.hasher.specs.declared.Advanced.{Advanced}

@@ -2,7 +2,7 @@
 -- Assumes nothing.
 use mathlib.Core.Path.{_≡_}
 use lib.ListN.{length}
-use Rattle.chain.specs.Layout.{stateRoom, blockRoom}
+use Rattle.standard.specs.Layout.{stateRoom, blockRoom}
 use Rattle.hasher.specs.declared.Hasher.{Hasher}
 
 pub record Sized (h : Hasher) : Type 0 where

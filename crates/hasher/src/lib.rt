@@ -12,7 +12,7 @@ ghost use Rattle.standard.specs.Variants.{variant, known};
 ghost use Rattle.answers.specs.declared.Status.the-variants.{Done};
 ghost use Rattle.answers.specs.Checks.{firstRefusal};
 ghost use Rattle.answers.specs.Outputs.{written, most, mostBits};
-ghost use Rattle.chain.specs.Layout.{blockRoom, clear};
+ghost use Rattle.standard.specs.Layout.{blockRoom, clear};
 ghost use Rattle.chain.specs.Holding.{Holds};
 ghost use Rattle.chain.specs.Messages.{isBitNumber, numberChecks};
 ghost use Rattle.chain.specs.Parts.{given, messageIn, HoldsMessage};
@@ -72,11 +72,11 @@ pub fn is_well_formed(h: Hasher) -> bool
         return false;
     }
     let state = h.state;
-    if !chain::images::clear_from(&state, chain::sizes::state_bits(v)) {
+    if !bytes::bits::clear_from(&state, chain::sizes::state_bits(v)) {
         return false;
     }
     let held = h.held;
-    chain::images::clear_from(&held, held_count(h))
+    bytes::bits::clear_from(&held, held_count(h))
 }
 
 // ---- checks
@@ -355,9 +355,9 @@ fn write_result(v: u8, wanted: Wanted, state: [u8; STATE_BYTES], out: &mut [u8])
         Wanted::Digest => {
             let none: [u8; 0] = [];
             let digest = chain::outcome::outcome_after(v, state, &none, 0, &none, 0, 0, true);
-            chain::images::copy_front(&digest, n, out);
+            bytes::copies::copy_front(&digest, n, out);
         }
-        Wanted::EndState => chain::images::copy_front(&state, n, out),
+        Wanted::EndState => bytes::copies::copy_front(&state, n, out),
     }
 }
 
@@ -460,7 +460,7 @@ pub fn whole_with(
     };
     let v = variant as u8;
     let result = end_of_given(v, message, ending, wanted);
-    chain::images::copy_front(&result, result_size(v, wanted), out);
+    bytes::copies::copy_front(&result, result_size(v, wanted), out);
     Status::Done
 }
 

@@ -10,7 +10,7 @@ use lib.ListN.{length, replicate}
 use Rattle.answers.specs.Numbers.{Bytes, inBytes}
 use Rattle.standard.specs.Grid.{tab}
 use Rattle.standard.specs.Variants.{known}
-use Rattle.chain.specs.Layout.{digestRoom}
+use Rattle.standard.specs.Layout.{digestRoom}
 use Rattle.manifest.specs.Lists.{howMany, firstBelow}
 use Rattle.manifest.specs.Records.{mostRecords, recordCount, axisAt, variantAt, digestBytes, digestAt}
 

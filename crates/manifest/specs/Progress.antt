@@ -10,7 +10,7 @@ use lib.ListN.{replicate, getD, set}
 use Rattle.answers.specs.Outputs.{whenDone, most}
 use Rattle.standard.specs.Bits.{digit}
 use Rattle.standard.specs.Grid.{tab}
-use Rattle.chain.specs.Layout.{digestRoom}
+use Rattle.standard.specs.Layout.{digestRoom}
 use Rattle.hasher.specs.declared.Hasher.{Hasher}
 use Rattle.standard.specs.declared.Wanted.the-variants.{Digest}
 use Rattle.hasher.specs.Running.{blank, started, finished}

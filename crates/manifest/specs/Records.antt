@@ -10,7 +10,7 @@ use Rattle.answers.specs.declared.Status.{Status}
 use Rattle.answers.specs.Checks.{Check, unless, firstRefusal, each}
 use Rattle.answers.specs.Numbers.{bigEndian}
 use Rattle.standard.specs.Variants.{variant, known}
-use Rattle.chain.specs.Layout.{digestRoom}
+use Rattle.standard.specs.Layout.{digestRoom}
 
 -- the bytes of a record, and the most records
 abbrev pub recordBytes : ℕ

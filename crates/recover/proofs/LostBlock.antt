@@ -18,8 +18,8 @@ use Rattle.standard.specs.Chain.{blockCount}
 use Rattle.standard.specs.Messages.{Given, givenBits}
 use Rattle.standard.specs.Variants.{variant, known}
 use Rattle.standard.proofs.Tests.{either, true-not-false}
-use Rattle.chain.specs.Layout.{clear}
-use Rattle.chain.proofs.Clear.{clear-zeros, zeros-clear}
+use Rattle.standard.specs.Layout.{clear}
+use Rattle.bytes.proofs.Clear.{clear-zeros, zeros-clear}
 use Rattle.chain.proofs.ImageLaws.{image-state}
 use Rattle.chain.specs.Messages.{messageChecks}
 use Rattle.chain.proofs.PartBytes.{message-passed}

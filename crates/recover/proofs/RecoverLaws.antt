@@ -28,12 +28,12 @@ use Rattle.standard.proofs.BitLaws.{length-bitsIn, length-pack, bitsIn-take, im
 use Rattle.standard.proofs.Streaming.{block-count}
 use Rattle.standard.proofs.Tests.{true-not-false}
 use Rattle.standard.proofs.Variants.{Bounds, bounds, WholeBytes, layouts}
-use Rattle.chain.specs.Layout.{packedState, clear}
+use Rattle.standard.specs.Layout.{packedState, clear}
 use Rattle.chain.specs.Holding.{Holds}
 use Rattle.chain.specs.Images.{isImage}
 use Rattle.chain.proofs.ImageLaws.{image-ready, image-state, image-read}
-use Rattle.chain.proofs.Clear.{clear-append, clear-zeros, zeros-clear, clear-order}
-use Rattle.chain.proofs.LayoutLaws.{packed-bits}
+use Rattle.bytes.proofs.Clear.{clear-append, clear-zeros, zeros-clear, clear-order}
+use Rattle.bytes.proofs.LayoutLaws.{packed-bits}
 use Rattle.chain.proofs.SqueezeLaws.{output-bits}
 use Rattle.recover.specs.Difference.{difference}
 use Rattle.recover.specs.Recovering.{isEmpty, blockSize, searchable, placedChecks, leadingTo, foundChecks, recoveredBlock, recoverStatus, recoverInto}

@@ -22,7 +22,7 @@ use Rattle.standard.proofs.Sponge.{padding-sponge}
 use Rattle.standard.proofs.Streaming.{Streams, block-count, run-length}
 use Rattle.standard.proofs.PartBytes.{bit-block-count}
 use Rattle.standard.proofs.Variants.{bounds, streams, is-sponge}
-use Rattle.chain.specs.Layout.{stateRoom, packedState, packedBlock}
+use Rattle.standard.specs.Layout.{stateRoom, packedState, packedBlock}
 use Rattle.chain.specs.Holding.{blockIn, Holds}
 use Rattle.chain.specs.TakenBack.{permutedState, unstep, unrun}
 use Rattle.chain.proofs.TakenBack.{unrun-one, unrun-none, unrun-length, wanted-length}
@@ -31,7 +31,7 @@ use Rattle.chain.proofs.BlockRows.{withOne, length-first, first-take, marked-at
 use Rattle.chain.specs.Endings.{markedCount, lengthBlocks}
 use Rattle.chain.proofs.LastBlocks.{ending-blocks, place-marked, count-most}
 use Rattle.chain.proofs.BlockRuns.{block-read, block-is, place-le}
-use Rattle.chain.proofs.LayoutLaws.{packed-bits, holds}
+use Rattle.bytes.proofs.LayoutLaws.{packed-bits, holds}
 use Rattle.chain.proofs.States.{stored, stored-ready}
 use Rattle.recover.specs.Difference.{stateBefore, stateBehind, between, difference}
 use Rattle.recover.proofs.Searching.{between-sponge}

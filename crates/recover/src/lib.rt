@@ -12,7 +12,7 @@ ghost use Rattle.standard.specs.Variants.{variant, known};
 ghost use Rattle.answers.specs.declared.Status.the-variants.{Done};
 ghost use Rattle.answers.specs.Checks.{firstRefusal};
 ghost use Rattle.answers.specs.Outputs.{written};
-ghost use Rattle.chain.specs.Layout.{packedState};
+ghost use Rattle.standard.specs.Layout.{packedState};
 ghost use Rattle.chain.specs.Holding.{Holds};
 ghost use Rattle.chain.specs.Parts.{given, messageIn, HoldsMessage};
 ghost use Rattle.recover.specs.Difference.{stateBehind, between, difference};
@@ -131,10 +131,10 @@ fn put_block(
 {
     let end = images::at_front(image);
     let block = difference(v, front, last, bits, place, end);
-    if !images::clear_from(&block, sizes::block_bits(v) as usize) {
+    if !bytes::bits::clear_from(&block, sizes::block_bits(v) as usize) {
         return Status::Refused(Refusal::NoBlock);
     }
-    images::copy_front(&block, block_bytes(v), out);
+    bytes::copies::copy_front(&block, block_bytes(v), out);
     Status::Done
 }
 

@@ -13,6 +13,7 @@ pub mod Sponge
 pub mod Chain
 pub mod Messages
 pub mod Variants
+pub mod Layout
 pub mod ForCode
 pub mod PartBytes
 pub mod Values

@@ -71,9 +71,9 @@ fn step(value: [u8; 32], block: &[u8]) -> [u8; 32]
     requires { ⌜ 16 ≤ length (now block) ⌝ }
 {
     let mut key = [0u8; 16];
-    chain::images::copy_front(&value, 16, &mut key);
+    bytes::copies::copy_front(&value, 16, &mut key);
     let mut state = value;
-    chain::images::copy_front(block, 16, &mut state);
+    bytes::copies::copy_front(block, 16, &mut state);
     let after = lesamnta::encrypt(key, state);
     line(b"encrypt", key, state, after);
     line(b"decrypt", key, after, lesamnta::decrypt(key, after));
@@ -84,7 +84,7 @@ fn step(value: [u8; 32], block: &[u8]) -> [u8; 32]
 fn steps() {
     let start = chain::step::start(11);
     let mut value = [0u8; 32];
-    chain::images::copy_front(&start, 32, &mut value);
+    bytes::copies::copy_front(&start, 32, &mut value);
     let next = step(
         value,
         b"abc\x80\x00\x00\x00\x00\x00\x00\x00\x00\x00\x00\x00\x00",

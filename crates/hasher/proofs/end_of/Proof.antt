@@ -5,7 +5,7 @@ use native.Mathlib.Omega.{arith}
 use borrow.Author.Needs.{needs}
 use Rattle.standard.specs.Chain.{run}
 use Rattle.standard.specs.Variants.{variant}
-use Rattle.chain.specs.Layout.{packedState}
+use Rattle.standard.specs.Layout.{packedState}
 use Rattle.chain.specs.Words.{outcome}
 use Rattle.hasher.proofs.Calls.{outcome-front, other-front}
 use Rattle.hasher.proofs.WholeRuns.{start-ready, count-most, sponge-run, marked-ready, marked-run}

@@ -6,7 +6,7 @@ use native.Mathlib.Omega.{arith}
 use borrow.Author.Needs.{needs}
 use Rattle.standard.specs.Families.{stateIn}
 use Rattle.standard.specs.Chain.{run}
-use Rattle.chain.specs.Layout.{packedState}
+use Rattle.standard.specs.Layout.{packedState}
 use Rattle.chain.specs.Blocks.{heldThen, firstBlocks}
 use Rattle.chain.specs.Endings.{markedCount}
 use Rattle.hasher.specs.Running.{variantOf}

@@ -5,7 +5,7 @@ use Prim.Native.Nat.{ℕ}
 use borrow.Author.Needs.{needs}
 use Rattle.standard.specs.Bits.{high-first}
 use Rattle.standard.proofs.BitLaws.{pack-none}
-use Rattle.chain.specs.Layout.{blockRoom}
+use Rattle.standard.specs.Layout.{blockRoom}
 use Rattle.hasher.proofs.fresh.Statement.{statement}
 use Rattle.hasher.proofs.fresh.Tie as tie
 

@@ -2,7 +2,7 @@
 use native.Mathlib.Omega.{arith}
 use borrow.Author.Needs.{needs}
 use Rattle.bytes.proofs.Elements.{bytes-lt}
-use Rattle.chain.specs.Layout.{stateRoom}
+use Rattle.standard.specs.Layout.{stateRoom}
 use Rattle.recover.proofs.Runs.{cipher-between}
 use Rattle.recover.proofs.cipher_difference.Statement.{statement}
 use Rattle.recover.proofs.cipher_difference.Tie as tie

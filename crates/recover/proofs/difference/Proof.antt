@@ -14,7 +14,7 @@ use Rattle.standard.specs.Variants.{variant}
 use Rattle.standard.proofs.Tests.{true-not-false}
 use Rattle.standard.proofs.Variants.{streams, not-sponge}
 use Rattle.bytes.proofs.Elements.{bytes-lt}
-use Rattle.chain.specs.Layout.{stateRoom, packedState}
+use Rattle.standard.specs.Layout.{stateRoom, packedState}
 use Rattle.chain.specs.Holding.{Holds}
 use Rattle.chain.specs.Parts.{messageIn}
 use Rattle.chain.proofs.States.{state-length, stored-ready}

@@ -8,7 +8,7 @@ use Rattle.standard.specs.Families.{stateIn}
 use Rattle.standard.specs.Chain.{blocksOf}
 use Rattle.standard.specs.Variants.{variant}
 use Rattle.chain.specs.TakenBack.{unrun}
-use Rattle.chain.specs.Layout.{packedState}
+use Rattle.standard.specs.Layout.{packedState}
 use Rattle.chain.specs.Blocks.{heldThen}
 use Rattle.chain.proofs.BlockRuns.{few-halves, block-at-ready}
 use Rattle.chain.proofs.States.{state-length}

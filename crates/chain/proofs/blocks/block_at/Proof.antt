@@ -6,7 +6,7 @@ use native.Mathlib.Omega.{arith}
 use lib.ListN.{drop, getD, replicate, getD-replicate}
 use Rattle.standard.specs.Bits.{filled}
 use Rattle.bytes.proofs.Upto.{Upto, upto-none, upto-more}
-use Rattle.chain.specs.Layout.{blockRoom, packedBlock}
+use Rattle.standard.specs.Layout.{blockRoom, packedBlock}
 use Rattle.chain.specs.Blocks.{heldThen}
 use Rattle.chain.proofs.BlockHalves.{bytes-are}
 use Rattle.chain.proofs.blocks.block_at.Statement.{statement}

@@ -9,7 +9,7 @@ use Rattle.chain.proofs.blocks.half_at.Tie as tie
 returns : tie.Need-returns
 returns c =
     let a = c .before .before .before .before .before .args in
-    c .half-of .ensures
+    c .nibble-of .ensures
     ∙ half-held (a .held .now) (a .p) (omega arith) (a .n) _ (λ i. omega (arith, c .before .shared-slice-known3 .given i)) (omega arith)
 
 returns-2 : tie.Need-returns-2

@@ -8,7 +8,7 @@ use Rattle.standard.specs.Families.{stateIn}
 use Rattle.standard.specs.Chain.{run}
 use Rattle.standard.specs.Variants.{variant}
 use Rattle.standard.proofs.Streaming.{run-none}
-use Rattle.chain.specs.Layout.{packedState}
+use Rattle.standard.specs.Layout.{packedState}
 use Rattle.chain.specs.Endings.{lengthBlock}
 use Rattle.chain.proofs.LastBlocks.{length-run}
 use Rattle.chain.proofs.endings.ended.Statement.{statement}

@@ -4,8 +4,8 @@ use Prim.Native.Nat.{ℕ}
 use lib.ListN.{length}
 use lib.Seq.{take-length}
 use borrow.Author.Needs.{needs}
-use Rattle.chain.specs.Layout.{stateRoom}
-use Rattle.chain.proofs.Front.{drop-replicate}
+use Rattle.standard.specs.Layout.{stateRoom}
+use Rattle.bytes.proofs.Front.{drop-replicate}
 use Rattle.chain.proofs.images.at_front.Statement.{statement}
 use Rattle.chain.proofs.images.at_front.Tie as tie
 

@@ -2,7 +2,7 @@
 use native.Mathlib.Omega.{arith}
 use Rattle.standard.proofs.Variants.{bounds}
 use Rattle.bytes.proofs.Elements.{bytes-lt}
-use Rattle.chain.specs.Layout.{stateRoom}
+use Rattle.standard.specs.Layout.{stateRoom}
 use Rattle.chain.proofs.ImageLaws.{image-length, image-ready, image-permuted}
 use borrow.Author.Needs.{needs}
 use Rattle.chain.proofs.images.permute_state.Statement.{statement}

@@ -2,7 +2,7 @@
 use mathlib.Core.Path.{_∙_}
 use Prim.Native.Nat.{_+_, _*_}
 use native.Mathlib.Omega.{arith}
-use Rattle.chain.proofs.CellLaws.{narrow}
+use Rattle.bytes.proofs.CellLaws.{narrow}
 use Rattle.chain.proofs.MatrixImage.{cell-lt, byte-narrow, byte-wide}
 use borrow.Author.Needs.{needs}
 use Rattle.chain.proofs.matrix.byte_of.Statement.{statement}

@@ -9,7 +9,7 @@ use Rattle.standard.specs.ForCode.{window}
 use Rattle.standard.specs.Photon.{bitsOfMatrix}
 use Rattle.standard.proofs.BitLaws.{length-pack}
 use Rattle.bytes.proofs.Upto.{Upto, upto-none, upto-more}
-use Rattle.chain.specs.Layout.{stateRoom}
+use Rattle.standard.specs.Layout.{stateRoom}
 use Rattle.chain.proofs.matrix.bytes_of.Statement.{statement}
 use Rattle.chain.proofs.matrix.bytes_of.Tie as tie
 

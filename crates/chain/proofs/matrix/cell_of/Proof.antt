@@ -1,8 +1,8 @@
 -- `chain::matrix::cell_of` meets its contract: a byte, or one of its halves. Assumes nothing.
 use native.Mathlib.Omega.{arith}
 use Rattle.bytes.proofs.Elements.{bytes-lt}
-use Rattle.chain.specs.Layout.{stateRoom}
-use Rattle.chain.proofs.CellLaws.{narrow, cell-wide, cell-past, cell-even, cell-odd}
+use Rattle.standard.specs.Layout.{stateRoom}
+use Rattle.bytes.proofs.CellLaws.{narrow, cell-wide, cell-past, cell-even, cell-odd}
 use borrow.Author.Needs.{needs}
 use Rattle.chain.proofs.matrix.cell_of.Statement.{statement}
 use Rattle.chain.proofs.matrix.cell_of.Tie as tie

@@ -11,7 +11,7 @@ use Rattle.standard.specs.Photon.{matrixOf}
 use Rattle.standard.proofs.Tab.{window-is, grid-self}
 use Rattle.standard.proofs.MatrixLaws.{matrixOf-square, at-matrixOf}
 use Rattle.bytes.proofs.Upto.{Upto, upto-none, upto-more}
-use Rattle.chain.specs.Cells.{cellIn}
+use Rattle.bytes.specs.Cells.{cellIn}
 use Rattle.chain.proofs.matrix.grid_of.Statement.{statement}
 use Rattle.chain.proofs.matrix.grid_of.Tie as tie
 

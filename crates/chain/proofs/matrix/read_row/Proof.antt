@@ -3,7 +3,7 @@ use mathlib.Core.Path.{_≡_, refl}
 use Prim.Native.Nat.{_+_, _-_, _≤_}
 use native.Mathlib.Omega.{arith}
 use Rattle.bytes.proofs.Upto.{Upto, upto-none, upto-more}
-use Rattle.chain.specs.Cells.{cellIn}
+use Rattle.bytes.specs.Cells.{cellIn}
 use Rattle.chain.proofs.matrix.read_row.Statement.{statement}
 use Rattle.chain.proofs.matrix.read_row.Tie as tie
 

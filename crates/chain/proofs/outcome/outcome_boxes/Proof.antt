@@ -6,7 +6,7 @@ use native.Mathlib.Omega.{arith}
 use borrow.Author.Needs.{needs}
 use Rattle.standard.specs.Chain.{run}
 use Rattle.standard.specs.Variants.{variant}
-use Rattle.chain.specs.Layout.{packedState}
+use Rattle.standard.specs.Layout.{packedState}
 use Rattle.chain.specs.Blocks.{heldThen, firstBlocks}
 use Rattle.chain.proofs.outcome.outcome_boxes.Statement.{statement}
 use Rattle.chain.proofs.outcome.outcome_boxes.Tie as tie

@@ -3,7 +3,7 @@ use mathlib.Core.Path.{ap, _∙_}
 use borrow.Author.Needs.{needs}
 use Rattle.standard.specs.Families.{stateIn}
 use Rattle.standard.specs.Variants.{variant}
-use Rattle.chain.specs.Layout.{packedState}
+use Rattle.standard.specs.Layout.{packedState}
 use Rattle.chain.proofs.SqueezeLaws.{zero-run}
 use Rattle.chain.proofs.outcome.permuted_by_words.Statement.{statement}
 use Rattle.chain.proofs.outcome.permuted_by_words.Tie as tie

@@ -1,7 +1,7 @@
 -- `chain::outcome::run_blocks` meets its contract. Assumes nothing.
 use mathlib.Core.Path.{ap, _∙_}
 use Rattle.standard.specs.Variants.{variant}
-use Rattle.chain.specs.Layout.{packedState}
+use Rattle.standard.specs.Layout.{packedState}
 use Rattle.chain.proofs.BlockRuns.{run-start}
 use Rattle.chain.proofs.outcome.run_blocks.Statement.{statement}
 use Rattle.chain.proofs.outcome.run_blocks.Tie as tie

@@ -7,7 +7,8 @@ use Rattle.standard.specs.Messages.{countedOf}
 use Rattle.standard.specs.Variants.{variant}
 use Rattle.standard.proofs.PartBytes.{counted-lt}
 use Rattle.standard.proofs.Variants.{known-low, known-high}
-use Rattle.chain.proofs.PartBytes.{photon-counts, spongent-counts, lesamnta-counts, power, power-pos}
+use Rattle.chain.proofs.PartBytes.{photon-counts, spongent-counts, lesamnta-counts}
+use Rattle.bytes.proofs.Shifts.{power, power-pos}
 use Rattle.chain.proofs.parts.counted.Statement.{statement}
 use Rattle.chain.proofs.parts.counted.Tie as tie
 

@@ -6,7 +6,7 @@ use native.Mathlib.Omega.{arith}
 use lib.ListN.{length, take}
 use Rattle.standard.specs.Bits.{high-first, bitsIn, pack, unpack}
 use Rattle.standard.proofs.BitLaws.{length-pack}
-use Rattle.chain.specs.Layout.{stateRoom}
+use Rattle.standard.specs.Layout.{stateRoom}
 use Rattle.chain.proofs.CellsIntoWords.{cell-in-lt}
 use Rattle.chain.proofs.CellsOfBytes.{half-is}
 use Rattle.chain.proofs.SqueezeLaws.{front-size, front-kept, front-next}
@@ -19,15 +19,15 @@ Inv-loop out₀ p s q i₀ out i = (i ≤ q) × (length out₀ ≡ stateRoom) ×
 abbrev μ-loop : tie.MeasureT-loop
 μ-loop out₀ p s q i₀ out i = q - i
 
-put-half-requires : tie.Need-put-half-requires Inv-loop μ-loop
-put-half-requires c κs =
+put-nibble-requires : tie.Need-put-half-requires Inv-loop μ-loop
+put-nibble-requires c κs =
     let l = c .before .before .before .before .loop in
     let known = c .before .before .before .before .before .shared-slice-known .given in
     let s = c .before .before .before .before .before .before .before in
     let a = s .args in
     let size = front-size (a .out .now) (a .s .now) (l .inv .1) (s .pre .0 .1) (a .p) (l .i) (omega arith) (l .out) (l .inv .2) in
     let cell = half-is (a .s .now) (λ i. omega (arith, known i)) (l .i) (omega arith) in (
-      (omega (arith, size), omega (arith, c .half-of .ensures, cell, cell-in-lt 4 (a .s .now) (l .i))),
+      (omega (arith, size), omega (arith, c .nibble-of .ensures, cell, cell-in-lt 4 (a .s .now) (l .i))),
       front-kept (a .out .now) (a .s .now) (l .inv .1) (s .pre .0 .1) (a .p) (l .i) (omega arith) (l .out) (l .inv .2)
           ∙ ap (λ (n : ℕ). pack high-first n (unpack high-first (4 * (a .p + l .i)) (l .out))) (sym size),
     )
@@ -43,7 +43,7 @@ loop-again c =
       omega arith,
       l .inv .1,
       front-next (a .out .now) (a .s .now) (l .inv .1) (s .pre .0 .1) (a .p) (l .i) (omega arith) (l .out) (l .inv .2) (omega arith) _ _
-          (b .half-of .ensures ∙ cell) (c .before .before .put-half .ensures),
+          (b .nibble-of .ensures ∙ cell) (c .before .before .put-nibble .ensures),
     )
 
 returns : tie.Need-returns Inv-loop μ-loop
@@ -55,6 +55,6 @@ pub put-front-spec : {M : Type 1} → statement M
 put-front-spec =
     tie.close (tie.spec Inv-loop μ-loop
     (λ c. (omega arith, c .before .before .pre .0 .0, c .before .before .pre .1 ∙ ap (pack high-first stateRoom) (sym (append-nil _))))
-    (λ c. omega arith) (λ c. omega arith) (λ c κs. tt) put-half-requires (λ c. omega arith)
+    (λ c. omega arith) (λ c. omega arith) (λ c κs. tt) put-nibble-requires (λ c. omega arith)
     (λ c. omega arith) loop-again
     (λ c. ap length (c .before .loop .inv .2) ∙ length-pack high-first stateRoom _ ∙ sym (c .before .loop .inv .1)) returns)

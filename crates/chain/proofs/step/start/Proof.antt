@@ -13,7 +13,7 @@ use Rattle.standard.specs.Families.{imageSize}
 use Rattle.standard.specs.Variants.{variant, known}
 use Rattle.standard.proofs.Tests.{one-to-five, six-to-ten}
 use Rattle.standard.proofs.Variants.{bounds, tested, known-low, known-high}
-use Rattle.chain.specs.Layout.{stateRoom, packedState}
+use Rattle.standard.specs.Layout.{stateRoom, packedState}
 use borrow.Author.Needs.{needs}
 use Rattle.chain.proofs.step.start.Statement.{statement}
 use Rattle.chain.proofs.step.start.Tie as tie

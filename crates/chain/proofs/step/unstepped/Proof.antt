@@ -1,7 +1,7 @@
 -- `chain::step::unstepped` meets its contract: the permutation is taken back, and the block xored out. Assumes nothing.
 use native.Mathlib.Omega.{arith}
 use Rattle.bytes.proofs.Elements.{bytes-lt}
-use Rattle.chain.specs.Layout.{stateRoom}
+use Rattle.standard.specs.Layout.{stateRoom}
 use Rattle.chain.proofs.States.{taken-back}
 use borrow.Author.Needs.{needs}
 use Rattle.chain.proofs.step.unstepped.Statement.{statement}

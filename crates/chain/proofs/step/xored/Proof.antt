@@ -6,7 +6,7 @@ use native.Mathlib.Numerals.{add-one}
 use lib.ListN.{length, take}
 use lib.Seq.{take-all}
 use Rattle.standard.proofs.BitLaws.{bytesXor, bytesXor-none, bytesXor-more, bitsIn-bytesXor}
-use Rattle.chain.specs.Layout.{stateRoom}
+use Rattle.standard.specs.Layout.{stateRoom}
 use Rattle.chain.proofs.step.xored.Statement.{statement}
 use Rattle.chain.proofs.step.xored.Tie as tie
 

@@ -6,7 +6,7 @@ use lib.Bits.{bitXor}
 use lib.ListN.{getD}
 use borrow.Author.Needs.{needs}
 use Rattle.bytes.proofs.Upto.{Upto, upto-none, upto-more}
-use Rattle.chain.specs.Cells.{cellIn}
+use Rattle.bytes.specs.Cells.{cellIn}
 use Rattle.chain.proofs.CellsOfBytes.{byte-cell}
 use Rattle.chain.proofs.words.add_bytes.Statement.{statement}
 use Rattle.chain.proofs.words.add_bytes.Tie as tie

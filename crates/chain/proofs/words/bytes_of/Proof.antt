@@ -5,7 +5,7 @@ use native.Mathlib.Omega.{arith}
 use borrow.Author.Needs.{needs}
 use Rattle.standard.proofs.Variants.{bounds, known-low, known-high}
 use Rattle.standard.specs.Variants.{variant}
-use Rattle.chain.specs.Layout.{packedState}
+use Rattle.standard.specs.Layout.{packedState}
 use Rattle.chain.specs.Words.{stateInWords}
 use Rattle.chain.proofs.ImageRows.{side-of, all-rows, spongent-image}
 use Rattle.chain.proofs.WordSteps.{lesamnta-image}

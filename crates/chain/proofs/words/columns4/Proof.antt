@@ -5,7 +5,7 @@ use native.Mathlib.Omega.{arith}
 use lib.Bits.{bitXor}
 use lib.ListN.{length, getD}
 use Rattle.photon.proofs.WordPlaces.{four-bits}
-use Rattle.chain.specs.Cells.{cellIn}
+use Rattle.bytes.specs.Cells.{cellIn}
 use Rattle.chain.proofs.WordSteps.{Rows, row-room, rows-none, rows-more, rows-all, none-at, four-size, row-place4}
 use Rattle.chain.proofs.words.columns4.Statement.{statement}
 use Rattle.chain.proofs.words.columns4.Tie as tie

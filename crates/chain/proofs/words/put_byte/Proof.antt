@@ -5,29 +5,29 @@ use native.Mathlib.Omega.{arith}
 use lib.ListN.{length}
 use Rattle.standard.specs.Bits.{high-first}
 use Rattle.standard.proofs.BitLaws.{length-pack}
-use Rattle.chain.specs.Layout.{stateRoom}
-use Rattle.chain.proofs.RowsIntoBytes.{byte-put, byte-mid}
+use Rattle.standard.specs.Layout.{stateRoom}
+use Rattle.bytes.proofs.RowsIntoBytes.{byte-put, byte-mid}
 use Rattle.chain.proofs.words.put_byte.Statement.{statement}
 use Rattle.chain.proofs.words.put_byte.Tie as tie
 
-put-half-requires : tie.Need-put-half-requires
-put-half-requires c κs =
+put-nibble-requires : tie.Need-put-half-requires
+put-nibble-requires c κs =
     let s = c .before .before in
     ((omega (arith, s .pre .0 .0), omega arith), rw (s .pre .0 .0) (s .pre .1))
 
 put-half-requires-2 : tie.Need-put-half-requires-2
 put-half-requires-2 c κs =
     let s = c .before .before .before .before .before .before in
-    let m = byte-mid (s .args .out .now) _ (s .args .p) (s .args .x / 16) (s .pre .0 .0) (s .pre .0 .1) (c .before .before .before .put-half .ensures) in
+    let m = byte-mid (s .args .out .now) _ (s .args .p) (s .args .x / 16) (s .pre .0 .0) (s .pre .0 .1) (c .before .before .before .put-nibble .ensures) in
     ((omega (arith, m .0), omega arith), m .1)
 
 returns : tie.Need-returns
 returns c =
     let s = c .before .before .before .before .before .before .before .before .before in
-    byte-put (s .args .out .now) _ _ (s .args .p) (s .args .x) (s .pre .0 .0) (s .pre .0 .1) (c .before .before .before .before .before .before .put-half .ensures) (c .before .before .put-half2 .ensures)
+    byte-put (s .args .out .now) _ _ (s .args .p) (s .args .x) (s .pre .0 .0) (s .pre .0 .1) (c .before .before .before .before .before .before .put-nibble .ensures) (c .before .before .put-half2 .ensures)
 
 same-length : tie.Need-same-length
 same-length c = ap length (returns c) ∙ length-pack high-first stateRoom _ ∙ sym (c .before .before .before .before .before .before .before .before .before .pre .0 .0)
 
 pub put-byte-spec : {M : Type 1} → statement M
-put-byte-spec = tie.close (tie.spec put-half-requires (λ c. omega arith) put-half-requires-2 same-length returns)
+put-byte-spec = tie.close (tie.spec put-nibble-requires (λ c. omega arith) put-half-requires-2 same-length returns)

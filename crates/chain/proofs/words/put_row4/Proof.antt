@@ -5,8 +5,8 @@ use native.Mathlib.Omega.{arith}
 use lib.ListN.{length, getD}
 use Rattle.standard.specs.Bits.{high-first, pack, unpack}
 use Rattle.standard.proofs.BitLaws.{length-pack}
-use Rattle.chain.specs.Layout.{stateRoom}
-use Rattle.chain.proofs.RowsIntoBytes.{rowBehind, behind-none, behind-kept, behind-size, behind-more}
+use Rattle.standard.specs.Layout.{stateRoom}
+use Rattle.bytes.proofs.RowsIntoBytes.{rowBehind, behind-none, behind-kept, behind-size, behind-more}
 use Rattle.chain.proofs.words.put_row4.Statement.{statement}
 use Rattle.chain.proofs.words.put_row4.Tie as tie
 
@@ -16,8 +16,8 @@ Inv-loop out₀ w d bit p j₀ out j = (j ≤ d) × (length out₀ ≡ stateRoom
 abbrev μ-loop : tie.MeasureT-loop
 μ-loop out₀ w d bit p j₀ out j = d - j
 
-put-half-requires : tie.Need-put-half-requires Inv-loop μ-loop
-put-half-requires c κs =
+put-nibble-requires : tie.Need-put-half-requires Inv-loop μ-loop
+put-nibble-requires c κs =
     let l = c .before .before .before .before .loop in
     let s = c .before .before .before .before .before .before in
     let kept = behind-kept (s .args .out .now) (l .inv .1) 1 (s .args .p) (λ k. getD (s .args .w .now) k 0 / 2 ^ s .args .bit % 16) (l .j) (s .args .p + l .j) (omega arith) (omega arith) (l .out) (l .inv .2) in
@@ -31,7 +31,7 @@ loop-again c =
     let size = behind-size (s .args .out .now) (l .inv .1) 1 (s .args .p) (λ k. getD (s .args .w .now) k 0 / 2 ^ s .args .bit % 16) (l .j) (s .args .p + l .j) (omega arith) (omega arith) (l .out) (l .inv .2) in (
       omega arith,
       l .inv .1,
-      behind-more (s .args .out .now) (l .inv .1) 1 (s .args .p) (λ k. getD (s .args .w .now) k 0 / 2 ^ s .args .bit % 16) (l .j) (s .args .p + l .j) (omega arith) (omega arith) (l .out) (l .inv .2) _ _ (c .before .before .before .cell4 .ensures .0) (rw size at (c .before .before .put-half .ensures)),
+      behind-more (s .args .out .now) (l .inv .1) 1 (s .args .p) (λ k. getD (s .args .w .now) k 0 / 2 ^ s .args .bit % 16) (l .j) (s .args .p + l .j) (omega arith) (omega arith) (l .out) (l .inv .2) _ _ (c .before .before .before .cell4 .ensures .0) (rw size at (c .before .before .put-nibble .ensures)),
     )
 
 returns : tie.Need-returns Inv-loop μ-loop
@@ -42,5 +42,5 @@ returns c =
 pub put-row4-spec : {M : Type 1} → statement M
 put-row4-spec =
     tie.close (tie.spec Inv-loop μ-loop (λ c. (omega arith, c .before .pre .0 .0, behind-none (c .before .args .out .now) (c .before .pre .0 .0) 1 (c .before .args .p) (λ k. k) (c .before .pre .1)))
-    (λ c. omega arith) (λ c. omega arith) (λ c. omega arith) (λ c κs. omega arith) put-half-requires (λ c. omega arith) (λ c. omega arith) loop-again
+    (λ c. omega arith) (λ c. omega arith) (λ c. omega arith) (λ c κs. omega arith) put-nibble-requires (λ c. omega arith) (λ c. omega arith) loop-again
     (λ c. ap length (c .before .loop .inv .2) ∙ length-pack high-first stateRoom _ ∙ sym (c .before .loop .inv .1)) returns)

@@ -5,8 +5,8 @@ use native.Mathlib.Omega.{arith}
 use lib.ListN.{length, getD}
 use Rattle.standard.specs.Bits.{high-first, pack}
 use Rattle.standard.proofs.BitLaws.{length-pack}
-use Rattle.chain.specs.Layout.{stateRoom}
-use Rattle.chain.proofs.RowsIntoBytes.{rowBehind, behind-none, behind-kept, behind-size, behind-more}
+use Rattle.standard.specs.Layout.{stateRoom}
+use Rattle.bytes.proofs.RowsIntoBytes.{rowBehind, behind-none, behind-kept, behind-size, behind-more}
 use Rattle.chain.proofs.words.put_row8.Statement.{statement}
 use Rattle.chain.proofs.words.put_row8.Tie as tie
 

@@ -1,12 +1,12 @@
--- `chain::images::copy_front` meets its contract: the bytes passed stand over the front of the old ones. Assumes nothing.
-use Rattle.chain.proofs.Front.{front-more}
+-- `bytes::copies::copy_front` meets its contract: the bytes passed stand over the front of the old ones. Assumes nothing.
+use Rattle.bytes.proofs.Front.{front-more}
 use mathlib.Core.Path.{_≡_, refl, _∙_}
 use mathlib.Core.List.{_++_}
 use Prim.Native.Nat.{_-_, _≤_}
 use native.Mathlib.Omega.{arith}
 use lib.ListN.{length, take, drop, length-set}
-use Rattle.chain.proofs.images.copy_front.Statement.{statement}
-use Rattle.chain.proofs.images.copy_front.Tie as tie
+use Rattle.bytes.proofs.copies.copy_front.Statement.{statement}
+use Rattle.bytes.proofs.copies.copy_front.Tie as tie
 
 abbrev Inv-loop : tie.InvT-loop
 Inv-loop s n out₀ i₀ out i = (i ≤ n) × (length out ≡ length out₀) × (out ≡ take i s ++ drop i out₀)

@@ -1,4 +1,4 @@
--- `chain::images::clear_from` meets its contract: past the end, or the rest of a byte and the bytes behind it. Assumes nothing.
+-- `bytes::bits::clear_from` meets its contract: past the end, or the rest of a byte and the bytes behind it. Assumes nothing.
 use mathlib.Core.Path.{_≡_, sym, ap, _∙_}
 use mathlib.Core.Bool.{Bool, _&&_}
 use Prim.Native.Nat.{ℕ, _+_, _-_, _*_, _/_, _%_, _^_}
@@ -6,11 +6,11 @@ use native.Mathlib.Omega.{arith}
 use borrow.Author.Needs.{needs}
 use lib.ListN.{getD, drop}
 use Rattle.standard.specs.Bits.{high-first, bitsIn}
-use Rattle.chain.specs.Layout.{clear}
-use Rattle.chain.proofs.Clear.{past-bit, part-byte, width-set, width-clear}
-use Rattle.chain.proofs.PartBytes.{power, power-pos}
-use Rattle.chain.proofs.images.clear_from.Statement.{statement}
-use Rattle.chain.proofs.images.clear_from.Tie as tie
+use Rattle.standard.specs.Layout.{clear}
+use Rattle.bytes.proofs.Clear.{past-bit, part-byte, width-set, width-clear}
+use Rattle.bytes.proofs.Shifts.{power, power-pos}
+use Rattle.bytes.proofs.bits.clear_from.Statement.{statement}
+use Rattle.bytes.proofs.bits.clear_from.Tie as tie
 
 returns : tie.Need-returns
 returns c =

@@ -17,7 +17,7 @@ use Rattle.standard.specs.Grid.{tab}
 use Rattle.standard.proofs.Tab.{length-tab, tab-snoc}
 use Rattle.standard.proofs.BitLaws.{length-unpack, length-bitsOf, length-pack, unpack-pack}
 use Rattle.standard.proofs.CutLaws.{length-flatMap, flatMap-append}
-use Rattle.chain.specs.Layout.{stateRoom}
+use Rattle.standard.specs.Layout.{stateRoom}
 use Rattle.standard.proofs.PutBits.{put-bits, upper-byte, lower-byte, halves}
 use Rattle.standard.proofs.Tests.{lt-or-le}
 

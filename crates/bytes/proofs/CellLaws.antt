@@ -11,9 +11,9 @@ use lib.Seq.{take-at, drop-at, drop-drop}
 use Rattle.standard.specs.Bits.{high-first, ordered, bitsOf, valueOf, lowValue, bitsIn}
 use Rattle.standard.proofs.BitLaws.{length-bitsOf, length-bitsIn, bitsIn-drop, valueOf-bitsOf}
 use Rattle.standard.proofs.PutBits.{byte-halves}
-use Rattle.chain.specs.Cells.{cellIn}
+use Rattle.bytes.specs.Cells.{cellIn}
 use Rattle.standard.proofs.HighBits.{value-mod}
-use Rattle.chain.proofs.Clear.{first-byte}
+use Rattle.bytes.proofs.Clear.{first-byte}
 
 module _ (s : List ℕ) (bytes : (i : ℕ) → getD s i 0 < 256) (n : ℕ) where
   pub cell-wide : n < length s → cellIn 8 s n ≡ getD s n 0

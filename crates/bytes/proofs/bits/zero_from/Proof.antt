@@ -1,13 +1,13 @@
--- `chain::images::zero_from` meets its contract: what is asked of the bytes from k on is asked of those from i on. Assumes nothing.
+-- `bytes::bits::zero_from` meets its contract: what is asked of the bytes from k on is asked of those from i on. Assumes nothing.
 use mathlib.Core.Path.{_≡_, refl, sym, _∙_}
 use Prim.Native.Nat.{_-_}
 use native.Mathlib.Omega.{arith}
 use lib.ListN.{length, drop}
 use Rattle.standard.specs.Bits.{high-first, bitsIn}
-use Rattle.chain.specs.Layout.{clear}
-use Rattle.chain.proofs.Clear.{stopped, passed, past}
-use Rattle.chain.proofs.images.zero_from.Statement.{statement}
-use Rattle.chain.proofs.images.zero_from.Tie as tie
+use Rattle.standard.specs.Layout.{clear}
+use Rattle.bytes.proofs.Clear.{stopped, passed, past}
+use Rattle.bytes.proofs.bits.zero_from.Statement.{statement}
+use Rattle.bytes.proofs.bits.zero_from.Tie as tie
 
 abbrev Inv-loop : tie.InvT-loop
 Inv-loop bytes k i₀ i = clear (bitsIn high-first (drop k bytes)) ≡ clear (bitsIn high-first (drop i bytes))

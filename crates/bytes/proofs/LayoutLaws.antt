@@ -11,8 +11,8 @@ use lib.Seq.{take-at, drop-at, take-all}
 use Rattle.standard.specs.Bits.{Order, high-first, bitsIn, pack, unpack, bytesFor, xorInto, turned}
 use Rattle.standard.proofs.Turned.{length-turned, turned-high, turned-in}
 use Rattle.standard.proofs.BitLaws.{length-bitsIn, length-unpack, length-pack, unpack-pack, bitsIn-pack, bitsIn-append, bitsIn-zeros, filled-short, image-eq, pack-whole, xorInto-behind, xorInto-front, length-xorInto}
-use Rattle.chain.specs.Layout.{blockRoom, stateRoom, clear}
-use Rattle.chain.proofs.Clear.{clear-zeros}
+use Rattle.standard.specs.Layout.{blockRoom, stateRoom, clear}
+use Rattle.bytes.proofs.Clear.{clear-zeros}
 
 -- bits at the front of packed bytes
 pub packed-bits : (o : Order) (n : ℕ) (bs : List Bool) → length bs ≤ n * 8 → bitsIn o (pack o n bs) ≡ bs ++ replicate (n * 8 - length bs) false

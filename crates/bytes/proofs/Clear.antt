@@ -13,7 +13,7 @@ use lib.Seq.{drop-cons, drop-append-le, drop-drop}
 use Rattle.standard.specs.Bits.{Order, low-first, high-first, lowBits, lowValue, ordered, bitsOf, valueOf, bitsIn}
 use Rattle.standard.proofs.BitLaws.{length-bitsOf, length-bitsIn, bitsIn-drop, bitsOf-valueOf, zeros-of, reverse-replicate}
 use Rattle.standard.proofs.HighBits.{value-mod, high-drop}
-use Rattle.chain.specs.Layout.{clear}
+use Rattle.standard.specs.Layout.{clear}
 
 pub clear-append : (xs ys : List Bool) → clear (xs ++ ys) ≡ (clear xs && clear ys)
 clear-append [] ys = refl
