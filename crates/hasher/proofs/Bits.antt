@@ -13,7 +13,7 @@ use Rattle.answers.specs.Checks.{firstRefusal}
 use Rattle.answers.specs.Outputs.{whenDone, written}
 use Rattle.answers.proofs.Rows.{row-append}
 use Rattle.chain.specs.Messages.{numberChecks, messageChecks, Alike}
-use Rattle.chain.proofs.PartBytes.{alike-row, alike-asked}
+use Rattle.chain.proofs.MessageLaws.{alike-row, alike-asked}
 use Rattle.hasher.specs.declared.Hasher.{Hasher}
 use Rattle.standard.specs.declared.Wanted.{Wanted}
 use Rattle.hasher.specs.Running.{variantOf, grown, openChecks, followChecks, updateChecks, updated}

@@ -26,13 +26,13 @@ use Rattle.standard.proofs.Tests.{lt-or-le, either}
 use Rattle.standard.proofs.Variants.{Bounds, bounds, not-sponge}
 use Rattle.chain.proofs.Outcomes.{either-way}
 use Rattle.standard.specs.Layout.{stateRoom, packedState}
-use Rattle.chain.specs.Words.{outcome}
+use Rattle.chain.specs.Outcomes.{outcome}
 use Rattle.chain.specs.Blocks.{firstBlocks}
-use Rattle.chain.specs.declared.parts.Ending.{Ending}
+use Rattle.chain.specs.declared.message.Ending.{Ending}
 use Rattle.chain.specs.Messages.{numberChecks, Fits, messageChecks}
-use Rattle.chain.specs.Parts.{given}
+use Rattle.chain.specs.MessageBytes.{given}
 use Rattle.chain.proofs.BlockRuns.{run-start}
-use Rattle.chain.proofs.PartBytes.{given-most, given-least, Asked, message-passed}
+use Rattle.chain.proofs.MessageLaws.{given-most, given-least, Asked, message-passed}
 use Rattle.hasher.specs.declared.Hasher.{Hasher}
 use Rattle.hasher.specs.declared.Advanced.{Advanced}
 use Rattle.hasher.specs.Running.{closed, blank, fresh, grown, ended, wholeSoFar, openChecks, followChecks, updateChecks, startedOver, started, updated, finished, variantOf, wellFormed}

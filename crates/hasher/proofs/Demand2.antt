@@ -24,7 +24,7 @@ use Rattle.answers.specs.Outputs.{whenDone, written, most, mostBits}
 use Rattle.answers.proofs.Statuses.{not-done, kept}
 use Rattle.answers.proofs.Rows.{refused-first}
 use Rattle.chain.specs.Messages.{Fits, messageChecks}
-use Rattle.chain.proofs.PartBytes.{message-long, message-unknown}
+use Rattle.chain.proofs.MessageLaws.{message-long, message-unknown}
 use Rattle.hasher.specs.declared.Hasher.{Hasher}
 use Rattle.hasher.specs.declared.Advanced.{Advanced}
 use Rattle.standard.specs.declared.Wanted.{Wanted}

@@ -23,7 +23,7 @@ use Rattle.answers.specs.Outputs.{written, most, mostBits}
 use Rattle.answers.proofs.Rows.{row-second}
 use Rattle.standard.specs.Layout.{packedState, packedBlock}
 use Rattle.chain.specs.Messages.{Fits, messageChecks}
-use Rattle.chain.proofs.PartBytes.{message-passes}
+use Rattle.chain.proofs.MessageLaws.{message-passes}
 use Rattle.hasher.specs.declared.Hasher.{Hasher}
 use Rattle.hasher.specs.declared.Advanced.{Advanced}
 use Rattle.hasher.specs.Running.{heldCount, wholeSoFar, heldIn, stateOf, blank, fresh, grown, ended, started, updated, finished}

@@ -15,11 +15,11 @@ use Rattle.answers.specs.Outputs.{mostBits}
 use Rattle.standard.specs.Layout.{packedState}
 use Rattle.chain.specs.Holding.{Holds}
 use Rattle.chain.specs.Blocks.{heldThen, firstBlocks}
-use Rattle.chain.specs.Endings.{markedCount, lengthBlock, lengthBlocks}
-use Rattle.chain.specs.Parts.{messageIn, HoldsMessage}
+use Rattle.chain.specs.Padding.{dataBlocks, lengthBlock, lengthBlocks}
+use Rattle.chain.specs.MessageBytes.{messageIn, HoldsMessage}
 use Rattle.chain.proofs.BlockRows.{marked-blocks, heldThen-alone}
 use Rattle.chain.proofs.LastBlocks.{ending-blocks, marked-most}
-use Rattle.chain.proofs.PartBytes.{held-length}
+use Rattle.chain.proofs.MessageLaws.{held-length}
 use Rattle.chain.proofs.States.{stored, stored-ready}
 
 -- the bytes of a start hold a state
@@ -27,7 +27,7 @@ pub start-ready : (v : ℕ) → known v ≡ true → (s : List ℕ) → s ≡ pa
 start-ready v k s e = stored-ready v k s (startState (variant v)) (streams v k .start-length) e
 
 -- a message of n bits, and its blocks but the length's
-module _ (v : ℕ) (k : known v ≡ true) (n count : ℕ) (e : count ≡ markedCount (variant v) n) where
+module _ (v : ℕ) (k : known v ≡ true) (n count : ℕ) (e : count ≡ dataBlocks (variant v) n) where
   abbrev H : Variant
   H = variant v
 
@@ -47,7 +47,7 @@ module _ (v : ℕ) (k : known v ≡ true) (n count : ℕ) (e : count ≡ markedC
     all-blocks held =
         let many : length M ≡ n = held-length holds in
         ap₂ (λ (bs : List (List Bool)) (m : ℕ). bs ++ lengthBlocks H m)
-        (ap₂ (firstBlocks (H .r)) (e ∙ ap (markedCount H) (sym many)) (heldThen-alone held bytes) ∙ marked-blocks (H .r) (markedCount H (length M)) M bytes (holds .marked))
+        (ap₂ (firstBlocks (H .r)) (e ∙ ap (dataBlocks H) (sym many)) (heldThen-alone held bytes) ∙ marked-blocks (H .r) (dataBlocks H (length M)) M bytes (holds .marked))
         (sym many)
         ∙ sym (ending-blocks v k M (length M) refl)
 

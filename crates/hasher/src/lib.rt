@@ -15,7 +15,7 @@ ghost use Rattle.answers.specs.Outputs.{written, most, mostBits};
 ghost use Rattle.standard.specs.Layout.{blockRoom, clear};
 ghost use Rattle.chain.specs.Holding.{Holds};
 ghost use Rattle.chain.specs.Messages.{isBitNumber, numberChecks};
-ghost use Rattle.chain.specs.Parts.{given, messageIn, HoldsMessage};
+ghost use Rattle.chain.specs.MessageBytes.{given, messageIn, HoldsMessage};
 ghost use Rattle.hasher.specs.Running.{variantOf, heldCount, wholeSoFar, wellFormed, fresh, grown, ended, openChecks, followChecks, updateChecks, startedOver, started, updated, finished};
 ghost use Rattle.hasher.specs.ForCode.{Open};
 ghost use Rattle.hasher.specs.Reading.{resultOf, resultSize, roomChecks, readStatus, readInto, wholeStatus, wholeInto};
@@ -27,7 +27,7 @@ use answers::Refusal;
 use answers::Status;
 use chain::BLOCK_BYTES;
 use chain::STATE_BYTES;
-use chain::parts::Ending;
+use chain::message::Ending;
 use standard::Wanted;
 
 // Any bytes are one. Stage 0 is open, 1 is closed. The total counts bits. The state is an image at the front of its bytes; the held
@@ -121,7 +121,7 @@ pub fn check_update(h: Hasher, piece: &[u8], ending: Ending) -> Status
     let Status::Done = s else {
         return s;
     };
-    let t = chain::parts::check_number(piece, ending);
+    let t = chain::message::check_number(piece, ending);
     let Status::Done = t else {
         return t;
     };
@@ -234,7 +234,7 @@ fn grown_bits(h: Hasher, piece: &[u8], k: usize) -> Hasher
 {
     let n = piece.len() - 1;
     let b = piece[n];
-    let last = chain::parts::counted_byte(h.variant, b, k);
+    let last = chain::message::counted_byte(h.variant, b, k);
     grown(h, &piece[..n], last, k)
 }
 
@@ -282,16 +282,6 @@ pub fn update_bits(h: Hasher, piece: &[u8], bits: u32) -> Advanced
 
 // ---- finish
 
-// The byte in which c held bits end, with the padding's 1 bit behind them.
-fn last_byte(held: [u8; BLOCK_BYTES], c: usize) -> u8
-    requires { ⌜ c < 8 * blockRoom ⌝ }
-    ensures { λ r. ⌜ bitsOf high-first 8 r ≡ take (c % 8) (bitsOf high-first 8 (getD held (c / 8) 0)) ++ true ∷ replicate (7 - c % 8) false ⌝ }
-{
-    let k = c % 8;
-    let x = held[c / 8] as u32;
-    chain::parts::with_one(x >> (8 - k), k)
-}
-
 // The message has ended: the held bits and the padding make the last blocks, one or two.
 fn ended(h: Hasher) -> Hasher
     requires { ⌜ Open h ⌝ }
@@ -302,14 +292,14 @@ fn ended(h: Hasher) -> Hasher
     let held = h.held;
     let c = held_count(h);
     let last = last_byte(held, c);
-    let count = chain::sizes::marked_count(v, c);
+    let count = chain::padding::data_blocks(v, c);
     let none: [u8; 0] = [];
     let marked = chain::outcome::run_blocks(v, state, &held, 2 * (c / 8), &none, last, count);
     Hasher {
         total: h.total,
         variant: v,
         stage: 1,
-        state: chain::endings::ended(v, marked, h.total),
+        state: chain::padding::ended(v, marked, h.total),
         held: [0u8; BLOCK_BYTES],
     }
 }
@@ -398,7 +388,7 @@ pub fn check_whole(
 ) -> Status
     ensures { λ r. ⌜ r ≡ wholeStatus variant (given (now (message .entry)) ending) wanted room ⌝ }
 {
-    let s = chain::parts::check_message(variant, message, ending);
+    let s = chain::message::check_message(variant, message, ending);
     let Status::Done = s else {
         return s;
     };
@@ -423,7 +413,7 @@ fn end_of(v: u8, front: &[u8], last: u8, bits: usize, wanted: Wanted) -> [u8; ST
     requires { ⌜ HoldsMessage (now front) last bits ⌝ }
     ensures { λ r. ⌜ take (resultSize (variant v) wanted) r ≡ resultOf (variant v) wanted (endState (variant v) (messageIn (now (front .entry)) last bits)) ⌝ }
 {
-    let count = chain::sizes::marked_count(v, bits);
+    let count = chain::padding::data_blocks(v, bits);
     let none: [u8; 0] = [];
     let start = chain::step::start(v);
     if chain::sizes::is_sponge(v) {
@@ -431,7 +421,7 @@ fn end_of(v: u8, front: &[u8], last: u8, bits: usize, wanted: Wanted) -> [u8; ST
         return chain::outcome::outcome_after(v, start, &none, 0, front, last, count, digest);
     }
     let marked = chain::outcome::run_blocks(v, start, &none, 0, front, last, count);
-    chain::endings::ended(v, marked, bits as u32)
+    chain::padding::ended(v, marked, bits as u32)
 }
 
 // The same of a message as a caller gives it.
@@ -439,7 +429,7 @@ fn end_of_given(v: u8, message: &[u8], ending: Ending, wanted: Wanted) -> [u8; S
     requires { ⌜ (known v ≡ true) × (firstRefusal (numberChecks (given (now message) ending)) ≡ Done) × (length (now message) ≤ most) ⌝ }
     ensures { λ r. ⌜ take (resultSize (variant v) wanted) r ≡ resultOf (variant v) wanted (endState (variant v) (givenBits (variant v) (given (now (message .entry)) ending))) ⌝ }
 {
-    let m = chain::parts::split_of(v, message, ending);
+    let m = chain::padding::split_of(v, message, ending);
     end_of(v, &message[..m.front], m.last, m.bits, wanted)
 }
 

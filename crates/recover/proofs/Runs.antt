@@ -28,7 +28,7 @@ use Rattle.chain.specs.TakenBack.{permutedState, unstep, unrun}
 use Rattle.chain.proofs.TakenBack.{unrun-one, unrun-none, unrun-length, wanted-length}
 use Rattle.chain.specs.Blocks.{heldThen, firstBlocks}
 use Rattle.chain.proofs.BlockRows.{withOne, length-first, first-take, marked-at, marked-blocks, heldThen-alone}
-use Rattle.chain.specs.Endings.{markedCount, lengthBlocks}
+use Rattle.chain.specs.Padding.{dataBlocks, lengthBlocks}
 use Rattle.chain.proofs.LastBlocks.{ending-blocks, place-marked, count-most}
 use Rattle.chain.proofs.BlockRuns.{block-read, block-is, place-le}
 use Rattle.bytes.proofs.LayoutLaws.{packed-bits, holds}
@@ -36,8 +36,8 @@ use Rattle.chain.proofs.States.{stored, stored-ready}
 use Rattle.recover.specs.Difference.{stateBefore, stateBehind, between, difference}
 use Rattle.recover.proofs.Searching.{between-sponge}
 use Rattle.standard.specs.Lesamnta.{cipher}
-use Rattle.chain.specs.Parts.{messageIn, HoldsMessage}
-use Rattle.chain.proofs.PartBytes.{held-length}
+use Rattle.chain.specs.MessageBytes.{messageIn, HoldsMessage}
+use Rattle.chain.proofs.MessageLaws.{held-length}
 
 -- the blocks of a message of n bits that the code holds
 pub count-held : (v : ℕ) {front : List ℕ} {last n count : ℕ} → HoldsMessage front last n → count ≡ blockCount (variant v) n → count ≡ length (blocksOf (variant v) (messageIn front last n))
@@ -74,7 +74,7 @@ module _ (v : ℕ) (k : known v ≡ true) {front : List ℕ} {last n : ℕ} (h :
   unfolding blocksOf padded
   first-blocks j l =
       let n : ℕ = length M in
-      let c : ℕ = markedCount H n in
+      let c : ℕ = dataBlocks H n in
       let among : j ≤ c = place-marked v k n j (subst (λ (m : ℕ). j < m) (block-count H M) l) in
       ap (take j) (ending-blocks v k M n refl)
       ∙ take-append-le j (firstBlocks (H .r) c (withOne M)) (lengthBlocks H n) (omega (arith, length-first (H .r) (withOne M) c))

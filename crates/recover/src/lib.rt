@@ -14,7 +14,7 @@ ghost use Rattle.answers.specs.Checks.{firstRefusal};
 ghost use Rattle.answers.specs.Outputs.{written};
 ghost use Rattle.standard.specs.Layout.{packedState};
 ghost use Rattle.chain.specs.Holding.{Holds};
-ghost use Rattle.chain.specs.Parts.{given, messageIn, HoldsMessage};
+ghost use Rattle.chain.specs.MessageBytes.{given, messageIn, HoldsMessage};
 ghost use Rattle.recover.specs.Difference.{stateBehind, between, difference};
 ghost use Rattle.recover.specs.Recovering.{blockSize, searchable, placedChecks, foundChecks, recoveredBlock, recoverStatus, recoverInto};
 use answers::Refusal;
@@ -23,8 +23,8 @@ use standard::Direction;
 use chain::STATE_BYTES;
 use chain::blocks;
 use chain::images;
-use chain::parts;
-use chain::parts::Ending;
+use chain::message;
+use chain::message::Ending;
 use chain::sizes;
 use chain::step;
 
@@ -205,12 +205,12 @@ pub fn recover_with(
     ensures { λ r. ⌜ (r ≡ recoverStatus variant (given (now (message .entry)) ending) place (now (image .entry)) (length (now (out .entry))))
         × (now (out .exit) ≡ recoverInto variant (given (now (message .entry)) ending) place (now (image .entry)) (now (out .entry))) ⌝ }
 {
-    let s = parts::check_message(variant, message, ending);
+    let s = message::check_message(variant, message, ending);
     let Status::Done = s else {
         return s;
     };
     let v = variant as u8;
-    let m = parts::split_of(v, message, ending);
+    let m = message::split_of(v, message, ending);
     recover_at(v, &message[..m.front], m.last, m.bits, place, image, out)
 }
 

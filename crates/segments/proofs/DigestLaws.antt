@@ -32,8 +32,8 @@ use Rattle.hasher.proofs.Message.{fresh-sized, fresh-open, fresh-whole, calls-r
 use Rattle.hasher.proofs.UpdateAppend.{update-twice}
 use Rattle.standard.specs.Bits.{high-first, bitsIn}
 use Rattle.standard.proofs.BitLaws.{length-bitsIn}
-use Rattle.chain.specs.declared.parts.Ending.the-variants.{Whole}
-use Rattle.chain.proofs.PartBytes.{given-limit}
+use Rattle.chain.specs.declared.message.Ending.the-variants.{Whole}
+use Rattle.chain.proofs.MessageLaws.{given-limit}
 use Rattle.hasher.proofs.Owned.{Owned}
 use Rattle.hasher.proofs.WellFormed.{facts, state-kept, held-kept}
 use Rattle.hasher.proofs.Next.{onward-none, onward, onward-total, onward-whole, onward-open, onward-append}

@@ -9,7 +9,7 @@ use Rattle.answers.specs.Checks.{firstRefusal}
 use Rattle.answers.proofs.Rows.{refused-first, row-second}
 use Rattle.standard.specs.Messages.{Given, givenBits}
 use Rattle.chain.specs.Messages.{numberChecks, Fits}
-use Rattle.chain.specs.Parts.{given}
+use Rattle.chain.specs.MessageBytes.{given}
 use Rattle.hasher.specs.Running.{variantOf, openChecks, followChecks}
 use Rattle.hasher.specs.ForCode.{Open}
 use Rattle.hasher.proofs.WellFormed.{facts}

@@ -9,8 +9,8 @@ use Rattle.answers.proofs.Rows.{refused-first, row-second}
 use Rattle.standard.specs.Variants.{variant}
 use Rattle.standard.proofs.Variants.{known-high}
 use Rattle.chain.specs.Messages.{messageChecks}
-use Rattle.chain.specs.Parts.{given}
-use Rattle.chain.proofs.PartBytes.{message-passed}
+use Rattle.chain.specs.MessageBytes.{given}
+use Rattle.chain.proofs.MessageLaws.{message-passed}
 use Rattle.hasher.specs.Reading.{roomChecks, wholeStatus}
 use Rattle.hasher.proofs.check_whole.Statement.{statement}
 use Rattle.hasher.proofs.check_whole.Tie as tie

@@ -6,7 +6,7 @@ use borrow.Author.Needs.{needs}
 use Rattle.standard.specs.Chain.{run}
 use Rattle.standard.specs.Variants.{variant}
 use Rattle.standard.specs.Layout.{packedState}
-use Rattle.chain.specs.Words.{outcome}
+use Rattle.chain.specs.Outcomes.{outcome}
 use Rattle.hasher.proofs.Calls.{outcome-front, other-front}
 use Rattle.hasher.proofs.WholeRuns.{start-ready, count-most, sponge-run, marked-ready, marked-run}
 use Rattle.hasher.proofs.end_of.Statement.{statement}
@@ -16,7 +16,7 @@ outcome-after-requires : tie.Need-outcome-after-requires
 outcome-after-requires c κs =
     let counted = c .before .before .before .before .before in
     let s = counted .before .before in
-    (s .pre .0, omega arith, omega (arith, count-most (s .args .v) (s .pre .0) _ _ (counted .marked-count .ensures .0) (omega (arith, s .pre .1 .short))))
+    (s .pre .0, omega arith, omega (arith, count-most (s .args .v) (s .pre .0) _ _ (counted .data-blocks .ensures .0) (omega (arith, s .pre .1 .short))))
 
 returns : tie.Need-returns
 returns c =
@@ -27,7 +27,7 @@ returns c =
     let s = counted .before .before in
     let a = s .args in
     let is-sponge = sym (sponge .is-sponge .ensures) ∙ told .before .if1 .taken in
-    let end = sponge-run (a .v) (s .pre .0) (a .bits) _ (counted .marked-count .ensures .0) (a .front .now) (a .last) (s .pre .1) (begun .start .result) [] [] (begun .start .ensures) is-sponge in
+    let end = sponge-run (a .v) (s .pre .0) (a .bits) _ (counted .data-blocks .ensures .0) (a .front .now) (a .last) (s .pre .1) (begun .start .result) [] [] (begun .start .ensures) is-sponge in
     outcome-front (a .v) (s .pre .0) (a .wanted) _ refl _ _ (c .outcome-after .ensures ∙ ap₂ (outcome (variant (a .v))) (told .is-digest .ensures) end)
 
 run-blocks-requires : tie.Need-run-blocks-requires
@@ -38,7 +38,7 @@ run-blocks-requires c κs =
       s .pre .0,
       (
         start-ready (s .args .v) (s .pre .0) (begun .start .result) (begun .start .ensures),
-        (omega arith, omega (arith, count-most (s .args .v) (s .pre .0) _ _ (counted .marked-count .ensures .0) (omega (arith, s .pre .1 .short)))),
+        (omega arith, omega (arith, count-most (s .args .v) (s .pre .0) _ _ (counted .data-blocks .ensures .0) (omega (arith, s .pre .1 .short)))),
       ),
     )
 
@@ -48,7 +48,7 @@ ended-requires c κs =
     let counted = begun .before in
     let s = counted .before .before in
     let a = s .args in
-    (s .pre .0, marked-ready (a .v) (s .pre .0) (a .bits) _ (counted .marked-count .ensures .0) (a .front .now) (a .last) (s .pre .1) (begun .start .result) [] (c .run-blocks .result) (begun .start .ensures) (c .run-blocks .ensures))
+    (s .pre .0, marked-ready (a .v) (s .pre .0) (a .bits) _ (counted .data-blocks .ensures .0) (a .front .now) (a .last) (s .pre .1) (begun .start .result) [] (c .run-blocks .result) (begun .start .ensures) (c .run-blocks .ensures))
 
 returns-2 : tie.Need-returns-2
 returns-2 c =
@@ -60,7 +60,7 @@ returns-2 c =
     let s = counted .before .before in
     let a = s .args in
     let not-sponge = sym (sponge .is-sponge .ensures) ∙ other .if1 .left in
-    let end = marked-run (a .v) (s .pre .0) (a .bits) _ (counted .marked-count .ensures .0) (a .front .now) (a .last) (s .pre .1) (begun .start .result) [] (run .run-blocks .result) (begun .start .ensures) (run .run-blocks .ensures) in
+    let end = marked-run (a .v) (s .pre .0) (a .bits) _ (counted .data-blocks .ensures .0) (a .front .now) (a .last) (s .pre .1) (begun .start .result) [] (run .run-blocks .result) (begun .start .ensures) (run .run-blocks .ensures) in
     other-front (a .v) (s .pre .0) (a .wanted) _ refl not-sponge _ _ (c .ended .ensures ∙ ap (packedState (variant (a .v))) end)
 
 pub end-of-spec : {M : Type 1} → statement M

@@ -9,8 +9,8 @@ use borrow.Author.Needs.{needs}
 use Rattle.standard.specs.Chain.{endState}
 use Rattle.standard.specs.Messages.{givenBits}
 use Rattle.standard.specs.Variants.{variant}
-use Rattle.chain.specs.Parts.{given}
-use Rattle.chain.proofs.PartBytes.{message-held, holds-message, given-most}
+use Rattle.chain.specs.MessageBytes.{given}
+use Rattle.chain.proofs.MessageLaws.{message-held, holds-message, given-most}
 use Rattle.hasher.specs.Reading.{resultOf}
 use Rattle.hasher.proofs.end_of_given.Statement.{statement}
 use Rattle.hasher.proofs.end_of_given.Tie as tie

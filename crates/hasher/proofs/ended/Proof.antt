@@ -8,7 +8,7 @@ use Rattle.standard.specs.Families.{stateIn}
 use Rattle.standard.specs.Chain.{run}
 use Rattle.standard.specs.Layout.{packedState}
 use Rattle.chain.specs.Blocks.{heldThen, firstBlocks}
-use Rattle.chain.specs.Endings.{markedCount}
+use Rattle.chain.specs.Padding.{dataBlocks}
 use Rattle.hasher.specs.Running.{variantOf}
 use Rattle.hasher.proofs.Owned.{owned}
 use Rattle.hasher.proofs.WellFormed.{facts, state-kept}
@@ -26,8 +26,8 @@ last-byte-requires c κs =
     let s = c .before .before .before in
     held-few (owned (s .args .h) _ (s .good .0)) (s .pre) (c .held-count .ensures)
 
-marked-count-requires : tie.Need-marked-count-requires
-marked-count-requires c κs =
+data-blocks-requires : tie.Need-data-blocks-requires
+data-blocks-requires c κs =
     let held = c .before in
     let s = held .before .before .before in
     (facts (s .args .h) (s .pre .0) .named, omega (arith, held-few (owned (s .args .h) _ (s .good .0)) (s .pre) (held .held-count .ensures)))
@@ -40,18 +40,18 @@ run-blocks-requires c κs =
     let h = s .args .h in
     let w = owned h _ (s .good .0) in
     let f = facts h (s .pre .0) in
-    (f .named, (state-kept h f w, (whole-fit w (s .pre) (held .held-count .ensures), omega (arith, count .marked-count .ensures .1, held-few w (s .pre) (held .held-count .ensures)))))
+    (f .named, (state-kept h f w, (whole-fit w (s .pre) (held .held-count .ensures), omega (arith, count .data-blocks .ensures .1, held-few w (s .pre) (held .held-count .ensures)))))
 
 -- the state after the blocks that the held bits are in
 run-is : (c : tie.After-run-blocks) → let count = c .before .before .before in let last = count .before in let held = last .before in let s = held .before .before .before in let h = s .args .h in
-    c .run-blocks .result ≡ packedState (variantOf h) (run (variantOf h) (stateIn (variantOf h) (h .state)) (firstBlocks (variantOf h .r) (markedCount (variantOf h) (held .held-count .result)) (heldThen (h .held) (2 * (held .held-count .result / 8)) (last .last-byte .result ∷ []))))
+    c .run-blocks .result ≡ packedState (variantOf h) (run (variantOf h) (stateIn (variantOf h) (h .state)) (firstBlocks (variantOf h .r) (dataBlocks (variantOf h) (held .held-count .result)) (heldThen (h .held) (2 * (held .held-count .result / 8)) (last .last-byte .result ∷ []))))
 run-is c =
     let count = c .before .before .before in
     let last = count .before in
     let held = last .before in
     let h = held .before .before .before .args .h in
     c .run-blocks .ensures
-    ∙ ap (λ (n : ℕ). packedState (variantOf h) (run (variantOf h) (stateIn (variantOf h) (h .state)) (firstBlocks (variantOf h .r) n (heldThen (h .held) (2 * (held .held-count .result / 8)) (last .last-byte .result ∷ []))))) (count .marked-count .ensures .0)
+    ∙ ap (λ (n : ℕ). packedState (variantOf h) (run (variantOf h) (stateIn (variantOf h) (h .state)) (firstBlocks (variantOf h .r) n (heldThen (h .held) (2 * (held .held-count .result / 8)) (last .last-byte .result ∷ []))))) (count .data-blocks .ensures .0)
 
 ended-requires : tie.Need-ended-requires
 ended-requires c κs =
@@ -72,4 +72,4 @@ returns c =
 
 pub ended-spec : {M : Type 1} → statement M
 ended-spec =
-    tie.close (tie.spec held-count-requires last-byte-requires marked-count-requires (λ c. search needs) (λ c. search needs) (λ c. search needs) run-blocks-requires ended-requires returns)
+    tie.close (tie.spec held-count-requires last-byte-requires data-blocks-requires (λ c. search needs) (λ c. search needs) (λ c. search needs) run-blocks-requires ended-requires returns)

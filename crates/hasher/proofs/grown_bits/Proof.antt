@@ -3,7 +3,7 @@ use mathlib.Core.Path.{sym, ap, _∙_}
 use native.Mathlib.Omega.{arith}
 use lib.ListN.{length}
 use Rattle.standard.proofs.PartBytes.{front-size}
-use Rattle.chain.proofs.PartBytes.{BitNumber, bit-number}
+use Rattle.chain.proofs.MessageLaws.{BitNumber, bit-number}
 use Rattle.hasher.specs.Running.{variantOf, grown}
 use Rattle.hasher.proofs.WellFormed.{facts}
 use Rattle.hasher.proofs.PartPieces.{part-length, part-clear, part-front}

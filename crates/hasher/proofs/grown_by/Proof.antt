@@ -7,10 +7,10 @@ use Rattle.standard.specs.Messages.{givenBits}
 use Rattle.standard.proofs.BitLaws.{length-bitsIn}
 use Rattle.answers.specs.declared.Status.the-variants.{Done}
 use Rattle.answers.specs.Checks.{firstRefusal}
-use Rattle.chain.specs.declared.parts.Ending.{Ending}
-use Rattle.chain.specs.declared.parts.Ending.the-variants.{Whole, Bits}
-use Rattle.chain.specs.Parts.{given}
-use Rattle.chain.proofs.PartBytes.{fits-number}
+use Rattle.chain.specs.declared.message.Ending.{Ending}
+use Rattle.chain.specs.declared.message.Ending.the-variants.{Whole, Bits}
+use Rattle.chain.specs.MessageBytes.{given}
+use Rattle.chain.proofs.MessageLaws.{fits-number}
 use Rattle.hasher.specs.declared.Hasher.{Hasher}
 use Rattle.hasher.specs.Running.{variantOf, grown, updateChecks}
 use Rattle.hasher.proofs.Calls.{Takes, update-says}

@@ -7,8 +7,8 @@ use Rattle.standard.specs.Messages.{Given, givenBits}
 use Rattle.standard.specs.Variants.{variant}
 use Rattle.standard.proofs.Variants.{known-high}
 use Rattle.answers.specs.declared.Status.the-variants.{Done}
-use Rattle.chain.specs.Parts.{given}
-use Rattle.chain.proofs.PartBytes.{message-short}
+use Rattle.chain.specs.MessageBytes.{given}
+use Rattle.chain.proofs.MessageLaws.{message-short}
 use Rattle.hasher.specs.Reading.{wholeStatus, wholeInto}
 use Rattle.hasher.proofs.Calls.{Hashable, whole-says, result-fits, whole-read}
 use Rattle.hasher.proofs.whole_with.Statement.{statement}

@@ -16,7 +16,7 @@ use Rattle.standard.proofs.Variants.{streams, not-sponge}
 use Rattle.bytes.proofs.Elements.{bytes-lt}
 use Rattle.standard.specs.Layout.{stateRoom, packedState}
 use Rattle.chain.specs.Holding.{Holds}
-use Rattle.chain.specs.Parts.{messageIn}
+use Rattle.chain.specs.MessageBytes.{messageIn}
 use Rattle.chain.proofs.States.{state-length, stored-ready}
 use Rattle.recover.specs.Difference.{between}
 use Rattle.recover.proofs.Searching.{way}

@@ -12,7 +12,7 @@ use Rattle.standard.specs.Layout.{packedState}
 use Rattle.chain.specs.Blocks.{heldThen}
 use Rattle.chain.proofs.BlockRuns.{few-halves, block-at-ready}
 use Rattle.chain.proofs.States.{state-length}
-use Rattle.chain.specs.Parts.{messageIn}
+use Rattle.chain.specs.MessageBytes.{messageIn}
 use Rattle.recover.proofs.Runs.{count-held, few, place-low, place-fits, back-start, back-at, back-ready, back-more}
 use borrow.Author.Needs.{needs}
 use Rattle.recover.proofs.run_back.Statement.{statement}

@@ -10,12 +10,12 @@ use Rattle.bytes.proofs.RowsIntoBytes.{byte-put, byte-mid}
 use Rattle.chain.proofs.words.put_byte.Statement.{statement}
 use Rattle.chain.proofs.words.put_byte.Tie as tie
 
-put-nibble-requires : tie.Need-put-half-requires
+put-nibble-requires : tie.Need-put-nibble-requires
 put-nibble-requires c κs =
     let s = c .before .before in
     ((omega (arith, s .pre .0 .0), omega arith), rw (s .pre .0 .0) (s .pre .1))
 
-put-half-requires-2 : tie.Need-put-half-requires-2
+put-half-requires-2 : tie.Need-put-nibble-requires-2
 put-half-requires-2 c κs =
     let s = c .before .before .before .before .before .before in
     let m = byte-mid (s .args .out .now) _ (s .args .p) (s .args .x / 16) (s .pre .0 .0) (s .pre .0 .1) (c .before .before .before .put-nibble .ensures) in
@@ -24,7 +24,7 @@ put-half-requires-2 c κs =
 returns : tie.Need-returns
 returns c =
     let s = c .before .before .before .before .before .before .before .before .before in
-    byte-put (s .args .out .now) _ _ (s .args .p) (s .args .x) (s .pre .0 .0) (s .pre .0 .1) (c .before .before .before .before .before .before .put-nibble .ensures) (c .before .before .put-half2 .ensures)
+    byte-put (s .args .out .now) _ _ (s .args .p) (s .args .x) (s .pre .0 .0) (s .pre .0 .1) (c .before .before .before .before .before .before .put-nibble .ensures) (c .before .before .put-nibble2 .ensures)
 
 same-length : tie.Need-same-length
 same-length c = ap length (returns c) ∙ length-pack high-first stateRoom _ ∙ sym (c .before .before .before .before .before .before .before .before .before .pre .0 .0)

@@ -16,7 +16,7 @@ Inv-loop out₀ w d bit p j₀ out j = (j ≤ d) × (length out₀ ≡ stateRoom
 abbrev μ-loop : tie.MeasureT-loop
 μ-loop out₀ w d bit p j₀ out j = d - j
 
-put-nibble-requires : tie.Need-put-half-requires Inv-loop μ-loop
+put-nibble-requires : tie.Need-put-nibble-requires Inv-loop μ-loop
 put-nibble-requires c κs =
     let l = c .before .before .before .before .loop in
     let s = c .before .before .before .before .before .before in
