@@ -1,6 +1,6 @@
--- What owning held bits tells: their bytes are sixteen, and each is a byte. `c .good` has `Is`.
+-- Held bits. Owning them tells that their bytes are sixteen, and that each is a byte: `c .good` has `Is`.
 -- Assumes nothing.
-use mathlib.Core.Path.{_≡_, sym, ap, _∙_}
+use mathlib.Core.Path.{_≡_, sym, ap, subst, _∙_}
 use mathlib.Core.List.{List}
 use Prim.Native.Nat.{ℕ, _*_, _≤_, _<_}
 use native.Mathlib.Omega.{arith}
@@ -10,6 +10,7 @@ use denote.Laws.{Is}
 use denote.Struct.Laws as laws
 use Rattle.bytes.proofs.Fields.{same, field-bytes}
 use Rattle.chain.specs.declared.blocks.Held.{Held}
+use Rattle.chain.specs.Blocks.{noneHeld}
 use Rattle.chain.proofs.blocks.Held as type
 use Rattle.chain.proofs.blocks.Held.Laws as type-laws
 
@@ -23,3 +24,7 @@ module _ (h : Held) (vs : List Val) (p : Is type.the-row h vs) where
   -- the nibbles are there
   pub nibbles-held : h .nibbles ≤ 32 → h .nibbles ≤ 2 * length (h .bytes)
   nibbles-held few = omega (arith, held-size)
+
+-- nothing is few
+pub none-few : {h : Held} → h ≡ noneHeld → h .nibbles ≤ 32
+none-few e = subst (λ (h : Held). h .nibbles ≤ 32) (sym e) (omega arith)

@@ -31,7 +31,7 @@ use Rattle.standard.specs.declared.Wanted.{Wanted}
 use Rattle.standard.specs.declared.Wanted.the-variants.{Digest}
 use Rattle.hasher.specs.Running.{variantOf, wholeSoFar, blank, fresh, grown, ended, started, updated, finished}
 use Rattle.hasher.specs.ForCode.{Open}
-use Rattle.hasher.specs.Reading.{resultOf, resultSize, roomChecks, readStatus, readInto, wholeStatus, wholeInto}
+use Rattle.hasher.specs.Reading.{resultOf, resultSize, roomChecks, readStatus, readInto, hashStatus, hashInto}
 use Rattle.hasher.specs.Pieces.{joinedBits, Cut, plain, joined, andThen, allUpdated, hashed, thenStatus, thenInto, hashedStatus, hashedInto, Reads, Hashes}
 use Rattle.hasher.specs.Promises.{Demand2, Demand2Bytes, WholeIsPieces, WholeIsPiecesBytes, WholeDigest}
 use Rattle.hasher.specs.Sized.{Sized}
@@ -209,7 +209,7 @@ same-refused a r t result out wanted e et =
     )
 
 pub whole-is-pieces : WholeIsPieces
-unfolding hashedStatus hashedInto hashed wholeStatus wholeInto
+unfolding hashedStatus hashedInto hashed hashStatus hashInto
 whole-is-pieces v pieces g c f same wanted out =
     let H : Variant = variant v in
     let result : List ℕ = resultOf H wanted (endState H (givenBits H g)) in

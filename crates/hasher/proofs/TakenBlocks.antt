@@ -79,9 +79,6 @@ module _ {h : Hasher} (w : Owned h) (o : Open h) {c : ℕ} (ec : c ≡ heldCount
     held-halves : 4 * (c / 4) ≡ c
     held-halves = omega (arith, count-quarters h (f .named) whole)
 
-    pub held-fit : c / 4 ≤ 2 * length (h .held)
-    held-fit = omega (arith, held-few, w .sized .held-size)
-
     rate : 4 * (b / 4) ≡ b
     rate = omega (arith, B .rate-quarters)
 
@@ -153,9 +150,6 @@ module _ {h : Hasher} (w : Owned h) (o : Open h) {c : ℕ} (ec : c ≡ heldCount
           ∙ ap (λ (t : ℕ). record { total = h .total + t; variant = h .variant; stage = h .stage; state = packedState H (run H (stateOf h) (wholeBlocks (H .r) bits)); held = packedBlock (restOf (H .r) bits) }) (sym size)
 
   -- ---- the end
-
-  pub whole-fit : 2 * (c / 8) ≤ 2 * length (h .held)
-  whole-fit = omega (arith, held-few, w .sized .held-size)
 
   -- the last byte has the bits that are held past the whole bytes, and the 1 bit
   module _ (x : ℕ) (ex : bitsOf high-first 8 x ≡ take (c % 8) (bitsOf high-first 8 (getD (h .held) (c / 8) 0)) ++ true ∷ replicate (7 - c % 8) false) where

@@ -1,20 +1,19 @@
 -- `chain::outcome::digest_of` meets its contract: no block runs through the state. Assumes nothing.
-use mathlib.Core.Path.{sym, subst, ap, _∙_}
-use Prim.Native.Nat.{_≤_}
+use mathlib.Core.Path.{sym, ap, _∙_}
 use native.Mathlib.Omega.{arith}
 use borrow.Author.Needs.{needs}
 use Rattle.standard.specs.declared.Wanted.the-variants.{Digest}
 use Rattle.standard.specs.Variants.{variant}
-use Rattle.chain.specs.declared.blocks.Held.{Held}
 use Rattle.chain.specs.Outcomes.{outcome}
 use Rattle.chain.proofs.BlockRuns.{run-start}
+use Rattle.chain.proofs.OwnedHeld.{none-few}
 use Rattle.chain.proofs.outcome.digest_of.Statement.{statement}
 use Rattle.chain.proofs.outcome.digest_of.Tie as tie
 
 outcome-after-requires : tie.Need-outcome-after-requires
 outcome-after-requires c κs =
     let none = c .before in
-    (none .before .pre, subst (λ (h : Held). h .nibbles ≤ 32) (sym (none .none .ensures)) (omega arith), omega arith)
+    (none .before .pre, none-few (none .none .ensures), omega arith)
 
 returns : tie.Need-returns
 returns c =

@@ -1,7 +1,6 @@
 -- `chain::outcome::permuted_by_words` meets its contract: the step of a block of zeros is the permutation. Assumes nothing.
-use mathlib.Core.Path.{sym, subst, ap, _∙_}
+use mathlib.Core.Path.{ap, _∙_}
 use mathlib.Core.List.{[], _∷_}
-use Prim.Native.Nat.{_≤_}
 use native.Mathlib.Omega.{arith}
 use borrow.Author.Needs.{needs}
 use Rattle.standard.specs.Families.{stateIn}
@@ -10,13 +9,14 @@ use Rattle.standard.specs.Layout.{packedState}
 use Rattle.chain.specs.declared.blocks.Held.{Held}
 use Rattle.chain.specs.Blocks.{afterBlocks}
 use Rattle.chain.proofs.SqueezeLaws.{zero-run}
+use Rattle.chain.proofs.OwnedHeld.{none-few}
 use Rattle.chain.proofs.outcome.permuted_by_words.Statement.{statement}
 use Rattle.chain.proofs.outcome.permuted_by_words.Tie as tie
 
 outcome-after-requires : tie.Need-outcome-after-requires
 outcome-after-requires c κs =
     let none = c .before in
-    (none .before .pre .0, subst (λ (h : Held). h .nibbles ≤ 32) (sym (none .none .ensures)) (omega arith), omega arith)
+    (none .before .pre .0, none-few (none .none .ensures), omega arith)
 
 returns : tie.Need-returns
 returns c =
