@@ -1,4 +1,5 @@
 pub mod Elements
+pub mod Fields
 pub mod Upto
 pub mod Mapped
 pub mod Front

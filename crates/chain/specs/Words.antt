@@ -1,22 +1,20 @@
 -- For the code: states in words, as the look-ups of each family hold them, and the tables that they look up.
 -- Assumes nothing.
 use mathlib.Core.Path.{_≡_}
-use mathlib.Core.Bool.{Bool, cond}
+use mathlib.Core.Bool.{Bool}
 use mathlib.Core.List.{List}
 use Prim.Native.Nat.{ℕ, _≤_}
 use lib.ListN.{length}
-use Rattle.standard.specs.Bits.{low-first, high-first, unpack, pack}
+use Rattle.standard.specs.Bits.{low-first, unpack}
 use Rattle.standard.specs.Photon.{bitsOfMatrix}
 use Rattle.standard.specs.Spongent.{nibbles}
 use Rattle.standard.specs.Families.{photon, spongent, Family, sponge, lesamnta, Variant}
-use Rattle.standard.specs.Chain.{givenOut}
 use Rattle.photon_tables.specs.Columns.{matrixOfWords, placeOf}
 use Rattle.photon_tables.specs.Tables.{Entries, Pairs}
 use Rattle.photon.specs.Parameters.{photonOf}
 use Rattle.spongent.specs.Words.{bytesIn, LookUps}
 use Rattle.lesamnta.specs.LookUps as boxes
 use Rattle.lesamnta.specs.States.{stateOfFour}
-use Rattle.standard.specs.Layout.{stateRoom, packedState}
 
 -- by family: PHOTON's matrix has a column in each word, SPONGENT's bytes stand in order, eight to a word, and Lesamnta-LW's words are its own
 abbrev pub stateOfWords : Family → List ℕ → List Bool
@@ -34,7 +32,3 @@ pub record TableOf (v : ℕ) (table : List ℕ) : Type 0 where
   pub shares : v ≡ 5 → (length table ≡ 1552) × Entries 1552 (photonOf 5) table
   pub spread : 6 ≤ v → v ≤ 10 → (length table ≡ 2048) × LookUps nibbles table
   pub boxes : v ≡ 11 → (length table ≡ 320) × boxes.CipherTable 64 table
-
--- the digest that a state gives, or the state itself, at the front of bytes that have room for either
-abbrev pub outcome : Variant → Bool → List Bool → List ℕ
-outcome H digest s = cond digest (pack high-first stateRoom (givenOut (H .family) H s)) (packedState H s)

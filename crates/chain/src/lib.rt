@@ -1,10 +1,10 @@
 // The variants on bytes: sizes, images, blocks, the block step and the squeezed digest; and the permutation on an image that a caller lends.
 pub mod blocks;
-pub mod endings;
+pub mod padding;
 pub mod images;
 mod matrix;
 pub mod outcome;
-pub mod parts;
+pub mod message;
 pub mod sizes;
 pub mod squeeze;
 pub mod step;

@@ -26,21 +26,18 @@ use Rattle.standard.proofs.Tests.{lt-or-le, either}
 use Rattle.standard.proofs.Variants.{Bounds, bounds, not-sponge}
 use Rattle.chain.proofs.Outcomes.{either-way}
 use Rattle.standard.specs.Layout.{stateRoom, packedState}
-use Rattle.chain.specs.Words.{outcome}
-use Rattle.chain.specs.Blocks.{firstBlocks}
-use Rattle.chain.specs.declared.parts.Ending.{Ending}
+use Rattle.chain.specs.Outcomes.{outcome}
+use Rattle.chain.specs.declared.message.Ending.{Ending}
 use Rattle.chain.specs.Messages.{numberChecks, Fits, messageChecks}
-use Rattle.chain.specs.Parts.{given}
-use Rattle.chain.proofs.BlockRuns.{run-start}
-use Rattle.chain.proofs.PartBytes.{given-most, given-least, Asked, message-passed}
+use Rattle.chain.specs.MessageBytes.{given}
+use Rattle.chain.proofs.MessageLaws.{given-most, given-least, Asked, message-passed}
 use Rattle.hasher.specs.declared.Hasher.{Hasher}
 use Rattle.hasher.specs.declared.Advanced.{Advanced}
 use Rattle.hasher.specs.Running.{closed, blank, fresh, grown, ended, wholeSoFar, openChecks, followChecks, updateChecks, startedOver, started, updated, finished, variantOf, wellFormed}
 use Rattle.hasher.specs.ForCode.{Open}
 use Rattle.standard.specs.declared.Wanted.{Wanted}
 use Rattle.standard.specs.declared.Wanted.the-variants.{Digest, EndState}
-use Rattle.hasher.specs.Reading.{resultOf, resultSize, roomChecks, readChecks, readStatus, wholeStatus}
-use Rattle.hasher.specs.ForCode.{isDigest}
+use Rattle.hasher.specs.Reading.{resultOf, resultSize, roomChecks, readChecks, readStatus, hashStatus}
 
 abbrev pub done : Hasher → Advanced
 done h = record { status = Done; hasher = h }
@@ -148,11 +145,6 @@ unfolding imageOf
 result-length H Digest s = length-pack high-first (H .n / 8) (givenOut (H .family) H s)
 result-length H EndState s = length-pack (order H) (imageSize H) s
 
--- a row of no blocks leaves the state that it began with
-pub no-blocks : (v : ℕ) → known v ≡ true → (s bs : List Bool) (bytes : List ℕ) → bytes ≡ outcome (variant v) true (run (variant v) s (firstBlocks (variant v .r) 0 bs))
-    → bytes ≡ pack high-first stateRoom (givenOut (variant v .family) (variant v) s)
-no-blocks v k s bs bytes e = e ∙ ap (outcome (variant v) true) (sym (run-start v k s bs))
-
 -- ---- the first n bytes of what the code holds are the result
 
 module _ (v : ℕ) (k : known v ≡ true) (wanted : Wanted) (n : ℕ) (en : n ≡ resultSize (variant v) wanted) where
@@ -171,11 +163,11 @@ module _ (v : ℕ) (k : known v ≡ true) (wanted : Wanted) (n : ℕ) (en : n �
       most-of EndState = b .image-most
 
   -- the first bytes of an outcome of a row of blocks
-  pub outcome-front : (s : List Bool) (bytes : List ℕ) → bytes ≡ outcome (variant v) (isDigest wanted) s → take (resultSize (variant v) wanted) bytes ≡ resultOf (variant v) wanted s
+  pub outcome-front : (s : List Bool) (bytes : List ℕ) → bytes ≡ outcome (variant v) wanted s → take (resultSize (variant v) wanted) bytes ≡ resultOf (variant v) wanted s
   unfolding imageOf
   outcome-front s bytes eb = go wanted eb
     where
-      go : (w : Wanted) → bytes ≡ outcome H (isDigest w) s → take (resultSize H w) bytes ≡ resultOf H w s
+      go : (w : Wanted) → bytes ≡ outcome H w s → take (resultSize H w) bytes ≡ resultOf H w s
       go Digest e = ap (take (H .n / 8)) e ∙ take-pack high-first (H .n / 8) stateRoom (givenOut (H .family) H s) (omega (arith, b .digest-most))
       go EndState e = ap (take (imageSize H)) e ∙ take-pack (order H) (imageSize H) stateRoom s (b .image-most)
 
@@ -183,7 +175,7 @@ module _ (v : ℕ) (k : known v ≡ true) (wanted : Wanted) (n : ℕ) (en : n �
   pub other-front : isSponge (variant v) ≡ false → (s : List Bool) (bytes : List ℕ) → bytes ≡ packedState (variant v) s → take (resultSize (variant v) wanted) bytes ≡ resultOf (variant v) wanted s
   other-front q s bytes eb =
       outcome-front s bytes
-      (subst (λ (m : ℕ). bytes ≡ packedState (variant m) s → bytes ≡ outcome (variant m) (isDigest wanted) s) (sym (not-sponge v k q)) (either-way (isDigest wanted) s bytes) eb)
+      (subst (λ (m : ℕ). bytes ≡ packedState (variant m) s → bytes ≡ outcome (variant m) wanted s) (sym (not-sponge v k q)) (either-way wanted s bytes) eb)
 
   module _ (s : List Bool) (bytes out after : List ℕ) (ea : after ≡ take n bytes ++ drop n out) where
     pub fronted : take n bytes ≡ resultOf H wanted s → after ≡ written Done (resultOf H wanted s) out
@@ -240,8 +232,8 @@ module _ (v : ℕ) (g : Given) (wanted : Wanted) (size : ℕ) where
     pub asked : Asked v g
     pub room : resultSize (variant v) wanted ≤ size
 
-  pub whole-says : wholeStatus v g wanted size ≡ Done → Hashable
-  unfolding wholeStatus
+  pub whole-says : hashStatus v g wanted size ≡ Done → Hashable
+  unfolding hashStatus
   whole-says e =
       let p = row-both (messageChecks v g) (roomChecks (variant v) wanted size) e in
       record { asked = message-passed v g (p .0); room = room-says (variant v) wanted size (p .1) }

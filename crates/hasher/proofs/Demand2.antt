@@ -24,14 +24,14 @@ use Rattle.answers.specs.Outputs.{whenDone, written, most, mostBits}
 use Rattle.answers.proofs.Statuses.{not-done, kept}
 use Rattle.answers.proofs.Rows.{refused-first}
 use Rattle.chain.specs.Messages.{Fits, messageChecks}
-use Rattle.chain.proofs.PartBytes.{message-long, message-unknown}
+use Rattle.chain.proofs.MessageLaws.{message-long, message-unknown}
 use Rattle.hasher.specs.declared.Hasher.{Hasher}
 use Rattle.hasher.specs.declared.Advanced.{Advanced}
 use Rattle.standard.specs.declared.Wanted.{Wanted}
 use Rattle.standard.specs.declared.Wanted.the-variants.{Digest}
 use Rattle.hasher.specs.Running.{variantOf, wholeSoFar, blank, fresh, grown, ended, started, updated, finished}
 use Rattle.hasher.specs.ForCode.{Open}
-use Rattle.hasher.specs.Reading.{resultOf, resultSize, roomChecks, readStatus, readInto, wholeStatus, wholeInto}
+use Rattle.hasher.specs.Reading.{resultOf, resultSize, roomChecks, readStatus, readInto, hashStatus, hashInto}
 use Rattle.hasher.specs.Pieces.{joinedBits, Cut, plain, joined, andThen, allUpdated, hashed, thenStatus, thenInto, hashedStatus, hashedInto, Reads, Hashes}
 use Rattle.hasher.specs.Promises.{Demand2, Demand2Bytes, WholeIsPieces, WholeIsPiecesBytes, WholeDigest}
 use Rattle.hasher.specs.Sized.{Sized}
@@ -209,7 +209,7 @@ same-refused a r t result out wanted e et =
     )
 
 pub whole-is-pieces : WholeIsPieces
-unfolding hashedStatus hashedInto hashed wholeStatus wholeInto
+unfolding hashedStatus hashedInto hashed hashStatus hashInto
 whole-is-pieces v pieces g c f same wanted out =
     let H : Variant = variant v in
     let result : List ℕ = resultOf H wanted (endState H (givenBits H g)) in

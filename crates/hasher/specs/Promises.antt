@@ -17,7 +17,7 @@ use Rattle.hasher.specs.declared.Hasher.{Hasher}
 use Rattle.standard.specs.declared.Wanted.{Wanted}
 use Rattle.standard.specs.declared.Wanted.the-variants.{Digest}
 use Rattle.hasher.specs.Running.{variantOf, heldCount, stateOf, wellFormed, startedOver, started, updated, finished}
-use Rattle.hasher.specs.Reading.{resultSize, wholeStatus, wholeInto}
+use Rattle.hasher.specs.Reading.{resultSize, hashStatus, hashInto}
 use Rattle.hasher.specs.Pieces.{joinedBits, Cut, plain, joined, andThen, hashedStatus, hashedInto, Hashes}
 use Rattle.hasher.specs.Apart.{ToldApart}
 use Rattle.hasher.specs.Sized.{Sized}
@@ -67,20 +67,20 @@ abbrev pub WholeIsPieces : Type 0
 WholeIsPieces =
     (v : ℕ) (pieces : List Given) (g : Given) → Cut (variant v) pieces → Fits g → joinedBits (variant v) pieces ≡ givenBits (variant v) g
     → (wanted : Wanted) (out : List ℕ)
-    → (wholeStatus v g wanted (length out) ≡ hashedStatus v pieces wanted (length out)) × (wholeInto v g wanted out ≡ hashedInto v pieces wanted out)
+    → (hashStatus v g wanted (length out) ≡ hashedStatus v pieces wanted (length out)) × (hashInto v g wanted out ≡ hashedInto v pieces wanted out)
 
 -- The same where all bits count.
 abbrev pub WholeIsPiecesBytes : Type 0
 WholeIsPiecesBytes =
     (v : ℕ) (pieces : List (List ℕ)) (wanted : Wanted) (out : List ℕ)
-    → (wholeStatus v (bytes (joined pieces)) wanted (length out) ≡ hashedStatus v (plain pieces) wanted (length out))
-    × (wholeInto v (bytes (joined pieces)) wanted out ≡ hashedInto v (plain pieces) wanted out)
+    → (hashStatus v (bytes (joined pieces)) wanted (length out) ≡ hashedStatus v (plain pieces) wanted (length out))
+    × (hashInto v (bytes (joined pieces)) wanted out ≡ hashedInto v (plain pieces) wanted out)
 
 -- What a whole message within the limit gives is hash(M) of 5.2.3, 5.3.3 and 6.2.4, over the front of an output that is long enough.
 abbrev pub WholeDigest : Type 0
 WholeDigest =
     (v : ℕ) → known v ≡ true → (g : Given) → Fits g → length (givenBits (variant v) g) ≤ mostBits → (out : List ℕ) → resultSize (variant v) Digest ≤ length out
-    → wholeInto v g Digest out ≡ digestOf (variant v) (givenBits (variant v) g) ++ drop (resultSize (variant v) Digest) out
+    → hashInto v g Digest out ≡ digestOf (variant v) (givenBits (variant v) g) ++ drop (resultSize (variant v) Digest) out
 
 -- Where an update with a and then g is Done in one call, it is Done in two, and gives the same running hash.
 abbrev pub UpdateAppend : Type 0
@@ -95,7 +95,7 @@ UpdateAlike = (h : Hasher) (g g′ : Given) → Alike (variantOf h) g g′ → u
 abbrev pub WholeAlike : Type 0
 WholeAlike =
     (v : ℕ) (g g′ : Given) → Alike (variant v) g g′ → (wanted : Wanted) (out : List ℕ)
-    → (wholeStatus v g wanted (length out) ≡ wholeStatus v g′ wanted (length out)) × (wholeInto v g wanted out ≡ wholeInto v g′ wanted out)
+    → (hashStatus v g wanted (length out) ≡ hashStatus v g′ wanted (length out)) × (hashInto v g wanted out ≡ hashInto v g′ wanted out)
 
 -- ---- demand 3, for what a caller reads
 

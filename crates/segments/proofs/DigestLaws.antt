@@ -26,14 +26,14 @@ use Rattle.standard.specs.declared.Wanted.{Wanted}
 use Rattle.hasher.specs.Sized.{Sized}
 use Rattle.hasher.specs.Running.{wholeSoFar, started, updated, finished, stateOf}
 use Rattle.hasher.specs.ForCode.{Open}
-use Rattle.hasher.specs.Reading.{resultOf, roomChecks, readStatus, readInto, wholeStatus, wholeInto}
+use Rattle.hasher.specs.Reading.{resultOf, roomChecks, readStatus, readInto, hashStatus, hashInto}
 use Rattle.hasher.proofs.Calls.{start-done, Hashable, whole-says, update-done}
 use Rattle.hasher.proofs.Message.{fresh-sized, fresh-open, fresh-whole, calls-read}
 use Rattle.hasher.proofs.UpdateAppend.{update-twice}
 use Rattle.standard.specs.Bits.{high-first, bitsIn}
 use Rattle.standard.proofs.BitLaws.{length-bitsIn}
-use Rattle.chain.specs.declared.parts.Ending.the-variants.{Whole}
-use Rattle.chain.proofs.PartBytes.{given-limit}
+use Rattle.chain.specs.declared.message.Ending.the-variants.{Whole}
+use Rattle.chain.proofs.MessageLaws.{given-limit}
 use Rattle.hasher.proofs.Owned.{Owned}
 use Rattle.hasher.proofs.WellFormed.{facts, state-kept, held-kept}
 use Rattle.hasher.proofs.Next.{onward-none, onward, onward-total, onward-whole, onward-open, onward-append}
@@ -93,8 +93,8 @@ module _ (v : ℕ) (list buffer : List ℕ) (wanted : Wanted) (n : ℕ) where
 
 module _ (v : ℕ) (list buffer : List ℕ) (wanted : Wanted) (l : isList list ≡ true) (e : entriesStatus list (length buffer) ≡ Done) where
   -- A list whose entries pass is refused as the whole message that it makes is, or neither is refused.
-  pub list-whole-status : (n : ℕ) → listStatus v list buffer wanted n ≡ wholeStatus v (bytes (messageOf list buffer)) wanted n
-  unfolding listStatus wholeStatus
+  pub list-whole-status : (n : ℕ) → listStatus v list buffer wanted n ≡ hashStatus v (bytes (messageOf list buffer)) wanted n
+  unfolding listStatus hashStatus
   list-whole-status n =
       ap₂ (λ (b : Bool) (s : Status). cond (known v) (cond b s (Refused BadList)) (Refused UnknownVariant)) l
       (row-second (entriesChecks list (length buffer)) (behind v (messageOf list buffer) wanted n) e
@@ -110,18 +110,18 @@ module _ (v : ℕ) (list buffer : List ℕ) (wanted : Wanted) (l : isList list �
       ∙ row-second (entriesChecks list (length buffer)) (behind v (messageOf list buffer) wanted n) e)
 
   -- And the output is that of the whole message.
-  pub list-whole-into : (out : List ℕ) → listInto v list buffer wanted out ≡ wholeInto v (bytes (messageOf list buffer)) wanted out
-  unfolding listInto wholeInto
+  pub list-whole-into : (out : List ℕ) → listInto v list buffer wanted out ≡ hashInto v (bytes (messageOf list buffer)) wanted out
+  unfolding listInto hashInto
   list-whole-into out =
       ap (λ (s : Status). written s (resultOf (variant v) wanted (endState (variant v) (byteBits (messageOf list buffer)))) out) (list-whole-status (length out))
 
 pub same-message : SameMessage
 same-message v list buffer list′ buffer′ wanted out a a′ same = (
   list-whole-status v list buffer wanted (a .0) (a .1) (length out)
-      ∙ ap (λ (x : List ℕ). wholeStatus v (bytes x) wanted (length out)) same
+      ∙ ap (λ (x : List ℕ). hashStatus v (bytes x) wanted (length out)) same
       ∙ sym (list-whole-status v list′ buffer′ wanted (a′ .0) (a′ .1) (length out)),
   list-whole-into v list buffer wanted (a .0) (a .1) out
-      ∙ ap (λ (x : List ℕ). wholeInto v (bytes x) wanted out) same
+      ∙ ap (λ (x : List ℕ). hashInto v (bytes x) wanted out) same
       ∙ sym (list-whole-into v list′ buffer′ wanted (a′ .0) (a′ .1) out),
 )
 
@@ -135,7 +135,7 @@ module _ (v : ℕ) (list buffer : List ℕ) (wanted : Wanted) (n : ℕ) where
     pub message : Hashable v (bytes (messageOf list buffer)) wanted n
 
   pub accepted : (s : Status) → s ≡ listStatus v list buffer wanted n → s ≡ Done → Accepted
-  unfolding listStatus wholeStatus
+  unfolding listStatus hashStatus
   accepted s es d =
       let e : listStatus v list buffer wanted n ≡ Done = sym es ∙ d in
       let m = messageOf list buffer in

@@ -8,7 +8,7 @@ ghost use Rattle.chain.specs.Images.{imageStatus, permutedImage};
 ghost use Rattle.standard.specs.Messages.{bytes, partial};
 ghost use Rattle.hasher.specs.Running.{startedOver, updated, finished};
 ghost use Rattle.standard.specs.declared.Wanted.the-variants.{Digest, EndState};
-ghost use Rattle.hasher.specs.Reading.{readStatus, readInto, wholeStatus, wholeInto};
+ghost use Rattle.hasher.specs.Reading.{readStatus, readInto, hashStatus, hashInto};
 ghost use Rattle.recover.specs.Recovering.{recoverStatus, recoverInto};
 ghost use Rattle.segments.specs.Entries.{segmentStatus};
 ghost use Rattle.segments.specs.Steps.{stepAnswer, foundAt};
@@ -87,10 +87,10 @@ fn wanted_of(n: u32) -> Wanted
 // The digest of a whole message or, if `wanted` is not 0, its end state: refusals 1, 4, 5.
 #[no_mangle]
 pub extern "C" fn wickslate_whole(variant: u32, message: &[u8], wanted: u32, out: &mut [u8]) -> u32
-    ensures { λ r. ⌜ (r ≡ answer (wholeStatus variant (bytes (now (message .entry))) (wantedOf wanted) (length (now (out .entry)))))
-        × (now (out .exit) ≡ wholeInto variant (bytes (now (message .entry))) (wantedOf wanted) (now (out .entry))) ⌝ }
+    ensures { λ r. ⌜ (r ≡ answer (hashStatus variant (bytes (now (message .entry))) (wantedOf wanted) (length (now (out .entry)))))
+        × (now (out .exit) ≡ hashInto variant (bytes (now (message .entry))) (wantedOf wanted) (now (out .entry))) ⌝ }
 {
-    answers::answer_of(hasher::whole(variant, message, wanted_of(wanted), out))
+    answers::answer_of(hasher::hash(variant, message, wanted_of(wanted), out))
 }
 
 // The same of a message whose last byte contributes `bits` bits: refusals 1, 15, 4, 5.
@@ -102,10 +102,10 @@ pub extern "C" fn wickslate_whole_bits(
     wanted: u32,
     out: &mut [u8],
 ) -> u32
-    ensures { λ r. ⌜ (r ≡ answer (wholeStatus variant (partial (now (message .entry)) bits) (wantedOf wanted) (length (now (out .entry)))))
-        × (now (out .exit) ≡ wholeInto variant (partial (now (message .entry)) bits) (wantedOf wanted) (now (out .entry))) ⌝ }
+    ensures { λ r. ⌜ (r ≡ answer (hashStatus variant (partial (now (message .entry)) bits) (wantedOf wanted) (length (now (out .entry)))))
+        × (now (out .exit) ≡ hashInto variant (partial (now (message .entry)) bits) (wantedOf wanted) (now (out .entry))) ⌝ }
 {
-    answers::answer_of(hasher::whole_bits(variant, message, bits, wanted_of(wanted), out))
+    answers::answer_of(hasher::hash_bits(variant, message, bits, wanted_of(wanted), out))
 }
 
 // The permutation on an image: refusals 1, 17, 6.

@@ -1,4 +1,4 @@
--- `wickslate::wickslate_whole` meets its contract: the number of `hasher::whole`'s refusal. Assumes nothing.
+-- `wickslate::wickslate_whole` meets its contract: the number of `hasher::hash`'s refusal. Assumes nothing.
 use mathlib.Core.Path.{_∙_, ap}
 use borrow.Author.Needs.{needs}
 use Rattle.answers.specs.Refusals.{answer}
