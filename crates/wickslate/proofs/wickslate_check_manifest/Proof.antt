@@ -1,4 +1,5 @@
--- `wickslate::wickslate_check_manifest` meets its contract: the answer of `manifest::check` as a number. Assumes nothing.
+-- `wickslate::wickslate_check_manifest` meets its contract: the answer of `manifest::check` as a number. Assumes
+-- nothing.
 use mathlib.Core.Path.{_∙_, ap}
 use borrow.Author.Needs.{needs}
 use Rattle.answers.specs.Refusals.{answer}
