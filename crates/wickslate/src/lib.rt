@@ -261,8 +261,8 @@ pub extern "C" fn wickslate_hash_list(
 
 // Whether a report can be made with a manifest: refusals 12, 13, 14.
 #[no_mangle]
-pub extern "C" fn wickslate_check_manifest(list: &[u8]) -> u32
-    ensures { λ r. ⌜ r ≡ answer (manifestStatus (now (list .entry))) ⌝ }
+pub extern "C" fn wickslate_check_manifest(manifest: &[u8]) -> u32
+    ensures { λ r. ⌜ r ≡ answer (manifestStatus (now (manifest .entry))) ⌝ }
 {
-    answers::answer_of(manifest::check(list))
+    answers::answer_of(manifest::check(manifest))
 }
