@@ -102,7 +102,7 @@ pub fn entry_at(list: &[u8], k: usize) -> Found
 }
 
 // Refusals 10, 11 of one entry.
-fn check_entry(list: &[u8], buffer: &[u8], k: usize) -> Status
+fn check_bounds(list: &[u8], buffer: &[u8], k: usize) -> Status
     requires { ⌜ isList (now list) ≡ true ⌝ }
     requires { ⌜ k < count (now list) ⌝ }
     ensures { λ r. ⌜ r ≡ firstRefusal (entryChecks (now (list .entry)) (length (now (buffer .entry))) k) ⌝ }
@@ -117,14 +117,14 @@ fn check_entry(list: &[u8], buffer: &[u8], k: usize) -> Status
 }
 
 // Whether entry k names a segment of the buffer: refusals 9, 7, 10, 11.
-pub fn check(list: &[u8], buffer: &[u8], k: usize) -> Status
+pub fn check_entry(list: &[u8], buffer: &[u8], k: usize) -> Status
     ensures { λ r. ⌜ r ≡ segmentStatus (now (list .entry)) (length (now (buffer .entry))) k ⌝ }
 {
     let s = check_step(list, k);
     let Status::Done = s else {
         return s;
     };
-    check_entry(list, buffer, k)
+    check_bounds(list, buffer, k)
 }
 
 // The bytes that entry k names, where they lie in the buffer; none where the check refuses.
@@ -149,7 +149,7 @@ fn check_all(list: &[u8], buffer: &[u8]) -> Status
     let n = list.len() / 8;
     let mut k = 0;
     while k < n {
-        let s = check_entry(list, buffer, k);
+        let s = check_bounds(list, buffer, k);
         if let Status::Done = s {
             k += 1;
         } else {
@@ -226,7 +226,7 @@ fn update_all(h: Hasher, list: &[u8], buffer: &[u8]) -> Hasher
 }
 
 // The digest over a list and its segments, or the image of the end state: refusals 1, 9, 10, 11, 4, 5. A refusal leaves every byte.
-pub fn digest_list(
+pub fn hash_list(
     variant: u32,
     list: &[u8],
     buffer: &[u8],

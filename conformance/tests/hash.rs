@@ -1,19 +1,19 @@
 //! Whole messages: every short length, the edges of blocks, long messages,
 //! and the refusals 1, 4, 5.
 
-use wickslate_conformance::compare::whole;
+use wickslate_conformance::compare::hash;
 use wickslate_conformance::make::{block_edges, result_bytes, UNKNOWN};
 use wickslate_conformance::random::Random;
 use wickslate_conformance::settings::amount;
 use wickslate_conformance::wickslate;
 use wickslate_reference::{Variant, MESSAGE_LIMIT, VARIANTS};
 
-/// Hashes a random message of so many bytes on both sides, with seven bytes
-/// of output past the result.
+/// Hashes a random message of `bytes` bytes on both sides, with seven bytes of
+/// output after the result.
 fn expect_same(random: &mut Random, variant: &Variant, bytes: usize, wanted: u32) {
     let message = random.bytes(bytes);
     let out = random.bytes(result_bytes(variant, wanted) + 7);
-    let (answer, after) = whole(variant.number, &message, wanted, &out);
+    let (answer, after) = hash(variant.number, &message, wanted, &out);
     assert_eq!(answer, 0, "{} of {bytes} bytes", variant.name);
     assert_eq!(after[after.len() - 7..], out[out.len() - 7..]);
 }
@@ -73,7 +73,7 @@ fn any_number_but_zero_asks_for_the_end_state() {
 
 /// The answer to a message of zeros on both sides.
 fn refusal(variant: u32, message: &[u8], wanted: u32, out_bytes: usize) -> u32 {
-    whole(variant, message, wanted, &vec![0x5e; out_bytes]).0
+    hash(variant, message, wanted, &vec![0x5e; out_bytes]).0
 }
 
 #[test]
@@ -122,7 +122,7 @@ fn the_longest_message_is_not_too_long() {
     let longest = vec![0; MESSAGE_LIMIT];
     for variant in &VARIANTS {
         for wanted in [0, 1] {
-            let answer = wickslate::whole(variant.number, &longest, wanted, &mut [0; 9]);
+            let answer = wickslate::hash(variant.number, &longest, wanted, &mut [0; 9]);
             assert_eq!(answer.0, 5, "{}", variant.name);
         }
     }

@@ -1,9 +1,9 @@
--- `segments::digest_list` meets its contract: its checks leave none to the calls that it makes. Assumes nothing.
+-- `segments::hash_list` meets its contract: its checks leave none to the calls that it makes. Assumes nothing.
 use borrow.Author.Needs.{needs}
 use Rattle.segments.specs.Digests.{listInto}
 use Rattle.segments.proofs.DigestLaws.{accepted, header-fits, segments-fit, message-taken, left-hashed}
-use Rattle.segments.proofs.digest_list.Statement.{statement}
-use Rattle.segments.proofs.digest_list.Tie as tie
+use Rattle.segments.proofs.hash_list.Statement.{statement}
+use Rattle.segments.proofs.hash_list.Tie as tie
 
 returns : tie.Need-returns
 unfolding listInto
@@ -32,7 +32,7 @@ returns-2 c =
     left-hashed _ _ _ _ _ w _ _ _ (s .start .ensures) (message-taken _ _ _ _ _ w _ (s .start .ensures) _ _ (d .update-header .ensures) (u .update-all .ensures))
     (f .finish .ensures) _ _ (c .before .before .read .ensures)
 
-pub digest-list-spec : {M : Type 1} → statement M
-digest-list-spec =
+pub hash-list-spec : {M : Type 1} → statement M
+hash-list-spec =
     tie.close (tie.spec (λ c κs. search needs) (λ c. search needs) (λ c. search needs) returns (λ c κs. search needs) update-header-requires update-all-requires
     (λ c κs. search needs) (λ c κs. search needs) (λ c. search needs) returns-2)

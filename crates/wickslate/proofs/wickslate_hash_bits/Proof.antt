@@ -1,9 +1,9 @@
--- `wickslate::wickslate_whole_bits` meets its contract: the number of `hasher::hash_bits`'s refusal. Assumes nothing.
+-- `wickslate::wickslate_hash_bits` meets its contract: the number of `hasher::hash_bits`'s refusal. Assumes nothing.
 use mathlib.Core.Path.{_∙_, ap}
 use borrow.Author.Needs.{needs}
 use Rattle.answers.specs.Refusals.{answer}
-use Rattle.wickslate.proofs.wickslate_whole_bits.Statement.{statement}
-use Rattle.wickslate.proofs.wickslate_whole_bits.Tie as tie
+use Rattle.wickslate.proofs.wickslate_hash_bits.Statement.{statement}
+use Rattle.wickslate.proofs.wickslate_hash_bits.Tie as tie
 
 returns : tie.Need-returns
 returns c =
