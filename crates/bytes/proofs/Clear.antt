@@ -67,16 +67,6 @@ pub first-byte : (o : Order) (s : List ℕ) (i : ℕ) → i < length s → bitsI
 unfolding bitsIn
 first-byte o s i h = rw (add-one, drop-cons s i 0)
 
-pub stopped : (o : Order) (s : List ℕ) (i : ℕ) → i < length s → getD s i 0 < 256 → (getD s i 0 ≡ 0 → ⊥) → clear (bitsIn o (drop i s)) ≡ false
-stopped o s i h b n = rw (first-byte o s i h, clear-append, width-set o 8 (getD s i 0) (λ e. n (sym (mod-eq-of-lt b) ∙ e)))
-
-pub passed : (o : Order) (s : List ℕ) (i : ℕ) → i < length s → getD s i 0 ≡ 0 → clear (bitsIn o (drop i s)) ≡ clear (bitsIn o (drop (i + 1) s))
-passed o s i h z = rw (first-byte o s i h, clear-append, width-clear o 8 (getD s i 0) (rw z))
-
-pub past : (o : Order) (s : List ℕ) (i : ℕ) → length s ≤ i → clear (bitsIn o (drop i s)) ≡ true
-unfolding bitsIn
-past o s i h = ap (λ (l : List ℕ). clear (bitsIn o l)) (drop-of-length-le s h)
-
 -- ---- from a bit on
 
 pub past-bit : (o : Order) (s : List ℕ) (c : ℕ) → length s ≤ c / 8 → clear (drop c (bitsIn o s)) ≡ true

@@ -11,13 +11,13 @@ use Rattle.standard.specs.Variants.{variant, variants, none}
 use Rattle.standard.proofs.Tests.{lt-or-le}
 use Rattle.standard.proofs.Variants.{bounds, known-true}
 use Rattle.answers.specs.declared.Status.the-variants.{Done}
-use Rattle.answers.proofs.LineLaws.{Wrote, wrote-on}
+use Rattle.bytes.proofs.LineLaws.{Wrote, wrote-on}
 use Rattle.hasher.specs.declared.Hasher.{Hasher}
 use Rattle.standard.specs.declared.Wanted.the-variants.{Digest}
 use Rattle.hasher.specs.Running.{variantOf, stateOf}
 use Rattle.hasher.specs.Reading.{readStatus, readInto}
 use Rattle.hasher.proofs.Calls.{result-length}
-use Rattle.digest.specs.Hex.{hexOf}
+use Rattle.bytes.specs.Text.{hexOf}
 use Rattle.digest.specs.Answers.{digestLine, lineFor, digestIn}
 use Rattle.digest.proofs.HexLaws.{take-hexOf}
 

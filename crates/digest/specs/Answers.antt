@@ -5,14 +5,14 @@ use Prim.Native.Nat.{ℕ}
 use Rattle.standard.specs.Chain.{digestFrom}
 use Rattle.answers.specs.declared.Status.{Status}
 use Rattle.answers.specs.declared.Status.the-variants.{Done, Refused}
-use Rattle.answers.specs.Text.{ascii}
+use Rattle.bytes.specs.Text.{ascii}
 use Rattle.answers.specs.Lines.{refusedLine}
 use Rattle.hasher.specs.declared.Hasher.{Hasher}
 use Rattle.hasher.specs.declared.Advanced.{Advanced}
 use Rattle.standard.specs.declared.Wanted.the-variants.{Digest}
 use Rattle.hasher.specs.Running.{variantOf, stateOf, finished}
 use Rattle.hasher.specs.Reading.{readStatus}
-use Rattle.digest.specs.Hex.{hexOf}
+use Rattle.bytes.specs.Text.{hexOf}
 
 -- the line of a digest: its digits, and a line end
 unfoldable pub digestLine : List ℕ → List ℕ

@@ -11,7 +11,7 @@ use native.Mathlib.Nat.{not-suc-le-zero}
 use native.Mathlib.Omega.{arith}
 use lib.Dec.{eqb}
 use borrow.Author.Tests.{ltb-true, ltb-false}
-use Rattle.answers.specs.Numbers.{Bytes}
+use Rattle.bytes.specs.Numbers.{Bytes}
 use Rattle.standard.specs.Bits.{digit}
 use Rattle.standard.proofs.Tests.{true-not-false, either, lt-or-le}
 use Rattle.manifest.specs.Lists.{howMany}

@@ -12,7 +12,7 @@ use lib.ListN.{length, take, drop, length-append}
 use lib.Seq.{take-take}
 use borrow.Author.Tests.{lt-ltb}
 use Rattle.answers.specs.declared.Status.the-variants.{Done}
-use Rattle.answers.specs.Numbers.{bigEndian}
+use Rattle.bytes.specs.Numbers.{bigEndian}
 use Rattle.answers.proofs.Statuses.{kept}
 use Rattle.standard.specs.Grid.{tab}
 use Rattle.standard.proofs.Tab.{length-tab}

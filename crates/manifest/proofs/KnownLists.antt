@@ -12,7 +12,7 @@ use lib.ListN.{getD, replicate, List·getD-eq-default}
 use borrow.Author.Tests.{eqb-true, eqb-false}
 use Rattle.answers.specs.declared.Refusal.the-variants.{BadRecord, NotRising}
 use Rattle.answers.specs.declared.Status.the-variants.{Done, Refused}
-use Rattle.answers.specs.Numbers.{Bytes, bigEndian, inBytes}
+use Rattle.bytes.specs.Numbers.{Bytes, bigEndian, inBytes}
 use Rattle.standard.specs.Variants.{variant}
 use Rattle.standard.proofs.Tests.{either, lt-or-le, bound-below}
 use Rattle.manifest.specs.Records.{isManifest, recordCount, axisAt, digestAt, fillerAt, risesAt, recordChecks, manifestStatus}

@@ -10,8 +10,8 @@ use native.Mathlib.Omega.{arith}
 use lib.ListN.{length, length-append}
 use borrow.Author.Tests.{eq-eqb, le-leb}
 use Rattle.answers.specs.declared.Status.the-variants.{Done}
-use Rattle.answers.specs.Numbers.{Bytes}
-use Rattle.answers.proofs.ByteLaws.{append-bytes}
+use Rattle.bytes.specs.Numbers.{Bytes}
+use Rattle.bytes.proofs.ByteLaws.{append-bytes}
 use Rattle.answers.proofs.Rows.{passed-all, each-done}
 use Rattle.standard.specs.Bits.{digit}
 use Rattle.standard.specs.Variants.{known}

@@ -14,7 +14,7 @@ use lib.ListN.{length, take}
 use lib.Seq.{take-add, take-all}
 use borrow.Author.Tests.{eqb-true}
 use Rattle.answers.specs.declared.Status.the-variants.{Done}
-use Rattle.answers.specs.Numbers.{Bytes}
+use Rattle.bytes.specs.Numbers.{Bytes}
 use Rattle.standard.proofs.Tests.{and-true, either, lt-or-le}
 use Rattle.manifest.specs.Records.{isManifest, recordCount, axisAt, manifestStatus}
 use Rattle.manifest.specs.Installations.{Expected, axisNumbers, allAxes, axisCount, IsSound, IsInstallation, recordOf, recordIf, listBelow, listOf, expectedAt, held}

@@ -15,7 +15,8 @@ use Rattle.answers.specs.Checks.{unless, each}
 use Rattle.answers.proofs.Rows.{passing-says, row-both, done-each}
 use Rattle.standard.specs.Variants.{known}
 use Rattle.standard.proofs.Tests.{and-true, either, lt-or-le}
-use Rattle.manifest.specs.Records.{isManifest, recordCount, axisAt, variantAt, fillerAt, zeros, risesAt, recordChecks, manifestStatus}
+use Rattle.manifest.specs.Records.{isManifest, recordCount, axisAt, variantAt, fillerAt, risesAt, recordChecks, manifestStatus}
+use Rattle.bytes.specs.Slices.{zeros}
 use Rattle.manifest.specs.Lookups.{everyBelow, isOrdered, recordFor, isListed}
 use Rattle.manifest.specs.Places.{Place}
 use Rattle.manifest.proofs.RecordLaws.{passing-manifest, everyBelow-at, everyBelow-all, least-at, least-none, least-holds, least-first}

@@ -9,13 +9,14 @@ use lib.Dec.{eqb}
 use lib.ListN.{length, take, drop, getD, replicate, length-append, length-drop, length-replicate, take-append-drop}
 use lib.Seq.{drop-cons, length-take-le, take-take, take-add, take-at, drop-at, getD-at, getD-take, getD-drop, drop-drop, drop-append-le, take-append-le, take-all}
 use borrow.Author.Tests.{eqb-true}
-use Rattle.answers.specs.Numbers.{Bytes, bigEndian, inBytes}
-use Rattle.answers.proofs.ByteLaws.{take-bytes, drop-bytes, cons-bytes, append-bytes, number-bytes, zero-bytes}
-use Rattle.answers.proofs.NumberLaws.{length-inBytes, bigEndian-inBytes, inBytes-bigEndian, two-bytes}
+use Rattle.bytes.specs.Numbers.{Bytes, bigEndian, inBytes}
+use Rattle.bytes.proofs.ByteLaws.{take-bytes, drop-bytes, cons-bytes, append-bytes, number-bytes, zero-bytes}
+use Rattle.bytes.proofs.NumberLaws.{length-inBytes, bigEndian-inBytes, inBytes-bigEndian, two-bytes}
 use Rattle.standard.specs.Variants.{known}
 use Rattle.standard.proofs.Tests.{and-true}
 use Rattle.standard.proofs.Variants.{bounds, known-high}
-use Rattle.manifest.specs.Records.{recordCount, axisAt, variantAt, filledAt, digestBytes, digestAt, fillerAt, zeros}
+use Rattle.manifest.specs.Records.{recordCount, axisAt, variantAt, filledAt, digestBytes, digestAt, fillerAt}
+use Rattle.bytes.specs.Slices.{zeros}
 use Rattle.manifest.specs.Installations.{Expected, IsSound, recordOf, expectedAt}
 use Rattle.manifest.proofs.RecordLaws.{filled-length}
 

@@ -17,7 +17,8 @@ use Rattle.answers.specs.declared.Status.the-variants.{Done}
 use Rattle.answers.proofs.Rows.{passing-says}
 use Rattle.standard.proofs.Tests.{and-true, either}
 use Rattle.manifest.specs.Lists.{firstBelow}
-use Rattle.manifest.specs.Records.{isManifest, recordCount, filledAt, zeros, manifestChecks, manifestStatus}
+use Rattle.manifest.specs.Records.{isManifest, recordCount, filledAt, manifestChecks, manifestStatus}
+use Rattle.bytes.specs.Slices.{zeros}
 use Rattle.manifest.specs.Lookups.{everyBelow, leastBelow, recordFor, isListed}
 use Rattle.manifest.proofs.Counting.{and-no}
 

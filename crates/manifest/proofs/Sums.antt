@@ -12,7 +12,7 @@ use borrow.Author.Tests.{eqb-true, eq-eqb}
 use Rattle.standard.specs.Bits.{digit}
 use Rattle.standard.specs.Variants.{known}
 use Rattle.standard.proofs.Tests.{and-true}
-use Rattle.manifest.specs.Lists.{same}
+use Rattle.bytes.specs.Slices.{same}
 use Rattle.manifest.specs.Installations.{Expected, Axes, isThere, allAxes, axisCount}
 use Rattle.manifest.specs.Tables.{Table, isWhole, firstTable, spanOf, tablesUpTo, mostTables, tablesIn}
 use Rattle.manifest.specs.Counts.{Verdict, equal, unequal, unlisted, isExpected, verdictOf, sameVerdict, judged, isTold, untold, countsOf}

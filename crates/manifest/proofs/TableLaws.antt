@@ -9,7 +9,7 @@ use native.Mathlib.Omega.{arith}
 use lib.ListN.{length, take, drop, length-append, length-drop}
 use lib.Seq.{take-all, take-append-le, drop-append-le, drop-at}
 use borrow.Author.Tests.{leb-true, leb-false, le-leb}
-use Rattle.answers.specs.Numbers.{bigEndian}
+use Rattle.bytes.specs.Numbers.{bigEndian}
 use Rattle.standard.proofs.Tests.{lt-or-le}
 use Rattle.manifest.specs.Tables.{axisIn, lengthIn, spanOf, isWhole, firstTable, tablesUpTo}
 

@@ -30,8 +30,9 @@ use Rattle.hasher.proofs.Next.{onward-none}
 use Rattle.hasher.proofs.Calls.{start-unknown, start-done, update-done, finish-done, result-length}
 use Rattle.hasher.proofs.Message.{taken, fresh-sized, fresh-open, fresh-whole, fresh-kept, none-kept, few-bits, reached-open, end-status, end-into, whole-done}
 use Rattle.hasher.proofs.Demand2.{whole-digest}
-use Rattle.manifest.specs.Lists.{same}
-use Rattle.manifest.specs.Records.{recordCount, variantAt, filledAt, digestBytes, digestAt, fillerAt, zeros, manifestStatus}
+use Rattle.bytes.specs.Slices.{same}
+use Rattle.manifest.specs.Records.{recordCount, variantAt, filledAt, digestBytes, digestAt, fillerAt, manifestStatus}
+use Rattle.bytes.specs.Slices.{zeros}
 use Rattle.manifest.specs.Installations.{expectedAt}
 use Rattle.manifest.specs.Counts.{isExpected}
 use Rattle.manifest.specs.Lookups.{recordFor, isListed}

@@ -11,7 +11,8 @@ use Rattle.standard.specs.Chain.{digestOf}
 use Rattle.standard.specs.Messages.{byteBits}
 use Rattle.standard.specs.Variants.{variant, known}
 use Rattle.manifest.specs.declared.report.Summary.{Summary}
-use Rattle.manifest.specs.Lists.{howMany, same}
+use Rattle.manifest.specs.Lists.{howMany}
+use Rattle.bytes.specs.Slices.{same}
 use Rattle.manifest.specs.Tables.{Table, tablesIn}
 use Rattle.manifest.specs.Installations.{Expected, Axes, allAxes, isThere, axisCount}
 

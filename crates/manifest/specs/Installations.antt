@@ -7,7 +7,7 @@ use mathlib.Core.Option.{Option, none, some, Option·map}
 use Prim.Native.Nat.{ℕ, zero, suc, _-_, _≤_}
 use lib.Dec.{eqb}
 use lib.ListN.{length, replicate}
-use Rattle.answers.specs.Numbers.{Bytes, inBytes}
+use Rattle.bytes.specs.Numbers.{Bytes, inBytes}
 use Rattle.standard.specs.Grid.{tab}
 use Rattle.standard.specs.Variants.{known}
 use Rattle.standard.specs.Layout.{digestRoom}

@@ -21,7 +21,7 @@ use Rattle.manifest.specs.declared.current.Current.{Current}
 use Rattle.manifest.specs.declared.report.Report.{Report}
 use Rattle.manifest.specs.declared.report.Beginning.{Beginning}
 use Rattle.manifest.specs.declared.report.Summary.{Summary}
-use Rattle.manifest.specs.Lists.{same}
+use Rattle.bytes.specs.Slices.{same}
 use Rattle.manifest.specs.Records.{mostRecords, recordCount, variantAt, filledAt, manifestStatus}
 use Rattle.manifest.specs.Tables.{headerBytes, axisIn, lengthIn, mostTables}
 use Rattle.manifest.specs.Lookups.{isOrdered, recordFor, isListed}

@@ -8,7 +8,7 @@ use lib.ListN.{length, take, drop, getD}
 use Rattle.answers.specs.declared.Refusal.the-variants.{BadManifest, BadRecord, NotRising}
 use Rattle.answers.specs.declared.Status.{Status}
 use Rattle.answers.specs.Checks.{Check, unless, firstRefusal, each}
-use Rattle.answers.specs.Numbers.{bigEndian}
+use Rattle.bytes.specs.Numbers.{bigEndian}
 use Rattle.standard.specs.Variants.{variant, known}
 use Rattle.standard.specs.Layout.{digestRoom}
 

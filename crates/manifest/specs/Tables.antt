@@ -5,7 +5,7 @@ use mathlib.Core.List.{List, [], _∷_}
 use Prim.Native.Nat.{ℕ, zero, suc, _+_}
 use lib.Dec.{leb}
 use lib.ListN.{length, take, drop}
-use Rattle.answers.specs.Numbers.{bigEndian}
+use Rattle.bytes.specs.Numbers.{bigEndian}
 
 -- a table of an axis
 pub record Table : Type 0 where

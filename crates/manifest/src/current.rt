@@ -60,13 +60,13 @@ fn hashed_under(manifest: &[u8], axis: u16, n: u32) -> u32
 pub fn axis_in(header: [u8; HEADER_BYTES]) -> u16
     ensures { λ r. ⌜ r ≡ axisIn header ⌝ }
 {
-    answers::u16_at(&header, 0)
+    bytes::numbers::u16_at(&header, 0)
 }
 
 fn length_in(header: [u8; HEADER_BYTES]) -> u32
     ensures { λ r. ⌜ r ≡ lengthIn header ⌝ }
 {
-    answers::u32_at(&header, 2)
+    bytes::numbers::u32_at(&header, 2)
 }
 
 // The header is there, and the contents are to come.

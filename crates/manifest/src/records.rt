@@ -4,7 +4,8 @@ ghost use mathlib.Core.Bool.{true};
 ghost use Prim.Native.Nat.{_*_, _+_, _≤_, _<_};
 ghost use lib.ListN.{drop};
 ghost use Rattle.answers.specs.Checks.{firstRefusal};
-ghost use Rattle.manifest.specs.Records.{isManifest, recordCount, axisAt, variantAt, filledAt, zeros, risesAt, recordChecks, manifestStatus};
+ghost use Rattle.manifest.specs.Records.{isManifest, recordCount, axisAt, variantAt, filledAt, risesAt, recordChecks, manifestStatus};
+ghost use Rattle.bytes.specs.Slices.{zeros};
 ghost use Rattle.manifest.specs.Lookups.{isOrdered, recordFor};
 ghost use Rattle.manifest.specs.Places.{Place};
 use answers::Refusal;
@@ -27,7 +28,7 @@ fn axis_at(manifest: &[u8], k: usize) -> u16
     requires { ⌜ k < recordCount (now manifest) ⌝ }
     ensures { λ r. ⌜ r ≡ axisAt (now (manifest .entry)) k ⌝ }
 {
-    answers::u16_at(manifest, RECORD_BYTES * k)
+    bytes::numbers::u16_at(manifest, RECORD_BYTES * k)
 }
 
 pub fn variant_at(manifest: &[u8], k: usize) -> u8

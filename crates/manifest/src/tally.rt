@@ -4,7 +4,7 @@ ghost use mathlib.Core.Bool.{true};
 ghost use Prim.Native.Nat.{_≤_, _<_};
 ghost use lib.ListN.{length};
 ghost use Rattle.standard.specs.Bits.{digit};
-ghost use Rattle.manifest.specs.Lists.{same};
+ghost use Rattle.bytes.specs.Slices.{same};
 ghost use Rattle.manifest.specs.Records.{mostRecords, isManifest, recordCount};
 ghost use Rattle.manifest.specs.Lookups.{isOrdered};
 ghost use Rattle.manifest.specs.Tables.{mostTables};

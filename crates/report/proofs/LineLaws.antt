@@ -5,10 +5,10 @@ use mathlib.Core.List.{List}
 use Prim.Native.Nat.{ℕ, _≤_}
 use native.Mathlib.Omega.{arith}
 use lib.ListN.{length}
-use Rattle.answers.specs.Outputs.{writtenAt}
-use Rattle.answers.specs.Text.{ascii}
-use Rattle.answers.specs.Lines.{lineOf}
-use Rattle.answers.proofs.LineLaws.{Wrote, wrote-on}
+use Rattle.bytes.specs.Slices.{writtenAt}
+use Rattle.bytes.specs.Text.{ascii}
+use Rattle.bytes.specs.Text.{lineOf}
+use Rattle.bytes.proofs.LineLaws.{Wrote, wrote-on}
 use Rattle.manifest.specs.declared.report.Summary.{Summary}
 use Rattle.report.specs.Lines.{linesOf}
 

@@ -4,8 +4,9 @@ use mathlib.Core.List.{List, _++_}
 use Prim.Native.Nat.{ℕ}
 use Rattle.answers.specs.declared.Status.{Status}
 use Rattle.answers.specs.declared.Status.the-variants.{Done, Refused}
-use Rattle.answers.specs.Text.{ascii}
-use Rattle.answers.specs.Lines.{lineOf, refusedLine}
+use Rattle.bytes.specs.Text.{ascii}
+use Rattle.answers.specs.Lines.{refusedLine}
+use Rattle.bytes.specs.Text.{lineOf}
 use Rattle.manifest.specs.declared.report.Report.{Report}
 use Rattle.manifest.specs.declared.report.Summary.{Summary}
 use Rattle.manifest.specs.Progress.{countsSoFar}

@@ -2,7 +2,7 @@
 use mathlib.Core.Path.{_≡_}
 use mathlib.Core.List.{List}
 use Prim.Native.Nat.{ℕ}
-use Rattle.answers.specs.Numbers.{Bytes}
+use Rattle.bytes.specs.Numbers.{Bytes}
 use Rattle.answers.specs.declared.Status.the-variants.{Done}
 use Rattle.hasher.specs.Pieces.{joined}
 use Rattle.manifest.specs.Records.{manifestStatus}

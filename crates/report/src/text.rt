@@ -2,7 +2,7 @@
 ghost use mathlib.Core.Path.{_≡_};
 ghost use Prim.Native.Nat.{_≤_};
 ghost use lib.ListN.{length};
-ghost use Rattle.answers.specs.Outputs.{writtenAt};
+ghost use Rattle.bytes.specs.Slices.{writtenAt};
 ghost use Rattle.report.specs.Lines.{linesOf, printed};
 use answers::Status;
 use answers::text::write_line;

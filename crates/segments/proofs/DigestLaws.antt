@@ -13,7 +13,7 @@ use Rattle.answers.specs.declared.Refusal.the-variants.{UnknownVariant, TooLong
 use Rattle.answers.specs.declared.Status.{Status}
 use Rattle.answers.specs.declared.Status.the-variants.{Done, Refused}
 use Rattle.answers.specs.Checks.{Check, unless, when, firstRefusal}
-use Rattle.answers.specs.Numbers.{inBytes}
+use Rattle.bytes.specs.Numbers.{inBytes}
 use Rattle.answers.specs.Outputs.{written, most, mostBits}
 use Rattle.answers.proofs.Statuses.{not-done}
 use Rattle.answers.proofs.Rows.{passed-all, passing-says, row-first, row-second, row-both}

@@ -24,14 +24,14 @@ pub fn offset_at(list: &[u8], k: usize) -> u32
     requires { ⌜ k < count (now list) ⌝ }
     ensures { λ r. ⌜ r ≡ offsetOf (now (list .entry)) k ⌝ }
 {
-    answers::u32_at(list, 8 * k)
+    bytes::numbers::u32_at(list, 8 * k)
 }
 
 pub fn length_at(list: &[u8], k: usize) -> u32
     requires { ⌜ k < count (now list) ⌝ }
     ensures { λ r. ⌜ r ≡ lengthOf (now (list .entry)) k ⌝ }
 {
-    answers::u32_at(list, 8 * k + 4)
+    bytes::numbers::u32_at(list, 8 * k + 4)
 }
 
 // Where entry k ends.
@@ -201,7 +201,7 @@ fn update_header(h: Hasher, list: &[u8]) -> Hasher
     requires { ⌜ (wholeSoFar h ≡ true) × (h .total + 8 * length (headerOf (now list)) ≤ mostBits) ⌝ }
     ensures { λ r. ⌜ r ≡ updated h (bytes (headerOf (now (list .entry)))) .hasher ⌝ }
 {
-    let count = answers::u16_bytes((list.len() / 8) as u16);
+    let count = bytes::numbers::u16_bytes((list.len() / 8) as u16);
     let counted = hasher::update(h, &count);
     let listed = hasher::update(counted.hasher, list);
     listed.hasher

@@ -4,7 +4,8 @@ use mathlib.Core.Bool.{true}
 use borrow.Author.Needs.{needs}
 use borrow.Author.Tests.{not-true, not-false}
 use Rattle.standard.specs.Variants.{known}
-use Rattle.manifest.specs.Records.{variantAt, zeros, recordChecks, fillerAt}
+use Rattle.manifest.specs.Records.{variantAt, recordChecks, fillerAt}
+use Rattle.bytes.specs.Slices.{zeros}
 use Rattle.manifest.proofs.records.check_record.Statement.{statement}
 use Rattle.manifest.proofs.records.check_record.Tie as tie
 
