@@ -24,7 +24,7 @@ put-half-requires-2 c κs =
 returns : tie.Need-returns
 returns c =
     let s = c .before .before .before .before .before .before .before .before .before in
-    byte-put (s .args .out .now) _ _ (s .args .p) (s .args .x) (s .pre .0 .0) (s .pre .0 .1) (c .before .before .before .before .before .before .put-nibble .ensures) (c .before .before .put-half2 .ensures)
+    byte-put (s .args .out .now) _ _ (s .args .p) (s .args .x) (s .pre .0 .0) (s .pre .0 .1) (c .before .before .before .before .before .before .put-nibble .ensures) (c .before .before .put-nibble2 .ensures)
 
 same-length : tie.Need-same-length
 same-length c = ap length (returns c) ∙ length-pack high-first stateRoom _ ∙ sym (c .before .before .before .before .before .before .before .before .before .pre .0 .0)
