@@ -21,9 +21,9 @@ abbrev pub written : Status → List ℕ → List ℕ → List ℕ
 written s result out = whenDone s (result ++ drop (length result) out) out
 
 -- the maximum length of a message in bytes
-abbrev pub most : ℕ
-most = 16777215
+abbrev pub maxBytes : ℕ
+maxBytes = 16777215
 
 -- and in bits (document 02, Q-6): those of as many bytes
-abbrev pub mostBits : ℕ
-mostBits = 8 * most
+abbrev pub maxBits : ℕ
+maxBits = 8 * maxBytes

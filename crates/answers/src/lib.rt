@@ -8,9 +8,9 @@ ghost use Rattle.bytes.specs.Numbers.{bigEndian, inBytes};
 ghost use Rattle.answers.specs.Outputs.{isDone};
 
 // The maximum length of a message, in bytes and in bits.
-pub const MOST: usize = 16777215;
+pub const MAX_MESSAGE_BYTES: usize = 16777215;
 
-pub const MOST_BITS: u32 = 134217720;
+pub const MAX_MESSAGE_BITS: u32 = 134217720;
 
 // Why a call was refused. The two of an entry name it.
 pub enum Refusal {

@@ -7,7 +7,7 @@ use Prim.Native.Nat.{ℕ, _-_, _*_, _≤_}
 use lib.ListN.{length, replicate}
 use Rattle.standard.specs.Bits.{high-first, bitsIn, unpack}
 use Rattle.standard.specs.Messages.{Given, bytes, partial}
-use Rattle.answers.specs.Outputs.{mostBits}
+use Rattle.answers.specs.Outputs.{maxBits}
 use Rattle.chain.specs.declared.parts.Ending.{Ending}
 use Rattle.chain.specs.declared.parts.Ending.the-variants.{Whole, Bits}
 
@@ -31,5 +31,5 @@ messageIn front last n = unpack high-first n (front ++ last ∷ [])
 
 -- they are a message within the limit, and the 1 bit and zeros follow them
 pub record HoldsMessage (front : List ℕ) (last n : ℕ) : Type 0 where
-  pub short : n ≤ mostBits
+  pub short : n ≤ maxBits
   pub marked : Marked (messageIn front last n) (front ++ last ∷ [])

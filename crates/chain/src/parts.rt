@@ -9,11 +9,11 @@ ghost use Rattle.standard.specs.Messages.{countedOf, givenBits};
 ghost use Rattle.standard.specs.Variants.{variant, known};
 ghost use Rattle.answers.specs.declared.Status.the-variants.{Done};
 ghost use Rattle.answers.specs.Checks.{firstRefusal};
-ghost use Rattle.answers.specs.Outputs.{most};
+ghost use Rattle.answers.specs.Outputs.{maxBytes};
 ghost use Rattle.chain.specs.Messages.{isBitNumber, numberChecks, messageChecks};
 ghost use Rattle.chain.specs.Parts.{given, countOf, Marked};
 use crate::sizes;
-use answers::MOST;
+use answers::MAX_MESSAGE_BYTES;
 use answers::Refusal;
 use answers::Status;
 
@@ -66,7 +66,7 @@ pub fn check_message(variant: u32, message: &[u8], ending: Ending) -> Status
         return s;
     };
     // Bits pass their limit exactly when bytes pass theirs.
-    if MOST < message.len() {
+    if MAX_MESSAGE_BYTES < message.len() {
         return Status::Refused(Refusal::TooLong);
     }
     Status::Done
@@ -122,7 +122,7 @@ fn count_of(ending: Ending) -> u32
 }
 
 pub fn split_of(v: u8, message: &[u8], ending: Ending) -> Split
-    requires { ⌜ (known v ≡ true) × (firstRefusal (numberChecks (given (now message) ending)) ≡ Done) × (length (now message) ≤ most) ⌝ }
+    requires { ⌜ (known v ≡ true) × (firstRefusal (numberChecks (given (now message) ending)) ≡ Done) × (length (now message) ≤ maxBytes) ⌝ }
     ensures { λ r. ⌜ (r .front ≤ length (now (message .entry))) × (r .bits ≡ length (givenBits (variant v) (given (now (message .entry)) ending))) ⌝ }
     ensures { λ r. ⌜ Marked (givenBits (variant v) (given (now (message .entry)) ending)) (take (r .front) (now (message .entry)) ++ r .last ∷ []) ⌝ }
 {

@@ -6,7 +6,7 @@ ghost use Rattle.standard.specs.Families.{isSponge, imageSize};
 ghost use Rattle.standard.specs.Chain.{blockCount};
 ghost use Rattle.standard.specs.Variants.{variant, known};
 ghost use Rattle.standard.specs.ForCode.{outputBits};
-ghost use Rattle.answers.specs.Outputs.{mostBits};
+ghost use Rattle.answers.specs.Outputs.{maxBits};
 ghost use Rattle.standard.specs.Layout.{stateRoom};
 ghost use Rattle.chain.specs.Endings.{markedCount};
 
@@ -98,7 +98,7 @@ pub fn block_bits(v: u8) -> u32
 // stands in the block that has the length.
 pub fn marked_count(v: u8, bits: usize) -> usize
     requires { ⌜ known v ≡ true ⌝ }
-    requires { ⌜ bits ≤ mostBits ⌝ }
+    requires { ⌜ bits ≤ maxBits ⌝ }
     ensures { λ r. ⌜ (r ≡ markedCount (variant v) bits) × (r ≤ bits + 1) ⌝ }
 {
     if is_sponge(v) {
@@ -110,7 +110,7 @@ pub fn marked_count(v: u8, bits: usize) -> usize
 // How many blocks a message of so many bits has once it is padded.
 pub fn block_count(v: u8, bits: usize) -> usize
     requires { ⌜ known v ≡ true ⌝ }
-    requires { ⌜ bits ≤ mostBits ⌝ }
+    requires { ⌜ bits ≤ maxBits ⌝ }
     ensures { λ r. ⌜ r ≡ blockCount (variant v) bits ⌝ }
 {
     if is_sponge(v) {

@@ -7,7 +7,7 @@ use lib.ListN.{length}
 use Rattle.standard.specs.Chain.{digestOf}
 use Rattle.standard.specs.Messages.{byteBits}
 use Rattle.standard.specs.Variants.{variant, known}
-use Rattle.answers.specs.Outputs.{most}
+use Rattle.answers.specs.Outputs.{maxBytes}
 use Rattle.hasher.specs.Running.{started}
 use Rattle.hasher.specs.Pieces.{plain, joined, allUpdated}
 use Rattle.digest.specs.Answers.{digestLine, answerLine}
@@ -16,5 +16,5 @@ use Rattle.digest.specs.Answers.{digestLine, answerLine}
 -- standard's digest of it.
 abbrev pub DigestPrinted : Type 0
 DigestPrinted =
-    (v : ℕ) → known v ≡ true → (pieces : List (List ℕ)) → length (joined pieces) ≤ most
+    (v : ℕ) → known v ≡ true → (pieces : List (List ℕ)) → length (joined pieces) ≤ maxBytes
     → answerLine (allUpdated (started v) (plain pieces)) ≡ digestLine (digestOf (variant v) (byteBits (joined pieces)))

@@ -38,7 +38,7 @@ fn show(fed: Fed) {
         io::write_all(STDERR_FILENO, b"digest: standard input cannot be read\n");
         return;
     }
-    let mut line = [0u8; text::MOST_BYTES];
+    let mut line = [0u8; text::MAX_BYTES];
     let n = text::write_answer(fed.answer, &mut line);
     io::write_all(STDOUT_FILENO, &line[0..n]);
 }

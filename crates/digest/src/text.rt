@@ -13,7 +13,7 @@ use hasher::Advanced;
 use hasher::Hasher;
 
 // The most bytes that a line has: two digits for each of a digest's 32 bytes, and a line end.
-pub const MOST_BYTES: usize = 65;
+pub const MAX_BYTES: usize = 65;
 
 fn digit(n: u8) -> u8
     requires { ⌜ n < 16 ⌝ }

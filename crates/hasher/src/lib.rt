@@ -11,7 +11,7 @@ ghost use Rattle.standard.specs.Messages.{messageBits, bytes, partial, givenBit
 ghost use Rattle.standard.specs.Variants.{variant, known};
 ghost use Rattle.answers.specs.declared.Status.the-variants.{Done};
 ghost use Rattle.answers.specs.Checks.{firstRefusal};
-ghost use Rattle.answers.specs.Outputs.{written, most, mostBits};
+ghost use Rattle.answers.specs.Outputs.{written, maxBytes, maxBits};
 ghost use Rattle.standard.specs.Layout.{blockRoom, clear};
 ghost use Rattle.chain.specs.Holding.{Holds};
 ghost use Rattle.chain.specs.Messages.{isBitNumber, numberChecks};
@@ -21,8 +21,8 @@ ghost use Rattle.hasher.specs.ForCode.{Open};
 ghost use Rattle.hasher.specs.Reading.{resultOf, resultSize, roomChecks, readStatus, readInto, wholeStatus, wholeInto};
 ghost use Rattle.hasher.specs.ForCode.{isDigest};
 ghost use Rattle.standard.specs.declared.Wanted.the-variants.{Digest, EndState};
-use answers::MOST;
-use answers::MOST_BITS;
+use answers::MAX_MESSAGE_BYTES;
+use answers::MAX_MESSAGE_BITS;
 use answers::Refusal;
 use answers::Status;
 use chain::BLOCK_BYTES;
@@ -68,7 +68,7 @@ pub fn is_well_formed(h: Hasher) -> bool
     if 1 < h.stage {
         return false;
     }
-    if MOST_BITS < h.total {
+    if MAX_MESSAGE_BITS < h.total {
         return false;
     }
     let state = h.state;
@@ -96,17 +96,17 @@ pub fn check_open(h: Hasher) -> Status
 
 // Whether so many bytes may follow what was taken: refusals 16, 4.
 fn check_follow(h: Hasher, bytes: usize) -> Status
-    requires { ⌜ h .total ≤ mostBits ⌝ }
+    requires { ⌜ h .total ≤ maxBits ⌝ }
     ensures { λ r. ⌜ r ≡ firstRefusal (followChecks h (8 * bytes)) ⌝ }
 {
     if h.total % 8 != 0 {
         return Status::Refused(Refusal::InsideByte);
     }
     // Eight times any number could pass the word's end: more bytes than any message has are refused first.
-    if MOST < bytes {
+    if MAX_MESSAGE_BYTES < bytes {
         return Status::Refused(Refusal::TooLong);
     }
-    let left = MOST_BITS - h.total;
+    let left = MAX_MESSAGE_BITS - h.total;
     if (left as usize) < 8 * bytes {
         return Status::Refused(Refusal::TooLong);
     }
@@ -203,7 +203,7 @@ pub fn start(variant: u32) -> Advanced
 // bits and these run through the state, and what is left is held.
 fn grown(h: Hasher, piece: &[u8], last: u8, k: usize) -> Hasher
     requires { ⌜ Open h ⌝ }
-    requires { ⌜ (wholeSoFar h ≡ true) × (k ≤ 8) × (h .total + (8 * length (now piece) + k) ≤ mostBits) ⌝ }
+    requires { ⌜ (wholeSoFar h ≡ true) × (k ≤ 8) × (h .total + (8 * length (now piece) + k) ≤ maxBits) ⌝ }
     requires { ⌜ clear (drop (8 * length (now piece) + k) (bitsIn high-first (now piece ++ last ∷ []))) ≡ true ⌝ }
     ensures { λ r. ⌜ r ≡ grown h (messageIn (now (piece .entry)) last (8 * length (now (piece .entry)) + k)) ⌝ }
 {
@@ -229,7 +229,7 @@ fn grown(h: Hasher, piece: &[u8], last: u8, k: usize) -> Hasher
 fn grown_bits(h: Hasher, piece: &[u8], k: usize) -> Hasher
     requires { ⌜ Open h ⌝ }
     requires { ⌜ (wholeSoFar h ≡ true) × (isBitNumber k (length (now piece)) ≡ true) ⌝ }
-    requires { ⌜ h .total + length (messageBits (variantOf h) (now piece) k) ≤ mostBits ⌝ }
+    requires { ⌜ h .total + length (messageBits (variantOf h) (now piece) k) ≤ maxBits ⌝ }
     ensures { λ r. ⌜ r ≡ grown h (messageBits (variantOf h) (now (piece .entry)) k) ⌝ }
 {
     let n = piece.len() - 1;
@@ -436,7 +436,7 @@ fn end_of(v: u8, front: &[u8], last: u8, bits: usize, wanted: Wanted) -> [u8; ST
 
 // The same of a message as a caller gives it.
 fn end_of_given(v: u8, message: &[u8], ending: Ending, wanted: Wanted) -> [u8; STATE_BYTES]
-    requires { ⌜ (known v ≡ true) × (firstRefusal (numberChecks (given (now message) ending)) ≡ Done) × (length (now message) ≤ most) ⌝ }
+    requires { ⌜ (known v ≡ true) × (firstRefusal (numberChecks (given (now message) ending)) ≡ Done) × (length (now message) ≤ maxBytes) ⌝ }
     ensures { λ r. ⌜ take (resultSize (variant v) wanted) r ≡ resultOf (variant v) wanted (endState (variant v) (givenBits (variant v) (given (now (message .entry)) ending))) ⌝ }
 {
     let m = chain::parts::split_of(v, message, ending);

@@ -24,7 +24,7 @@ use Rattle.manifest.specs.declared.report.Report.{Report}
 use Rattle.manifest.specs.declared.report.Summary.{Summary}
 use Rattle.manifest.specs.Records.{recordCount, manifestStatus}
 use Rattle.manifest.specs.Installations.{expectedAt, held}
-use Rattle.manifest.specs.Tables.{Table, axisIn, spanOf, isWhole, firstTable, tablesUpTo, mostTables, tablesIn}
+use Rattle.manifest.specs.Tables.{Table, axisIn, spanOf, isWhole, firstTable, tablesUpTo, maxTables, tablesIn}
 use Rattle.manifest.specs.Counts.{isExpected, countsOf}
 use Rattle.manifest.specs.Lookups.{isOrdered, recordFor, isListed}
 use Rattle.manifest.specs.Progress.{unread, hashedUnder, tableByte, isComplete, tallied, matches, withTable, settled, byteTaken, pieceTaken, freshReport, empty, begun, countsSoFar}
@@ -75,7 +75,7 @@ nothing-taken list p = refl
 -- a byte leaves it so that the next is read
 passed-byte : (list : List ℕ) (r : Report) (b : ℕ) → r .passed ≡ true → byteTaken list r b .passed ≡ true
 unfolding byteTaken settled
-passed-byte list r b e = by (ltb (tallied (r .tally)) mostTables) (isComplete (tableByte list (r .current) b))
+passed-byte list r b e = by (ltb (tallied (r .tally)) maxTables) (isComplete (tableByte list (r .current) b))
   where
     by : (t c : Bool) → cond t
         (cond c (reportWith true (withTable list (r .tally) (tableByte list (r .current) b)) unread) (reportWith true (r .tally) (tableByte list (r .current) b))) r .passed
@@ -113,11 +113,11 @@ module _ (list : List ℕ) (passes : manifestStatus list ≡ Done) where
 
   -- ---- a byte
 
-  module _ (ts : List Table) (s : List ℕ) (b : ℕ) (h : length ts < mostTables) where
+  module _ (ts : List Table) (s : List ℕ) (b : ℕ) (h : length ts < maxTables) where
     -- it is looked at
     looked-at : byteTaken list (reportOf list ts s) b ≡ settled list (tallyOf list ts) (reading list (s ++ b ∷ []))
     unfolding byteTaken
-    looked-at = rw (tallied-all list ts, lt-ltb (length ts) mostTables h, foldl-append (tableByte list) unread s (b ∷ []))
+    looked-at = rw (tallied-all list ts, lt-ltb (length ts) maxTables h, foldl-append (tableByte list) unread s (b ∷ []))
 
     -- a byte that ends the table
     last-byte : isWhole s ≡ false → isWhole (s ++ b ∷ []) ≡ true → byteTaken list (reportOf list ts s) b ≡ reportOf list (ts ++ firstTable (s ++ b ∷ []) ∷ []) []
@@ -134,7 +134,7 @@ module _ (list : List ℕ) (passes : manifestStatus list ≡ Done) where
   -- ---- the rest of the stream
 
   -- n tables more are looked at
-  read-on : (x : List ℕ) (n : ℕ) (ts : List Table) (s : List ℕ) → n + length ts ≡ mostTables → isWhole s ≡ false
+  read-on : (x : List ℕ) (n : ℕ) (ts : List Table) (s : List ℕ) → n + length ts ≡ maxTables → isWhole s ≡ false
       → foldl (byteTaken list) (reportOf list ts s) x .tally ≡ tallyOf list (ts ++ tablesUpTo n (s ++ x))
   read-on [] n ts s e short = rw (append-nil s, none-whole n s short, append-nil ts)
   read-on (b ∷ x) zero ts s e short =
@@ -182,7 +182,7 @@ module _ (list : List ℕ) (passes : manifestStatus list ≡ Done) where
   reported-tally pieces =
       ap (λ (r : Report). foldl (pieceTaken list) r pieces .tally) from-the-start
       ∙ ap (λ (r : Report). r .tally) (joined-bytes pieces (reportOf list [] []) refl)
-      ∙ read-on (joined pieces) mostTables [] [] (omega arith) nothing-whole
+      ∙ read-on (joined pieces) maxTables [] [] (omega arith) nothing-whole
 
   -- and the counts, from that tally
   counts-tally : (pieces : List (List ℕ)) → countsOver list pieces ≡ countsIn (tallyOf list (tablesIn (joined pieces)))

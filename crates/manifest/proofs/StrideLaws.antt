@@ -15,7 +15,7 @@ use Rattle.hasher.specs.Pieces.{withByte}
 use Rattle.manifest.specs.declared.tally.Tally.{Tally}
 use Rattle.manifest.specs.declared.current.Current.{Current}
 use Rattle.manifest.specs.declared.report.Report.{Report}
-use Rattle.manifest.specs.Tables.{mostTables}
+use Rattle.manifest.specs.Tables.{maxTables}
 use Rattle.manifest.specs.Progress.{headerByte, contentByte, tableByte, isComplete, tallied, settled, byteTaken}
 use Rattle.manifest.specs.Strides.{Stride}
 
@@ -51,11 +51,11 @@ module _ (list : List ℕ) where
       rw (le-ltb (c .got) 6 h)
       (advance-bytes part (contentByte c b) h ∙ ap (λ (n : ℕ). further c n (foldl withByte (c .hasher) (b ∷ part))) e)
 
-  module _ (y : Tally) (few : tallied y < mostTables) where
+  module _ (y : Tally) (few : tallied y < maxTables) where
     -- one byte
     one-byte : (p : Bool) (c : Current) (b : ℕ) → byteTaken list (reportWith p y c) b ≡ settled list y (tableByte list c b)
     unfolding byteTaken
-    one-byte p c b = rw (lt-ltb (tallied y) mostTables few)
+    one-byte p c b = rw (lt-ltb (tallied y) maxTables few)
 
     -- a byte inside the contents ends no table
     inside-byte : (p : Bool) (c : Current) (b : ℕ) → 6 ≤ c .got → 1 < c .left
@@ -86,11 +86,11 @@ module _ (list : List ℕ) where
         contents (inr h) = h
 
   -- after the last table nothing changes
-  full-byte : (r : Report) → mostTables ≤ tallied (r .tally) → (b : ℕ) → byteTaken list r b ≡ r
+  full-byte : (r : Report) → maxTables ≤ tallied (r .tally) → (b : ℕ) → byteTaken list r b ≡ r
   unfolding byteTaken
-  full-byte r h b = rw (le-ltb (tallied (r .tally)) mostTables h)
+  full-byte r h b = rw (le-ltb (tallied (r .tally)) maxTables h)
 
-  pub full-stays : (r : Report) → mostTables ≤ tallied (r .tally) → (part : List ℕ) → foldl (byteTaken list) r part ≡ r
+  pub full-stays : (r : Report) → maxTables ≤ tallied (r .tally) → (part : List ℕ) → foldl (byteTaken list) r part ≡ r
   full-stays r h [] = refl
   full-stays r h (b ∷ part) = ap (λ (q : Report). foldl (byteTaken list) q part) (full-byte r h b) ∙ full-stays r h part
 

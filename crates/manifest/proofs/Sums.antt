@@ -14,7 +14,7 @@ use Rattle.standard.specs.Variants.{known}
 use Rattle.standard.proofs.Tests.{and-true}
 use Rattle.bytes.specs.Slices.{same}
 use Rattle.manifest.specs.Installations.{Expected, Axes, isThere, allAxes, axisCount}
-use Rattle.manifest.specs.Tables.{Table, isWhole, firstTable, spanOf, tablesUpTo, mostTables, tablesIn}
+use Rattle.manifest.specs.Tables.{Table, isWhole, firstTable, spanOf, tablesUpTo, maxTables, tablesIn}
 use Rattle.manifest.specs.Counts.{Verdict, equal, unequal, unlisted, isExpected, verdictOf, sameVerdict, judged, isTold, untold, countsOf}
 use Rattle.manifest.specs.Promises.{ToldAddUp, UntoldAtMost, TablesAtMost}
 use Rattle.manifest.proofs.Counting.{count-three, count-part}
@@ -70,9 +70,9 @@ up-to zero stream = omega arith
 up-to (suc n) stream = one-more (isWhole stream) (firstTable stream) (tablesUpTo n (drop (spanOf stream) stream)) n (up-to n (drop (spanOf stream) stream))
 
 -- No more tables count than a report looks at.
-pub few-tables : (stream : List ℕ) → length (tablesIn stream) ≤ mostTables
+pub few-tables : (stream : List ℕ) → length (tablesIn stream) ≤ maxTables
 unfolding tablesIn
-few-tables stream = up-to mostTables stream
+few-tables stream = up-to maxTables stream
 
 pub tables-at-most : TablesAtMost
 unfolding countsOf

@@ -18,7 +18,7 @@ use Rattle.standard.proofs.Tests.{and-true, lt-or-le}
 use Rattle.standard.proofs.Variants.{bounds}
 use Rattle.answers.specs.declared.Status.{Status}
 use Rattle.answers.specs.declared.Status.the-variants.{Done}
-use Rattle.answers.specs.Outputs.{whenDone, most}
+use Rattle.answers.specs.Outputs.{whenDone, maxBytes}
 use Rattle.hasher.specs.declared.Hasher.{Hasher}
 use Rattle.hasher.specs.declared.Advanced.{Advanced}
 use Rattle.standard.specs.declared.Wanted.the-variants.{Digest}
@@ -45,7 +45,7 @@ use Rattle.manifest.proofs.OrderLaws.{passed-record}
 
 module _ (v : ℕ) (k : known v ≡ true) where
   -- from its start, within the limit
-  contents-taken : (m : List ℕ) → length m ≤ most → foldl withByte (started v .hasher) m ≡ taken v m
+  contents-taken : (m : List ℕ) → length m ≤ maxBytes → foldl withByte (started v .hasher) m ≡ taken v m
   contents-taken [] few =
       ap (λ (u : Advanced). u .hasher) (start-done v k)
       ∙ sym (onward-none (fresh v) (fresh-sized v k) (fresh-open v k) (fresh-kept v k) (none-kept v k))
@@ -122,7 +122,7 @@ module _ (list : List ℕ) (passes : manifestStatus list ≡ Done) (k : ℕ) (he
       ∙ and-yes (same d (digestAt list k))
 
   -- a running hash of the whole contents
-  hashed-matches : (m : List ℕ) → length m ≤ most → matches list k (taken v m) ≡ same (digestOf (variant v) (byteBits m)) (digestAt list k)
+  hashed-matches : (m : List ℕ) → length m ≤ maxBytes → matches list k (taken v m) ≡ same (digestOf (variant v) (byteBits m)) (digestAt list k)
   unfolding matches digestOf
   hashed-matches m few =
       let end : finished (taken v m) .hasher ≡ ended (taken v m) = ap (λ (a : Advanced). a .hasher) (finish-done (taken v m) (reached-open v named (byteBits m) (few-bits m few))) in
@@ -150,6 +150,6 @@ module _ (list : List ℕ) (passes : manifestStatus list ≡ Done) (axis : ℕ) 
   verdict =
       let n = named list passes k here in
       ⊎-elim
-      (λ l. rw (lt-leb (length m) most l, is, n, none-taken m) (none-matches list k))
-      (λ l. rw (le-leb (length m) most l, is, n, contents-taken (variantAt list k) n m l) (hashed-matches list passes k here m l))
-      (lt-or-le most (length m))
+      (λ l. rw (lt-leb (length m) maxBytes l, is, n, none-taken m) (none-matches list k))
+      (λ l. rw (le-leb (length m) maxBytes l, is, n, contents-taken (variantAt list k) n m l) (hashed-matches list passes k here m l))
+      (lt-or-le maxBytes (length m))

@@ -6,7 +6,7 @@ use mathlib.Core.Option.{Option, none, some}
 use Prim.Native.Nat.{ℕ}
 use lib.Dec.{eqb, ltb, leb}
 use lib.ListN.{length}
-use Rattle.answers.specs.Outputs.{most}
+use Rattle.answers.specs.Outputs.{maxBytes}
 use Rattle.standard.specs.Chain.{digestOf}
 use Rattle.standard.specs.Messages.{byteBits}
 use Rattle.standard.specs.Variants.{variant, known}
@@ -28,7 +28,7 @@ pub data Verdict : Type 0 where
 -- variant that is not known nothing has a digest
 unfoldable pub isExpected : Expected → List ℕ → Bool
 isExpected e contents =
-    known (e .variant) && leb (length contents) most
+    known (e .variant) && leb (length contents) maxBytes
     && same (digestOf (variant (e .variant)) (byteBits contents)) (e .digest)
 
 -- the verdict on a table, by what is expected of its axis

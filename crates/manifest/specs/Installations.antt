@@ -12,7 +12,7 @@ use Rattle.standard.specs.Grid.{tab}
 use Rattle.standard.specs.Variants.{known}
 use Rattle.standard.specs.Layout.{digestRoom}
 use Rattle.manifest.specs.Lists.{howMany, firstBelow}
-use Rattle.manifest.specs.Records.{mostRecords, recordCount, axisAt, variantAt, digestBytes, digestAt}
+use Rattle.manifest.specs.Records.{maxRecords, recordCount, axisAt, variantAt, digestBytes, digestAt}
 
 -- what the table of an axis should be: one that has this digest under this variant
 pub record Expected : Type 0 where
@@ -49,7 +49,7 @@ pub record IsSound (e : Expected) : Type 0 where
 -- an installation: a map of axis numbers, up to 512 of them, to sound variants and digests
 pub record IsInstallation (axes : Axes) : Type 0 where
   pub numbered : (axis : ℕ) → axisNumbers ≤ axis → axes axis ≡ none
-  pub few : axisCount axes ≤ mostRecords
+  pub few : axisCount axes ≤ maxRecords
   pub sound : (axis : ℕ) (e : Expected) → axes axis ≡ some e → IsSound e
 
 -- ---- written as a manifest

@@ -7,7 +7,7 @@ use mathlib.Core.List.{List, foldl}
 use Prim.Native.Nat.{ℕ, _+_, _-_}
 use lib.Dec.{eqb, ltb, leb}
 use lib.ListN.{replicate, getD, set}
-use Rattle.answers.specs.Outputs.{whenDone, most}
+use Rattle.answers.specs.Outputs.{whenDone, maxBytes}
 use Rattle.standard.specs.Bits.{digit}
 use Rattle.standard.specs.Grid.{tab}
 use Rattle.standard.specs.Layout.{digestRoom}
@@ -22,8 +22,8 @@ use Rattle.manifest.specs.declared.report.Report.{Report}
 use Rattle.manifest.specs.declared.report.Beginning.{Beginning}
 use Rattle.manifest.specs.declared.report.Summary.{Summary}
 use Rattle.bytes.specs.Slices.{same}
-use Rattle.manifest.specs.Records.{mostRecords, recordCount, variantAt, filledAt, manifestStatus}
-use Rattle.manifest.specs.Tables.{headerBytes, axisIn, lengthIn, mostTables}
+use Rattle.manifest.specs.Records.{maxRecords, recordCount, variantAt, filledAt, manifestStatus}
+use Rattle.manifest.specs.Tables.{headerBytes, axisIn, lengthIn, maxTables}
 use Rattle.manifest.specs.Lookups.{isOrdered, recordFor, isListed}
 
 -- ---- the table that is being read
@@ -34,7 +34,7 @@ unread = record { header = replicate headerBytes 0; got = 0; left = 0; hasher = 
 
 -- the variant under which a table is hashed: that of its axis's record; 0, under which nothing is, where the axis is not listed or the table past the limit
 unfoldable pub hashedUnder : List ℕ → ℕ → ℕ → ℕ
-hashedUnder list axis n = cond (isListed list axis && leb n most) (variantAt list (recordFor list axis)) 0
+hashedUnder list axis n = cond (isListed list axis && leb n maxBytes) (variantAt list (recordFor list axis)) 0
 
 -- its header is there, and the contents are to come
 unfoldable pub openedTable : List ℕ → List ℕ → Current
@@ -103,7 +103,7 @@ settled list y c =
 
 -- a byte of the stream; none is looked at after the last table
 unfoldable pub byteTaken : List ℕ → Report → ℕ → Report
-byteTaken list r b = cond (ltb (tallied (r .tally)) mostTables) (settled list (r .tally) (tableByte list (r .current) b)) r
+byteTaken list r b = cond (ltb (tallied (r .tally)) maxTables) (settled list (r .tally) (tableByte list (r .current) b)) r
 
 -- each byte of a piece in turn; after a beginning that was refused, and with bytes that are not whole records or do not rise, nothing is read
 unfoldable pub pieceTaken : List ℕ → Report → List ℕ → Report
@@ -111,7 +111,7 @@ pieceTaken list r piece = cond (r .passed && isOrdered list) (foldl (byteTaken l
 
 -- every axis awaited, by its record
 unfoldable pub awaitedAll : List ℕ → List ℕ
-awaitedAll list = tab mostRecords (λ k. digit (ltb k (recordCount list)))
+awaitedAll list = tab maxRecords (λ k. digit (ltb k (recordCount list)))
 
 -- no table read yet
 unfoldable pub freshReport : List ℕ → Report
@@ -125,7 +125,7 @@ freshReport list =
 -- a report of nothing: what a refused manifest yields
 abbrev pub empty : Report
 empty =
-    record { passed = false; tally = record { listed = 0; untold = 0; equal = 0; unequal = 0; unlisted = 0; awaited = replicate mostRecords 0 }; current = unread }
+    record { passed = false; tally = record { listed = 0; untold = 0; equal = 0; unequal = 0; unlisted = 0; awaited = replicate maxRecords 0 }; current = unread }
 
 unfoldable pub begun : List ℕ → Beginning
 begun list = record { status = manifestStatus list; report = whenDone (manifestStatus list) (freshReport list) empty }

@@ -13,7 +13,7 @@ use Rattle.manifest.specs.declared.report.Report.{Report}
 use Rattle.manifest.specs.declared.report.Summary.{Summary}
 use Rattle.manifest.specs.Records.{recordCount, axisAt, manifestStatus}
 use Rattle.manifest.specs.Installations.{Axes, IsInstallation, listOf, expectedAt, held}
-use Rattle.manifest.specs.Tables.{mostTables}
+use Rattle.manifest.specs.Tables.{maxTables}
 use Rattle.manifest.specs.Counts.{countsOf}
 use Rattle.manifest.specs.Progress.{begun, pieceTaken, countsSoFar}
 
@@ -67,14 +67,14 @@ UntoldAtMost = (axes : Axes) (stream : List ℕ) → countsOf axes stream .untol
 
 -- tables-at-most. No more tables count than a report looks at: 65,535.
 abbrev pub TablesAtMost : Type 0
-TablesAtMost = (axes : Axes) (stream : List ℕ) → countsOf axes stream .tables ≤ mostTables
+TablesAtMost = (axes : Axes) (stream : List ℕ) → countsOf axes stream .tables ≤ maxTables
 
 -- counts-in-pieces. So it is with the counts that a caller finds, after any pieces.
 abbrev pub CountsInPieces : Type 0
 CountsInPieces =
     (list : List ℕ) → manifestStatus list ≡ Done → (pieces : List (List ℕ))
     → AddsUp (countsOver list pieces)
-    × (countsOver list pieces .tables ≤ mostTables)
+    × (countsOver list pieces .tables ≤ maxTables)
     × (countsOver list pieces .untold ≤ countsOver list pieces .listed)
 
 -- ---- one list for one installation

@@ -16,12 +16,12 @@ use Rattle.standard.specs.Layout.{digestRoom}
 abbrev pub recordBytes : ℕ
 recordBytes = 35
 
-abbrev pub mostRecords : ℕ
-mostRecords = 512
+abbrev pub maxRecords : ℕ
+maxRecords = 512
 
 -- 12 refuses what is not: whole records, and no more than 512 of them
 unfoldable pub isManifest : List ℕ → Bool
-isManifest list = eqb (length list % recordBytes) 0 && leb (length list) (mostRecords * recordBytes)
+isManifest list = eqb (length list % recordBytes) 0 && leb (length list) (maxRecords * recordBytes)
 
 -- how many records a manifest has
 abbrev pub recordCount : List ℕ → ℕ

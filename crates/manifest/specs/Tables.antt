@@ -40,9 +40,9 @@ tablesUpTo zero stream = []
 tablesUpTo (suc n) stream = cond (isWhole stream) (firstTable stream ∷ tablesUpTo n (drop (spanOf stream) stream)) []
 
 -- the most tables that a report looks at
-abbrev pub mostTables : ℕ
-mostTables = 65535
+abbrev pub maxTables : ℕ
+maxTables = 65535
 
 -- the tables of a stream
 unfoldable pub tablesIn : List ℕ → List Table
-tablesIn stream = tablesUpTo mostTables stream
+tablesIn stream = tablesUpTo maxTables stream

@@ -4,7 +4,7 @@ ghost use mathlib.Core.Bool.{true};
 ghost use mathlib.Core.List.{foldl};
 ghost use Prim.Native.Nat.{_+_, _-_, _*_, _≤_, _<_};
 ghost use lib.ListN.{length};
-ghost use Rattle.answers.specs.Outputs.{mostBits};
+ghost use Rattle.answers.specs.Outputs.{maxBits};
 ghost use Rattle.hasher.specs.Pieces.{withByte};
 ghost use Rattle.manifest.specs.Lookups.{isOrdered};
 ghost use Rattle.manifest.specs.Tables.{headerBytes, axisIn, lengthIn};
@@ -12,8 +12,8 @@ ghost use Rattle.manifest.specs.Progress.{unread, hashedUnder, openedTab
 ghost use Rattle.manifest.specs.Strides.{Stride};
 use crate::records;
 use crate::records::RECORD_BYTES;
-use answers::MOST;
-use answers::MOST_BITS;
+use answers::MAX_MESSAGE_BYTES;
+use answers::MAX_MESSAGE_BITS;
 use hasher::Hasher;
 
 // Two bytes of axis number and four of length.
@@ -51,7 +51,7 @@ fn hashed_under(manifest: &[u8], axis: u16, n: u32) -> u32
     if manifest.len() / RECORD_BYTES <= k {
         return 0;
     }
-    if MOST < n as usize {
+    if MAX_MESSAGE_BYTES < n as usize {
         return 0;
     }
     records::variant_at(manifest, k) as u32
@@ -113,12 +113,12 @@ fn least(a: usize, b: usize) -> usize
 
 // The bytes that a running hash of so many bits can still take; any number where it can take none, since it then refuses them all.
 fn room(total: u32) -> usize
-    ensures { λ r. ⌜ (1 ≤ r) × (total + 8 ≤ mostBits → total + 8 * r ≤ mostBits) ⌝ }
+    ensures { λ r. ⌜ (1 ≤ r) × (total + 8 ≤ maxBits → total + 8 * r ≤ maxBits) ⌝ }
 {
-    if total <= MOST_BITS - 8 {
-        ((MOST_BITS - total) / 8) as usize
+    if total <= MAX_MESSAGE_BITS - 8 {
+        ((MAX_MESSAGE_BITS - total) / 8) as usize
     } else {
-        MOST
+        MAX_MESSAGE_BYTES
     }
 }
 
@@ -147,7 +147,7 @@ pub fn minus(a: u32, b: u32) -> u32
 // The running hash after some bytes more, which it takes whole or not at all.
 fn with_bytes(h: Hasher, part: &[u8]) -> Hasher
     requires { ⌜ 1 ≤ length (now part) ⌝ }
-    requires { ⌜ (h .total + 8 ≤ mostBits → h .total + 8 * length (now part) ≤ mostBits) ⌝ }
+    requires { ⌜ (h .total + 8 ≤ maxBits → h .total + 8 * length (now part) ≤ maxBits) ⌝ }
     ensures { λ r. ⌜ r ≡ foldl withByte h (now (part .entry)) ⌝ }
 {
     let u = hasher::update(h, part);

@@ -15,13 +15,13 @@ use chain::DIGEST_BYTES;
 // A record: two bytes of axis number, one of variant, and 32 of the digest and the filler after it.
 pub const RECORD_BYTES: usize = 35;
 
-pub const MOST_RECORDS: usize = 512;
+pub const MAX_RECORDS: usize = 512;
 
 // Whole records, and no more than 512 of them.
 fn is_manifest(manifest: &[u8]) -> bool
     ensures { λ r. ⌜ r ≡ isManifest (now (manifest .entry)) ⌝ }
 {
-    manifest.len() % RECORD_BYTES == 0 && manifest.len() <= MOST_RECORDS * RECORD_BYTES
+    manifest.len() % RECORD_BYTES == 0 && manifest.len() <= MAX_RECORDS * RECORD_BYTES
 }
 
 fn axis_at(manifest: &[u8], k: usize) -> u16

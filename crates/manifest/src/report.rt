@@ -6,19 +6,19 @@ ghost use Prim.Native.Nat.{_<_};
 ghost use lib.ListN.{length};
 ghost use Rattle.manifest.specs.Records.{isManifest};
 ghost use Rattle.manifest.specs.Lookups.{isOrdered};
-ghost use Rattle.manifest.specs.Tables.{mostTables};
+ghost use Rattle.manifest.specs.Tables.{maxTables};
 ghost use Rattle.manifest.specs.Progress.{tallied, settled, byteTaken, pieceTaken, freshReport, begun, countsSoFar};
 ghost use Rattle.manifest.specs.Strides.{Stride};
 use crate::current;
 use crate::current::Current;
 use crate::records;
-use crate::records::MOST_RECORDS;
+use crate::records::MAX_RECORDS;
 use crate::tally;
 use crate::tally::Tally;
 use answers::Status;
 
 // The most tables that a report looks at.
-pub const MOST_TABLES: u32 = 65535;
+pub const MAX_TABLES: u32 = 65535;
 
 // A report in progress. Where the manifest was refused at its beginning, it takes nothing.
 pub struct Report {
@@ -84,7 +84,7 @@ pub fn start(manifest: &[u8]) -> Beginning
                 equal: 0,
                 unequal: 0,
                 unlisted: 0,
-                awaited: [0u8; MOST_RECORDS],
+                awaited: [0u8; MAX_RECORDS],
             },
             current: current::unread(),
         },
@@ -94,7 +94,7 @@ pub fn start(manifest: &[u8]) -> Beginning
 // A table that is complete goes into the tally.
 fn settle(manifest: &[u8], y: Tally, c: Current) -> Report
     requires { ⌜ isOrdered (now manifest) ≡ true ⌝ }
-    requires { ⌜ tallied y < mostTables ⌝ }
+    requires { ⌜ tallied y < maxTables ⌝ }
     ensures { λ r. ⌜ r ≡ settled (now (manifest .entry)) y c ⌝ }
 {
     if current::is_complete(c) {
@@ -114,7 +114,7 @@ fn settle(manifest: &[u8], y: Tally, c: Current) -> Report
 // Some bytes of the stream, of which only the last can end a table.
 fn stepped(manifest: &[u8], r: Report, part: &[u8]) -> Report
     requires { ⌜ isOrdered (now manifest) ≡ true ⌝ }
-    requires { ⌜ tallied (r .tally) < mostTables ⌝ }
+    requires { ⌜ tallied (r .tally) < maxTables ⌝ }
     requires { ⌜ Stride (r .current) (length (now part)) ⌝ }
     ensures { λ s. ⌜ s ≡ foldl (byteTaken (now (manifest .entry))) r (now (part .entry)) ⌝ }
 {
@@ -138,7 +138,7 @@ pub fn update(manifest: &[u8], report: Report, piece: &[u8]) -> Report
         return latest;
     }
     let mut i = 0;
-    while i < piece.len() && tally::tallied(latest.tally) < MOST_TABLES {
+    while i < piece.len() && tally::tallied(latest.tally) < MAX_TABLES {
         let n = current::stride(latest.current, piece.len() - i);
         let next = stepped(manifest, latest, &piece[i..i + n]);
         latest = next;

@@ -5,15 +5,15 @@ ghost use Prim.Native.Nat.{_≤_, _<_};
 ghost use lib.ListN.{length};
 ghost use Rattle.standard.specs.Bits.{digit};
 ghost use Rattle.bytes.specs.Slices.{same};
-ghost use Rattle.manifest.specs.Records.{mostRecords, isManifest, recordCount};
+ghost use Rattle.manifest.specs.Records.{maxRecords, isManifest, recordCount};
 ghost use Rattle.manifest.specs.Lookups.{isOrdered};
-ghost use Rattle.manifest.specs.Tables.{mostTables};
+ghost use Rattle.manifest.specs.Tables.{maxTables};
 ghost use Rattle.manifest.specs.Progress.{tallied, matches, withListed, withUnlisted, withTable, awaitedAll};
 use crate::current::Current;
 use crate::current::axis_in;
 use crate::current::minus;
 use crate::records;
-use crate::records::MOST_RECORDS;
+use crate::records::MAX_RECORDS;
 use crate::records::RECORD_BYTES;
 use answers::Status;
 use hasher::Hasher;
@@ -26,7 +26,7 @@ pub struct Tally {
     pub equal: u16,
     pub unequal: u16,
     pub unlisted: u16,
-    pub awaited: [u8; MOST_RECORDS],
+    pub awaited: [u8; MAX_RECORDS],
 }
 
 // 1 where the condition holds.
@@ -37,12 +37,12 @@ fn one_if(b: bool) -> u8
 }
 
 // At the beginning every axis is awaited, by its record.
-pub fn awaited_all(manifest: &[u8]) -> [u8; MOST_RECORDS]
+pub fn awaited_all(manifest: &[u8]) -> [u8; MAX_RECORDS]
     requires { ⌜ isManifest (now manifest) ≡ true ⌝ }
     ensures { λ r. ⌜ r ≡ awaitedAll (now (manifest .entry)) ⌝ }
 {
     let n = manifest.len() / RECORD_BYTES;
-    let mut out = [0u8; MOST_RECORDS];
+    let mut out = [0u8; MAX_RECORDS];
     let mut k = 0;
     while k < n {
         out[k] = 1;
@@ -97,8 +97,8 @@ fn matches(manifest: &[u8], k: usize, h: Hasher) -> bool
 
 // The tally with a table of record k. Its axis is awaited no longer, so that a second table of it leaves the untold ones as they are.
 fn with_listed(y: Tally, k: usize, agrees: bool) -> Tally
-    requires { ⌜ k < mostRecords ⌝ }
-    requires { ⌜ tallied y < mostTables ⌝ }
+    requires { ⌜ k < maxRecords ⌝ }
+    requires { ⌜ tallied y < maxTables ⌝ }
     ensures { λ r. ⌜ r ≡ withListed y k agrees ⌝ }
 {
     let mut awaited = y.awaited;
@@ -120,7 +120,7 @@ fn with_listed(y: Tally, k: usize, agrees: bool) -> Tally
 
 // The tally with a table of no listed axis.
 fn with_unlisted(y: Tally) -> Tally
-    requires { ⌜ tallied y < mostTables ⌝ }
+    requires { ⌜ tallied y < maxTables ⌝ }
     ensures { λ r. ⌜ r ≡ withUnlisted y ⌝ }
 {
     let awaited = y.awaited;
@@ -137,7 +137,7 @@ fn with_unlisted(y: Tally) -> Tally
 // The tally with the table that was read.
 pub fn with_table(manifest: &[u8], y: Tally, c: Current) -> Tally
     requires { ⌜ isOrdered (now manifest) ≡ true ⌝ }
-    requires { ⌜ tallied y < mostTables ⌝ }
+    requires { ⌜ tallied y < maxTables ⌝ }
     ensures { λ r. ⌜ r ≡ withTable (now (manifest .entry)) y c ⌝ }
 {
     let header = c.header;

@@ -14,7 +14,7 @@ use Rattle.answers.specs.declared.Status.{Status}
 use Rattle.answers.specs.declared.Status.the-variants.{Refused}
 use Rattle.answers.specs.Outputs.{isDone}
 use Rattle.manifest.specs.declared.report.Report.{Report}
-use Rattle.manifest.specs.Tables.{mostTables}
+use Rattle.manifest.specs.Tables.{maxTables}
 use Rattle.manifest.specs.Progress.{begun, pieceTaken, countsSoFar}
 use Rattle.report.specs.declared.input.Fed.{Fed}
 
@@ -40,7 +40,7 @@ afterList list past =
 
 -- another read of the tables follows one that brought something, until as many tables were told as a report looks at
 abbrev pub goesOn : ℕ → ℤ → Bool
-goesOn tables got = ltZ (pos 0) got && ltb tables mostTables
+goesOn tables got = ltZ (pos 0) got && ltb tables maxTables
 
 -- how the report stands after a read of the tables
 abbrev pub standing : Status → Report → ℤ → Fed

@@ -3,7 +3,7 @@ ghost use mathlib.Core.Path.{_≡_};
 ghost use Rattle.report.specs.Input.{atEnd, fileStatus, goesOn, afterList, afterPiece};
 use answers::Refusal;
 use answers::Status;
-use manifest::MOST_TABLES;
+use manifest::MAX_TABLES;
 use manifest::Report;
 
 // How the report stands after a read: whether it could be begun, what it has come to, whether another read follows, and whether this one failed.
@@ -51,7 +51,7 @@ pub fn after_list(list: &[u8], past: isize) -> Fed
 fn goes_on(tables: u32, got: isize) -> bool
     ensures { λ r. ⌜ r ≡ goesOn tables got ⌝ }
 {
-    if 0 < got { tables < MOST_TABLES } else { false }
+    if 0 < got { tables < MAX_TABLES } else { false }
 }
 
 // A read of the tables, into a buffer: what came stands at its front.

@@ -9,7 +9,7 @@ use input::Fed;
 use libc::STDERR_FILENO;
 use libc::STDIN_FILENO;
 use libc::STDOUT_FILENO;
-use manifest::MOST_RECORDS;
+use manifest::MAX_RECORDS;
 use manifest::RECORD_BYTES;
 
 // What was read of the file: how many bytes, and what a read after them answered, which is 0 at the end of the file.
@@ -20,7 +20,7 @@ struct Held {
 
 // As many as the most bytes that 65,535 tables can have. A read that goes on brings one byte or more, so the last table is told before
 // these are used up.
-const MOST_READS: u64 = 65535 * (6 + 4294967295);
+const MAX_READS: u64 = 65535 * (6 + 4294967295);
 
 // Reads the file as far as there is room. A read that fails takes no byte and does not say so: the next one goes on where it stood, and so
 // the last one tells whether all was read, also where one failed before.
@@ -55,7 +55,7 @@ fn feed_some(list: &[u8], fed: Fed) -> Fed {
 // Reads the tables for as long as there is more.
 fn feed_all(list: &[u8], begun: Fed) -> Fed {
     let mut fed = begun;
-    let mut left = MOST_READS;
+    let mut left = MAX_READS;
     while 0 < left && fed.more {
         fed = feed_some(list, fed);
         left -= 1;
@@ -70,7 +70,7 @@ fn show(fed: Fed) {
         return;
     }
     let status = fed.status;
-    let mut lines = [0u8; text::MOST_BYTES];
+    let mut lines = [0u8; text::MAX_BYTES];
     let n = text::write_report(status, fed.report, &mut lines);
     io::write_all(STDOUT_FILENO, &lines[0..n]);
 }
@@ -81,7 +81,7 @@ fn report_on(list: &[u8], past: isize) {
 }
 
 fn main() {
-    let mut list = [0u8; MOST_RECORDS * RECORD_BYTES];
+    let mut list = [0u8; MAX_RECORDS * RECORD_BYTES];
     let held = read_list(&mut list);
     let n = held.length;
     report_on(&list[..n], held.past);

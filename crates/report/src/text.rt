@@ -11,7 +11,7 @@ use manifest::Report;
 use manifest::Summary;
 
 // The most bytes that the six lines have: 50 of names, spaces and line ends, and ten digits in each.
-pub const MOST_BYTES: usize = 110;
+pub const MAX_BYTES: usize = 110;
 
 // The lines over the front of the output; how many bytes they have.
 fn write_summary(s: Summary, out: &mut [u8]) -> usize

@@ -7,7 +7,7 @@ use native.Mathlib.Omega.{arith}
 use lib.ListN.{length, drop, drop-of-length-le}
 use borrow.Author.Tests.{ltb-true, ltb-false, not-true, not-false}
 use Rattle.manifest.specs.Lookups.{isOrdered}
-use Rattle.manifest.specs.Tables.{mostTables}
+use Rattle.manifest.specs.Tables.{maxTables}
 use Rattle.manifest.specs.Progress.{tallied, byteTaken, pieceTaken}
 use Rattle.manifest.specs.Strides.{Stride}
 use Rattle.manifest.proofs.StrideLaws.{part-length, full-stays, stream-stepped}
@@ -52,7 +52,7 @@ stepped-requires : tie.Need-stepped-requires Inv-loop μ-loop
 stepped-requires c κs =
     let at = c .before .before .before .before .before in
     let test = c .before .before in
-    let few : tallied (at .loop .latest .tally) < mostTables = omega (arith, test .before .tallied .ensures, ltb-true (test .before .tallied .result) mostTables (test .if3 .taken)) in (
+    let few : tallied (at .loop .latest .tally) < maxTables = omega (arith, test .before .tallied .ensures, ltb-true (test .before .tallied .result) maxTables (test .if3 .taken)) in (
       whole (at .before),
       (
         few,
@@ -76,7 +76,7 @@ unfolding pieceTaken
 returns-3 c =
     let at = c .before .before .before in
     let a = entry (at .before) .args in
-    let full : mostTables ≤ tallied (at .loop .latest .tally) = omega (arith, c .before .tallied .ensures, ltb-false (c .before .tallied .result) mostTables (c .if3 .left)) in
+    let full : maxTables ≤ tallied (at .loop .latest .tally) = omega (arith, c .before .tallied .ensures, ltb-false (c .before .tallied .result) maxTables (c .if3 .left)) in
     rw (read (at .before)) (sym (at .loop .inv .1 ∙ full-stays (a .manifest .now) (at .loop .latest) full (drop (at .loop .i) (a .piece .now))))
 
 returns-4 : tie.Need-returns-4 Inv-loop μ-loop
