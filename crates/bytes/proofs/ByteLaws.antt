@@ -1,4 +1,4 @@
--- Lists of bytes: parts of one, one behind the other, a number in bytes, and zeros.
+-- Lists of bytes: parts of one, one after the other, a number in bytes, and zeros.
 -- Assumes nothing.
 use mathlib.Core.List.{List, [], _∷_, _++_}
 use Prim.Native.Nat.{ℕ, zero, suc, _/_, _%_, _<_}

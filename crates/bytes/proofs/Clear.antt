@@ -5,7 +5,6 @@ use mathlib.Core.Bool.{Bool, true, false, not, _&&_, and-comm}
 use mathlib.Core.List.{List, [], _∷_, _++_, reverse, reverse-cons}
 use mathlib.Core.Logic.{_⊎_, ⊎-elim}
 use Prim.Native.Nat.{ℕ, zero, suc, _+_, _-_, _*_, _/_, _%_, _^_, _≤_, _<_}
-use native.Mathlib.Nat.{mod-eq-of-lt}
 use native.Mathlib.Omega.{arith}
 use native.Mathlib.Numerals.{add-one}
 use lib.ListN.{length, drop, getD, replicate, drop-of-length-le}
@@ -35,7 +34,7 @@ pub zeros-clear : (n : ℕ) → clear (replicate n false) ≡ true
 zeros-clear zero = refl
 zeros-clear (suc n) = zeros-clear n
 
--- ---- the w lowest bits of a number are clear just where they are worth 0
+-- ---- the w lowest bits of a number are clear exactly when they are worth 0
 
 zeros-value : (o : Order) (w : ℕ) → valueOf o (replicate w false) ≡ 0
 unfolding valueOf ordered

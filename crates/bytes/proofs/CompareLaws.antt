@@ -89,7 +89,7 @@ module _ (bytes : List ℕ) (i : ℕ) where
   pub zeros-past : length bytes ≤ i → zeros (drop i bytes) ≡ true
   zeros-past h = ap zeros (drop-of-length-le bytes h)
 
--- in bits: none of a byte's is set just if it is 0
+-- in bits: none of a byte's is set exactly when it is 0
 clear-byte : (x : ℕ) → x < 256 → clear (bitsOf high-first 8 x) ≡ eqb x 0
 clear-byte x h =
     ⊎-elim

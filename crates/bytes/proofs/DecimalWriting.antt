@@ -10,7 +10,7 @@ use Rattle.bytes.specs.Slices.{writtenAt}
 use Rattle.bytes.proofs.WrittenAt.{writtenAt-none, byte-before}
 use Rattle.bytes.proofs.DecimalLaws.{decimal-digit, decimal-rest, length-digit, length-rest, decimal-some}
 
--- the digits behind those of the rest are written from place i on
+-- the digits after those of the rest are written from place i on
 pub record Later (n at : ℕ) (out₀ : List ℕ) (rest i : ℕ) (out : List ℕ) : Type 0 where
   pub later : List ℕ
   pub whole : decimal rest ++ later ≡ decimal n

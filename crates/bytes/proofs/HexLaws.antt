@@ -9,7 +9,7 @@ use lib.ListN.{length, getD, set, take}
 use lib.Seq.{length-take-le, take-suc}
 use Rattle.bytes.specs.Slices.{writtenAt}
 use Rattle.bytes.specs.Text.{hexDigit, hexOf}
-use Rattle.bytes.proofs.WrittenAt.{writtenAt-none, two-behind}
+use Rattle.bytes.proofs.WrittenAt.{writtenAt-none, two-after}
 
 pub length-hexOf : (bytes : List ℕ) → length (hexOf bytes) ≡ 2 * length bytes
 unfolding hexOf
@@ -33,4 +33,4 @@ hex-more at bytes out i p hi h e =
     let n : length (hexOf (take i bytes)) ≡ 2 * i = length-hexOf (take i bytes) ∙ ap (λ (k : ℕ). 2 * k) (length-take-le i bytes (omega arith)) in
     let more : hexOf (take (i + 1) bytes) ≡ hexOf (take i bytes) ++ hexDigit (getD bytes i 0 / 16) ∷ hexDigit (getD bytes i 0 % 16) ∷ [] =
     rw (add-one, take-suc bytes i 0, hexOf-snoc) in
-    two-behind at (hexOf (take i bytes)) out _ _ p (omega (arith, n)) (omega arith) ∙ ap (λ (l : List ℕ). writtenAt at l out) (sym more)
+    two-after at (hexOf (take i bytes)) out _ _ p (omega (arith, n)) (omega arith) ∙ ap (λ (l : List ℕ). writtenAt at l out) (sym more)

@@ -1,14 +1,13 @@
--- Lines: how long they are, and that writing their parts one behind the other writes them.
+-- Lines: how long they are, and that writing their parts one after the other writes them.
 -- Assumes nothing.
 use mathlib.Core.Path.{_≡_}
 use mathlib.Core.List.{List, [], _∷_, _++_}
 use Prim.Native.Nat.{ℕ, _+_, _≤_, _<_}
 use native.Mathlib.Omega.{arith}
 use lib.ListN.{length, length-append}
-use Rattle.bytes.specs.Text.{decimal}
+use Rattle.bytes.specs.Text.{decimal, lineOf}
 use Rattle.bytes.specs.Slices.{writtenAt}
-use Rattle.bytes.specs.Text.{lineOf}
-use Rattle.bytes.proofs.WrittenAt.{writtenAt-behind}
+use Rattle.bytes.proofs.WrittenAt.{writtenAt-after}
 use Rattle.bytes.proofs.DecimalLaws.{decimal-short}
 
 -- ---- lengths
@@ -22,17 +21,17 @@ length-lineOf name n = simp length-append (omega arith)
 pub line-short : (name : List ℕ) (n : ℕ) → n < 4294967296 → length (lineOf name n) ≤ length name + 12
 line-short name n h = omega (arith, length-lineOf name n, decimal-short n h)
 
--- ---- one part behind another
+-- ---- one part after another
 
--- bytes were written from a place on, and q is the place behind them
+-- bytes were written from a place on, and q is the place after them
 abbrev pub Wrote : ℕ → List ℕ → List ℕ → List ℕ → ℕ → Type 0
 Wrote at bytes out after q = (after ≡ writtenAt at bytes out) × (q ≡ at + length bytes)
 
--- bytes behind bytes
+-- bytes after bytes
 pub wrote-on : (at : ℕ) (xs ys out : List ℕ) {mid after : List ℕ} {p q : ℕ} → p ≤ length out
     → Wrote at xs out mid p → Wrote p ys mid after q → Wrote at (xs ++ ys) out after q
 wrote-on at xs ys out h v w =
-    (rw (w .0, v .0, v .1) (writtenAt-behind at xs ys out (omega (arith, v .1))), omega (arith, w .1, v .1, length-append xs ys))
+    (rw (w .0, v .0, v .1) (writtenAt-after at xs ys out (omega (arith, v .1))), omega (arith, w .1, v .1, length-append xs ys))
 
 -- name, space, count and line end are a line
 pub line-written : (at : ℕ) (name : List ℕ) (n : ℕ) (out : List ℕ) {o₁ o₂ o₃ o₄ : List ℕ} {p₁ p₂ p₃ p₄ : ℕ} → p₃ ≤ length out

@@ -1,4 +1,4 @@
--- Bytes written over a part of an output: two rows of bytes, one behind the other, are written together, whichever comes first.
+-- Bytes written over a part of an output: two slices, one after the other, are written together, whichever comes first.
 -- Assumes nothing.
 use mathlib.Core.Path.{_≡_, sym, ap, _∙_}
 use mathlib.Core.List.{List, [], _∷_, _++_, append-assoc, append-nil}
@@ -28,11 +28,11 @@ pub set-written : (at : ℕ) (b : ℕ) (out : List ℕ) → at < length out → 
 unfolding writtenAt
 set-written at b out h = rw (add-one, append-snoc) (set-split out at b h)
 
--- more bytes behind those that were written
-pub writtenAt-behind : (at : ℕ) (xs ys out : List ℕ) → at + length xs ≤ length out
+-- more bytes after those that were written
+pub writtenAt-after : (at : ℕ) (xs ys out : List ℕ) → at + length xs ≤ length out
     → writtenAt (at + length xs) ys (writtenAt at xs out) ≡ writtenAt at (xs ++ ys) out
 unfolding writtenAt
-writtenAt-behind at xs ys out h =
+writtenAt-after at xs ys out h =
     let front = take at out ++ xs in
     let n : length front ≡ at + length xs = length-front at xs out (omega arith) in
     let rest = drop (at + length xs) out in
@@ -57,24 +57,24 @@ writtenAt-before at xs ys out h =
 
 -- ---- byte by byte
 
-pub one-behind : (at : ℕ) (xs out : List ℕ) (x p : ℕ) → p ≡ at + length xs → p < length out
+pub one-after : (at : ℕ) (xs out : List ℕ) (x p : ℕ) → p ≡ at + length xs → p < length out
     → set (writtenAt at xs out) p x ≡ writtenAt at (xs ++ x ∷ []) out
-one-behind at xs out x p e h =
+one-after at xs out x p e h =
     set-written p x (writtenAt at xs out) (omega (arith, length-writtenAt at xs out (omega arith)))
-    ∙ rw e (writtenAt-behind at xs (x ∷ []) out (omega arith))
+    ∙ rw e (writtenAt-after at xs (x ∷ []) out (omega arith))
 
-pub two-behind : (at : ℕ) (xs out : List ℕ) (x y p : ℕ) → p ≡ at + length xs → p + 1 < length out
+pub two-after : (at : ℕ) (xs out : List ℕ) (x y p : ℕ) → p ≡ at + length xs → p + 1 < length out
     → set (set (writtenAt at xs out) p x) (p + 1) y ≡ writtenAt at (xs ++ x ∷ y ∷ []) out
-two-behind at xs out x y p e h =
-    ap (λ (l : List ℕ). set l (p + 1) y) (one-behind at xs out x p e (omega arith))
-    ∙ one-behind at (xs ++ x ∷ []) out y (p + 1) (omega (arith, length-append xs (x ∷ []))) h
+two-after at xs out x y p e h =
+    ap (λ (l : List ℕ). set l (p + 1) y) (one-after at xs out x p e (omega arith))
+    ∙ one-after at (xs ++ x ∷ []) out y (p + 1) (omega (arith, length-append xs (x ∷ []))) h
     ∙ ap (λ (l : List ℕ). writtenAt at l out) (append-assoc xs (x ∷ []) (y ∷ []))
 
-pub byte-behind : (at : ℕ) (bytes out : List ℕ) (i : ℕ) → i < length bytes → at + length bytes ≤ length out
+pub byte-after : (at : ℕ) (bytes out : List ℕ) (i : ℕ) → i < length bytes → at + length bytes ≤ length out
     → set (writtenAt at (take i bytes) out) (at + i) (getD bytes i 0) ≡ writtenAt at (take (i + 1) bytes) out
-byte-behind at bytes out i hi h =
+byte-after at bytes out i hi h =
     rw (add-one, take-suc bytes i 0)
-    (one-behind at (take i bytes) out (getD bytes i 0) (at + i) (omega (arith, length-take-le i bytes (omega arith))) (omega arith))
+    (one-after at (take i bytes) out (getD bytes i 0) (at + i) (omega (arith, length-take-le i bytes (omega arith))) (omega arith))
 
 pub byte-before : (at b : ℕ) (bytes out : List ℕ) → at + 1 + length bytes ≤ length out
     → set (writtenAt (at + 1) bytes out) at b ≡ writtenAt at (b ∷ bytes) out

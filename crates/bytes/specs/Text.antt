@@ -9,8 +9,8 @@ use lib.Dec.{ltb}
 
 -- ---- quoted text
 
--- the codes of a text's characters in turn: below 128 they are the bytes of ASCII. The code says the same bytes as a byte string, b"listed" for
--- ascii "listed"
+-- the codes of a text's characters in turn: below 128 they are the bytes of ASCII. The code says the same bytes as a
+-- byte string, b"listed" for ascii "listed"
 abbrev pub ascii : String → List ℕ
 ascii end = []
 ascii (c then s) = code c ∷ ascii s

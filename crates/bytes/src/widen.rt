@@ -1,5 +1,5 @@
-// A number of one type as the same number of a wider one. A call asks nothing of its caller, where a cast of an element would ask that the
-// element fits, and tells the bound of the narrow type.
+// A number of one type as the same number of a wider one. A cast of an element asks its caller to show that the element
+// fits; these calls ask nothing, and tell the bound of the narrow type.
 ghost use mathlib.Core.Path.{_≡_};
 ghost use Prim.Native.Nat.{_^_, _<_};
 

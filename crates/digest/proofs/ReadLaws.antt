@@ -1,7 +1,8 @@
--- Reading ends: each read that is followed by another makes the message longer, and the hash refuses one past its limit.
+-- Reading ends: each read that is followed by a further one makes the message longer, and the hash refuses one past its
+-- limit.
 -- Assumes nothing.
 use mathlib.Core.Path.{_≡_, refl, sym, ap, _∙_, subst}
-use mathlib.Core.Bool.{Bool, true, false, cond, _&&_}
+use mathlib.Core.Bool.{Bool, true, false, cond}
 use mathlib.Core.List.{List}
 use Prim.Native.Nat.{ℕ, suc, _+_, _-_, _*_, _≤_, _<_, min}
 use native.Mathlib.Nat.{le-min, min-le-right}
@@ -21,7 +22,7 @@ use Rattle.answers.specs.declared.Status.{Status}
 use Rattle.answers.specs.declared.Status.the-variants.{Done, Refused}
 use Rattle.answers.specs.Outputs.{maxBits, isDone}
 use Rattle.hasher.specs.declared.Hasher.{Hasher}
-use Rattle.hasher.specs.Running.{updated, grown}
+use Rattle.hasher.specs.Running.{updated}
 use Rattle.hasher.proofs.Calls.{update-says}
 use Rattle.hasher.proofs.Next.{grown-total}
 use Rattle.digest.specs.declared.input.Fed.{Fed}
@@ -56,7 +57,7 @@ longer fed buffer got room more =
     let grew = update-grows h piece (done-told (updated h (bytes piece) .status) (both .1)) in
     (omega (arith, grew .0, brought buffer got room (both .0)), omega (arith, grew .0, grew .1))
 
--- what is left to read: nothing where no read follows
+-- what is left to read: nothing if no read follows
 abbrev pub leftOf : Fed → ℕ
 leftOf fed = cond (fed .more) (suc (maxBits - fed .answer .hasher .total)) 0
 

@@ -1,4 +1,5 @@
--- The first table of a stream: it stands there whatever follows it, and a byte more of one that is cut short ends it or leaves it cut short.
+-- The first table of a stream: it stands there whatever follows it, and a byte more of one that is cut short ends it or
+-- leaves it cut short.
 -- Assumes nothing.
 use mathlib.Core.Path.{_≡_, refl, ap, _∙_}
 use mathlib.Core.Bool.{true, false}

@@ -24,8 +24,8 @@ pub data Verdict : Type 0 where
   unequal : Verdict
   unlisted : Verdict
 
--- a table is what is expected: within the limit of a message, and with the expected digest under the expected variant. Under a
--- variant that is not known nothing has a digest
+-- a table is what is expected: within the limit of a message, and with the expected digest under the expected variant.
+-- Under a variant that is not known nothing has a digest
 unfoldable pub isExpected : Expected → List ℕ → Bool
 isExpected e contents =
     known (e .variant) && leb (length contents) maxBytes
@@ -53,7 +53,7 @@ sameVerdict unlisted unlisted = true
 
 -- ---- a row of tables
 
--- how many of them have a verdict
+-- the number of them that have a verdict
 unfoldable pub judged : Verdict → Axes → List Table → ℕ
 judged v axes ts = howMany (λ t. sameVerdict v (verdictOf axes t)) ts
 
@@ -61,7 +61,7 @@ judged v axes ts = howMany (λ t. sameVerdict v (verdictOf axes t)) ts
 unfoldable pub isTold : List Table → ℕ → Bool
 isTold ts axis = ltb 0 (howMany (λ (t : Table). eqb (t .axis) axis) ts)
 
--- how many axes are there of which no table came
+-- the number of axes that are there and of which no table came
 unfoldable pub untold : Axes → List Table → ℕ
 untold axes ts = howMany (λ axis. isThere (axes axis) && not (isTold ts axis)) allAxes
 

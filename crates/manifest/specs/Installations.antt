@@ -1,4 +1,5 @@
--- Installations (document 02, Q-5: rig): which table each axis should hold, the manifest that says so, and what a manifest holds.
+-- Installations (document 02, Q-5: rig): which table each axis should hold, the manifest that says so, and what a
+-- manifest holds.
 -- Assumes nothing.
 use mathlib.Core.Path.{_≡_}
 use mathlib.Core.Bool.{Bool, true, false}
@@ -36,7 +37,7 @@ abbrev pub isThere : Option Expected → Bool
 isThere none = false
 isThere (some e) = true
 
--- how many axes a map has
+-- the number of axes of a map
 unfoldable pub axisCount : Axes → ℕ
 axisCount axes = howMany (λ axis. isThere (axes axis)) allAxes
 
@@ -76,8 +77,9 @@ listOf axes = listBelow axisNumbers axes
 
 -- what record k says of its axis
 abbrev pub expectedAt : List ℕ → ℕ → Expected
-expectedAt list k = record { variant = variantAt list k; digest = digestAt list k }
+expectedAt manifest k = record { variant = variantAt manifest k; digest = digestAt manifest k }
 
--- what a manifest holds of an axis: what the first record with its number says, and nothing where none has it
+-- what a manifest holds of an axis: what the first record with its number says, and nothing if none has it
 unfoldable pub held : List ℕ → Axes
-held list axis = Option·map (expectedAt list) (firstBelow (recordCount list) (λ k. eqb (axisAt list k) axis))
+held manifest axis =
+    Option·map (expectedAt manifest) (firstBelow (recordCount manifest) (λ k. eqb (axisAt manifest k) axis))

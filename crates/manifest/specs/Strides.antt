@@ -1,4 +1,5 @@
--- For the code: a stride is so many bytes of a table that nothing but the last of them can end it, and that its running hash takes whole or not at all.
+-- For the code: a stride is a number of bytes of a table of which only the last can end it, and which its running hash
+-- takes all or not at all.
 -- Assumes nothing.
 use mathlib.Core.Path.{_≡_}
 use Prim.Native.Nat.{ℕ, _+_, _*_, _≤_, _<_}

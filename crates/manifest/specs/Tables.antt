@@ -39,7 +39,7 @@ abbrev pub tablesUpTo : ℕ → List ℕ → List Table
 tablesUpTo zero stream = []
 tablesUpTo (suc n) stream = cond (isWhole stream) (firstTable stream ∷ tablesUpTo n (drop (spanOf stream) stream)) []
 
--- the most tables that a report looks at
+-- the maximum number of tables that a report looks at
 abbrev pub maxTables : ℕ
 maxTables = 65535
 

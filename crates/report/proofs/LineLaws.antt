@@ -1,4 +1,4 @@
--- Six lines, written one behind the other from the front on, are the report's.
+-- Six lines, written one after the other from the front on, are the report's.
 -- Assumes nothing.
 use mathlib.Core.Path.{_≡_}
 use mathlib.Core.List.{List}
@@ -6,8 +6,7 @@ use Prim.Native.Nat.{ℕ, _≤_}
 use native.Mathlib.Omega.{arith}
 use lib.ListN.{length}
 use Rattle.bytes.specs.Slices.{writtenAt}
-use Rattle.bytes.specs.Text.{ascii}
-use Rattle.bytes.specs.Text.{lineOf}
+use Rattle.bytes.specs.Text.{ascii, lineOf}
 use Rattle.bytes.proofs.LineLaws.{Wrote, wrote-on}
 use Rattle.manifest.specs.declared.report.Summary.{Summary}
 use Rattle.report.specs.Lines.{linesOf}

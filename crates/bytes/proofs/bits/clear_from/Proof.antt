@@ -1,4 +1,5 @@
--- `bytes::bits::clear_from` meets its contract: past the end, or the rest of a byte and the bytes behind it. Assumes nothing.
+-- `bytes::bits::clear_from` meets its contract: past the end, or the rest of a byte and the bytes after it. Assumes
+-- nothing.
 use mathlib.Core.Path.{_≡_, sym, ap, _∙_}
 use mathlib.Core.Bool.{Bool, _&&_}
 use Prim.Native.Nat.{ℕ, _+_, _-_, _*_, _/_, _%_, _^_}

@@ -1,4 +1,5 @@
--- `bytes::compare::is_same` meets its contract: what is asked of the bytes is asked of those from i on. Assumes nothing.
+-- `bytes::compare::is_same` meets its contract: what is asked of the bytes is asked of those from i on. Assumes
+-- nothing.
 use mathlib.Core.Path.{_≡_, refl, sym, _∙_}
 use Prim.Native.Nat.{_-_}
 use native.Mathlib.Omega.{arith}

@@ -1,4 +1,5 @@
--- `bytes::compare::zero_from` meets its contract: what is asked of the bytes from the first on is asked of those from i on. Assumes nothing.
+-- `bytes::compare::zero_from` meets its contract: what is asked of the bytes from the first on is asked of those from i
+-- on. Assumes nothing.
 use mathlib.Core.Path.{_≡_, refl, sym, _∙_}
 use Prim.Native.Nat.{_-_}
 use native.Mathlib.Omega.{arith}

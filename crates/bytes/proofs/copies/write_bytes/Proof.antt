@@ -6,7 +6,7 @@ use native.Mathlib.Omega.{arith}
 use lib.ListN.{length, take, length-set}
 use lib.Seq.{take-all}
 use Rattle.bytes.specs.Slices.{writtenAt}
-use Rattle.bytes.proofs.WrittenAt.{writtenAt-none, byte-behind}
+use Rattle.bytes.proofs.WrittenAt.{writtenAt-none, byte-after}
 use Rattle.bytes.proofs.copies.write_bytes.Statement.{statement}
 use Rattle.bytes.proofs.copies.write_bytes.Tie as tie
 
@@ -26,7 +26,7 @@ loop-again : tie.Need-loop-again Inv-loop μ-loop
 loop-again c =
     let l = c .before .before .loop in
     let a = c .before .before .before .args in
-    (omega arith, simp length-set (l .inv .1), rw (l .inv .2) (byte-behind (a .at) (a .bytes .now) (a .out .now) (l .i) (omega arith) (omega arith)))
+    (omega arith, simp length-set (l .inv .1), rw (l .inv .2) (byte-after (a .at) (a .bytes .now) (a .out .now) (l .i) (omega arith) (omega arith)))
 
 returns : tie.Need-returns Inv-loop μ-loop
 returns c =

@@ -1,4 +1,5 @@
--- `bytes::text::digit_count` meets its contract: the digits counted, and those of what is left, are all and one more. Assumes nothing.
+-- `bytes::text::digit_count` meets its contract: the digits counted, and those of what is left, are all and one more.
+-- Assumes nothing.
 use mathlib.Core.Path.{_≡_}
 use Prim.Native.Nat.{_+_}
 use native.Mathlib.Omega.{arith}

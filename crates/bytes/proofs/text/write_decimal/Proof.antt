@@ -1,4 +1,4 @@
--- `bytes::text::write_decimal` meets its contract: the digits behind those of the rest are written. Assumes nothing.
+-- `bytes::text::write_decimal` meets its contract: the digits after those of the rest are written. Assumes nothing.
 use mathlib.Core.Path.{_≡_, refl}
 use native.Mathlib.Omega.{arith}
 use borrow.Author.Needs.{needs}

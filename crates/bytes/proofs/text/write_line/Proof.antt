@@ -1,4 +1,4 @@
--- `bytes::text::write_line` meets its contract: the four parts of a line, one behind the other. Assumes nothing.
+-- `bytes::text::write_line` meets its contract: the four parts of a line, one after the other. Assumes nothing.
 use native.Mathlib.Omega.{arith}
 use borrow.Author.Needs.{needs}
 use Rattle.bytes.proofs.DecimalLaws.{decimal-short}

@@ -20,7 +20,7 @@ looked-at : (c : tie.After-zero-from)
     ≡ c .zero-from .result
 unfolding fillerAt
 looked-at c =
-    rw (← c .before .before .before .before .before .variant-at .ensures, ← c .before .digest-bytes .ensures, ← c .before .before .filled-at .ensures) (sym (c .zero-from .ensures))
+    rw (← c .before .before .before .before .before .variant-at .ensures, ← c .before .digest-bytes .ensures, ← c .before .before .digest-field-at .ensures) (sym (c .zero-from .ensures))
 
 returns : tie.Need-returns
 unfolding recordChecks

@@ -1,4 +1,5 @@
--- `manifest::report::update` meets its contract: what is left of the piece leads from here to the same report. Assumes nothing.
+-- `manifest::report::update` meets its contract: what is left of the piece leads from here to the same report. Assumes
+-- nothing.
 use mathlib.Core.Path.{_≡_, refl, sym, ap, ap₂, subst, _∙_}
 use mathlib.Core.Bool.{true, _&&_}
 use mathlib.Core.List.{foldl}
@@ -15,12 +16,12 @@ use Rattle.manifest.proofs.report.update.Statement.{statement}
 use Rattle.manifest.proofs.report.update.Tie as tie
 
 abbrev Inv-loop : tie.InvT-loop
-Inv-loop list piece latest₀ i₀ latest i = (i ≤ length piece) × (foldl (byteTaken list) latest₀ piece ≡ foldl (byteTaken list) latest (drop i piece))
+Inv-loop manifest piece latest₀ i₀ latest i = (i ≤ length piece) × (foldl (byteTaken manifest) latest₀ piece ≡ foldl (byteTaken manifest) latest (drop i piece))
 
 abbrev μ-loop : tie.MeasureT-loop
-μ-loop list piece latest₀ i₀ latest i = length piece - i
+μ-loop manifest piece latest₀ i₀ latest i = length piece - i
 
--- where the call began
+-- the place at which the call began
 abbrev entry : tie.Else2 Inv-loop μ-loop → tie.Start Inv-loop μ-loop
 entry c = c .before .before .before .before .before .before
 
