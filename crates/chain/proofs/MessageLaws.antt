@@ -16,7 +16,7 @@ use Rattle.answers.specs.declared.Refusal.the-variants.{UnknownVariant, TooLong
 use Rattle.answers.specs.declared.Status.{Status}
 use Rattle.answers.specs.declared.Status.the-variants.{Done, Refused}
 use Rattle.answers.specs.Checks.{Check, unless, when, firstRefusal}
-use Rattle.answers.specs.Outputs.{whenDone, most, mostBits}
+use Rattle.answers.specs.Outputs.{whenDone, maxBytes, maxBits}
 use Rattle.answers.proofs.Rows.{passing-says, row-append, row-second, row-both}
 use Rattle.standard.specs.Bits.{high-first, lowBits, ordered, bitsOf, bitsIn, unpack}
 use Rattle.standard.specs.Families.{Variant}
@@ -161,7 +161,7 @@ module _ (m : List Bool) (front : List ℕ) (last n : ℕ) (e : n ≡ length m) 
   unfolding unpack
   message-held = ap₂ take e marked ∙ take-at m _ (length m) refl
 
-  pub holds-message : length m ≤ mostBits → HoldsMessage front last n
+  pub holds-message : length m ≤ maxBits → HoldsMessage front last n
   holds-message l = record { short = omega arith; marked = subst (λ (x : List Bool). Padded x (front ++ last ∷ [])) (sym message-held) marked }
 
 -- ---- what a caller gives, and what the code makes of it
@@ -214,47 +214,47 @@ module _ (H : Variant) (m : List ℕ) (e : Ending) (f : Fits (given m e)) where
       go [] g = omega arith
       go (b ∷ x) g = omega (arith, given-length H (b ∷ x) e (omega arith), fits-counts (b ∷ x) e g .least)
 
-  pub given-limit : ltb mostBits (length (givenBits H (given m e))) ≡ ltb most (length m)
+  pub given-limit : ltb maxBits (length (givenBits H (given m e))) ≡ ltb maxBytes (length m)
   given-limit =
       let n : ℕ = length (givenBits H (given m e)) in
       ⊎-elim
-      (λ l. lt-ltb mostBits n (omega (arith, given-least, ltb-true most (length m) l)) ∙ sym l)
-      (λ l. le-ltb mostBits n (omega (arith, given-most, ltb-false most (length m) l)) ∙ sym l)
-      (either (ltb most (length m)))
+      (λ l. lt-ltb maxBits n (omega (arith, given-least, ltb-true maxBytes (length m) l)) ∙ sym l)
+      (λ l. le-ltb maxBits n (omega (arith, given-most, ltb-false maxBytes (length m) l)) ∙ sym l)
+      (either (ltb maxBytes (length m)))
 
 -- ---- what passing the checks says
 
 pub record Asked (v : ℕ) (g : Given) : Type 0 where
   pub named : known v ≡ true
   pub fits : Fits g
-  pub few : length (givenBits (variant v) g) ≤ mostBits
+  pub few : length (givenBits (variant v) g) ≤ maxBits
 
 pub message-passed : (v : ℕ) (g : Given) → firstRefusal (messageChecks v g) ≡ Done → Asked v g
 message-passed v g e =
-    let p = row-both (unless (known v) UnknownVariant ∷ []) (numberChecks g ++ when (ltb mostBits (length (givenBits (variant v) g))) TooLong ∷ []) e in
-    let q = row-both (numberChecks g) (when (ltb mostBits (length (givenBits (variant v) g))) TooLong ∷ []) (p .1) in
+    let p = row-both (unless (known v) UnknownVariant ∷ []) (numberChecks g ++ when (ltb maxBits (length (givenBits (variant v) g))) TooLong ∷ []) e in
+    let q = row-both (numberChecks g) (when (ltb maxBits (length (givenBits (variant v) g))) TooLong ∷ []) (p .1) in
     record {
       named = passing-says (unless (known v) UnknownVariant ∷ []) (p .0) .0;
       fits = q .0;
-      few = ltb-false _ _ (not-true _ (passing-says (when (ltb mostBits (length (givenBits (variant v) g))) TooLong ∷ []) (q .1) .0));
+      few = ltb-false _ _ (not-true _ (passing-says (when (ltb maxBits (length (givenBits (variant v) g))) TooLong ∷ []) (q .1) .0));
     }
 
-pub message-short : (v : ℕ) (m : List ℕ) (e : Ending) → Asked v (given m e) → length m ≤ most
+pub message-short : (v : ℕ) (m : List ℕ) (e : Ending) → Asked v (given m e) → length m ≤ maxBytes
 message-short v m e a = ltb-false _ _ (sym (given-limit (variant v) m e (a .fits)) ∙ le-ltb _ _ (a .few))
 
 -- they pass of what is known, fits and is within the limit
-pub message-passes : (v : ℕ) (g : Given) → known v ≡ true → Fits g → length (givenBits (variant v) g) ≤ mostBits → firstRefusal (messageChecks v g) ≡ Done
+pub message-passes : (v : ℕ) (g : Given) → known v ≡ true → Fits g → length (givenBits (variant v) g) ≤ maxBits → firstRefusal (messageChecks v g) ≡ Done
 message-passes v g k f few =
-    row-second (unless (known v) UnknownVariant ∷ []) (numberChecks g ++ when (ltb mostBits (length (givenBits (variant v) g))) TooLong ∷ []) (rw k)
-    ∙ row-second (numberChecks g) (when (ltb mostBits (length (givenBits (variant v) g))) TooLong ∷ []) f
-    ∙ rw (le-ltb mostBits (length (givenBits (variant v) g)) few)
+    row-second (unless (known v) UnknownVariant ∷ []) (numberChecks g ++ when (ltb maxBits (length (givenBits (variant v) g))) TooLong ∷ []) (rw k)
+    ∙ row-second (numberChecks g) (when (ltb maxBits (length (givenBits (variant v) g))) TooLong ∷ []) f
+    ∙ rw (le-ltb maxBits (length (givenBits (variant v) g)) few)
 
 -- what is past the limit is refused for that
-pub message-long : (v : ℕ) (g : Given) → known v ≡ true → Fits g → mostBits < length (givenBits (variant v) g) → firstRefusal (messageChecks v g) ≡ Refused TooLong
+pub message-long : (v : ℕ) (g : Given) → known v ≡ true → Fits g → maxBits < length (givenBits (variant v) g) → firstRefusal (messageChecks v g) ≡ Refused TooLong
 message-long v g k f long =
-    row-second (unless (known v) UnknownVariant ∷ []) (numberChecks g ++ when (ltb mostBits (length (givenBits (variant v) g))) TooLong ∷ []) (rw k)
-    ∙ row-second (numberChecks g) (when (ltb mostBits (length (givenBits (variant v) g))) TooLong ∷ []) f
-    ∙ rw (lt-ltb mostBits (length (givenBits (variant v) g)) long)
+    row-second (unless (known v) UnknownVariant ∷ []) (numberChecks g ++ when (ltb maxBits (length (givenBits (variant v) g))) TooLong ∷ []) (rw k)
+    ∙ row-second (numberChecks g) (when (ltb maxBits (length (givenBits (variant v) g))) TooLong ∷ []) f
+    ∙ rw (lt-ltb maxBits (length (givenBits (variant v) g)) long)
 
 pub message-unknown : (v : ℕ) (g : Given) → known v ≡ false → firstRefusal (messageChecks v g) ≡ Refused UnknownVariant
 message-unknown v g k = rw k
@@ -273,7 +273,7 @@ alike-row before behind g h e =
 pub alike-asked : (v : ℕ) (g h : Given) → Alike (variant v) g h → firstRefusal (messageChecks v g) ≡ firstRefusal (messageChecks v h)
 alike-asked v g h a =
     alike-row (unless (known v) UnknownVariant ∷ []) _ g h (a .numbers)
-    ∙ ap (λ (m : List Bool). firstRefusal (unless (known v) UnknownVariant ∷ (numberChecks h ++ when (ltb mostBits (length m)) TooLong ∷ []))) (a .same)
+    ∙ ap (λ (m : List Bool). firstRefusal (unless (known v) UnknownVariant ∷ (numberChecks h ++ when (ltb maxBits (length m)) TooLong ∷ []))) (a .same)
 
 pub eight-alike : EightAlike
 eight-alike H m some = record { numbers = number-passes m 8 (eight-fits (length m) some); same = bits-eight H m }

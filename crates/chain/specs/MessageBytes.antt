@@ -5,7 +5,7 @@ use mathlib.Core.List.{List, [], _∷_, _++_}
 use Prim.Native.Nat.{ℕ, _≤_}
 use Rattle.standard.specs.Bits.{high-first, unpack}
 use Rattle.standard.specs.Messages.{Given, bytes, partial}
-use Rattle.answers.specs.Outputs.{mostBits}
+use Rattle.answers.specs.Outputs.{maxBits}
 use Rattle.chain.specs.Padding.{Padded}
 use Rattle.chain.specs.declared.message.Ending.{Ending}
 use Rattle.chain.specs.declared.message.Ending.the-variants.{Whole, Bits}
@@ -26,5 +26,5 @@ messageIn front last n = unpack high-first n (front ++ last ∷ [])
 
 -- they are a message within the limit, and the 1 bit and zeros follow them
 pub record HoldsMessage (front : List ℕ) (last n : ℕ) : Type 0 where
-  pub short : n ≤ mostBits
+  pub short : n ≤ maxBits
   pub marked : Padded (messageIn front last n) (front ++ last ∷ [])

@@ -11,7 +11,7 @@ ghost use Rattle.answers.specs.Checks.{firstRefusal};
 ghost use Rattle.chain.specs.Messages.{isBitNumber, numberChecks, messageChecks};
 ghost use Rattle.chain.specs.MessageBytes.{given, countOf};
 use crate::sizes;
-use answers::MOST;
+use answers::MAX_MESSAGE_BYTES;
 use answers::Refusal;
 use answers::Status;
 
@@ -61,7 +61,7 @@ pub fn check_message(variant: u32, message: &[u8], ending: Ending) -> Status
         return s;
     };
     // Bits pass their limit exactly when bytes pass theirs.
-    if MOST < message.len() {
+    if MAX_MESSAGE_BYTES < message.len() {
         return Status::Refused(Refusal::TooLong);
     }
     Status::Done

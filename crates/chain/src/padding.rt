@@ -13,7 +13,7 @@ ghost use Rattle.standard.specs.Variants.{variant, known};
 ghost use Rattle.standard.specs.Layout.{blockRoom, packedState, packedBlock};
 ghost use Rattle.answers.specs.declared.Status.the-variants.{Done};
 ghost use Rattle.answers.specs.Checks.{firstRefusal};
-ghost use Rattle.answers.specs.Outputs.{most, mostBits};
+ghost use Rattle.answers.specs.Outputs.{maxBytes, maxBits};
 ghost use Rattle.chain.specs.Holding.{Holds};
 ghost use Rattle.chain.specs.Messages.{numberChecks};
 ghost use Rattle.chain.specs.MessageBytes.{given};
@@ -57,7 +57,7 @@ pub struct Split {
 }
 
 pub fn split_of(v: u8, message: &[u8], ending: Ending) -> Split
-    requires { ⌜ (known v ≡ true) × (firstRefusal (numberChecks (given (now message) ending)) ≡ Done) × (length (now message) ≤ most) ⌝ }
+    requires { ⌜ (known v ≡ true) × (firstRefusal (numberChecks (given (now message) ending)) ≡ Done) × (length (now message) ≤ maxBytes) ⌝ }
     ensures { λ r. ⌜ (r .front ≤ length (now (message .entry))) × (r .bits ≡ length (givenBits (variant v) (given (now (message .entry)) ending))) ⌝ }
     ensures { λ r. ⌜ Padded (givenBits (variant v) (given (now (message .entry)) ending)) (take (r .front) (now (message .entry)) ++ r .last ∷ []) ⌝ }
 {
@@ -82,7 +82,7 @@ pub fn split_of(v: u8, message: &[u8], ending: Ending) -> Split
 // block that has the length and is not counted here.
 pub fn data_blocks(v: u8, bits: usize) -> usize
     requires { ⌜ known v ≡ true ⌝ }
-    requires { ⌜ bits ≤ mostBits ⌝ }
+    requires { ⌜ bits ≤ maxBits ⌝ }
     ensures { λ r. ⌜ (r ≡ dataBlocks (variant v) bits) × (r ≤ bits + 1) ⌝ }
 {
     if sizes::is_sponge(v) {
@@ -94,7 +94,7 @@ pub fn data_blocks(v: u8, bits: usize) -> usize
 // The number of blocks of a message of `bits` bits once it is padded.
 pub fn block_count(v: u8, bits: usize) -> usize
     requires { ⌜ known v ≡ true ⌝ }
-    requires { ⌜ bits ≤ mostBits ⌝ }
+    requires { ⌜ bits ≤ maxBits ⌝ }
     ensures { λ r. ⌜ r ≡ blockCount (variant v) bits ⌝ }
 {
     if sizes::is_sponge(v) {

@@ -6,7 +6,7 @@ ghost use Rattle.standard.specs.Families.{isSponge, imageSize};
 ghost use Rattle.standard.specs.Chain.{blockCount};
 ghost use Rattle.standard.specs.Variants.{variant, known};
 ghost use Rattle.standard.specs.ForCode.{outputBits};
-ghost use Rattle.answers.specs.Outputs.{mostBits};
+ghost use Rattle.answers.specs.Outputs.{maxBits};
 ghost use Rattle.standard.specs.Layout.{stateRoom};
 ghost use Rattle.chain.specs.Padding.{dataBlocks};
 

@@ -17,7 +17,7 @@ use Rattle.standard.proofs.OneValue.{value-block, one-changed-row, one-changed-
 use Rattle.standard.proofs.ImageStates.{imageOf-length, imageOf-injective}
 use Rattle.answers.specs.declared.Status.{Status}
 use Rattle.answers.specs.declared.Status.the-variants.{Done}
-use Rattle.answers.specs.Outputs.{written, mostBits}
+use Rattle.answers.specs.Outputs.{written, maxBits}
 use Rattle.chain.specs.Messages.{Fits}
 use Rattle.hasher.specs.declared.Hasher.{Hasher}
 use Rattle.standard.specs.declared.Wanted.the-variants.{EndState}
@@ -86,7 +86,7 @@ module _ (v : ℕ) (k : known v ≡ true) (x y : Given) (fits : Fits x) (fits′
   Y = givenBits (variant v) y
 
   -- different end states are told apart
-  pub ends-tell : length (givenBits (variant v) x) ≤ mostBits → length (givenBits (variant v) y) ≤ mostBits
+  pub ends-tell : length (givenBits (variant v) x) ≤ maxBits → length (givenBits (variant v) y) ≤ maxBits
       → (endState (variant v) (givenBits (variant v) x) ≡ endState (variant v) (givenBits (variant v) y) → ⊥) → ToldApart v x y
   ends-tell few few′ n =
       record { whole = whole; pieces = λ xs ys cx cy ex ey. as-others (variant v) _ _ _ _ (cut xs x fits cx ex) (cut ys y fits′ cy ey) whole }

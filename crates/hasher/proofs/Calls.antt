@@ -17,7 +17,7 @@ use Rattle.answers.specs.declared.Refusal.the-variants.{UnknownVariant, TooLong
 use Rattle.answers.specs.declared.Status.{Status}
 use Rattle.answers.specs.declared.Status.the-variants.{Done, Refused}
 use Rattle.answers.specs.Checks.{firstRefusal}
-use Rattle.answers.specs.Outputs.{mostBits, whenDone, written}
+use Rattle.answers.specs.Outputs.{maxBits, whenDone, written}
 use Rattle.answers.proofs.Rows.{passing-says, row-second, row-both}
 use Rattle.standard.specs.Bits.{high-first, pack}
 use Rattle.standard.specs.Families.{Variant, isSponge, order, imageSize, imageOf}
@@ -71,22 +71,22 @@ module _ (h : Hasher) where
   pub record Followed (n : ℕ) : Type 0 where
     pub opened : Open h
     pub whole : wholeSoFar h ≡ true
-    pub few : h .total + n ≤ mostBits
+    pub few : h .total + n ≤ maxBits
 
   module _ (n : ℕ) where
     pub follow-says : Open h → firstRefusal (followChecks h n) ≡ Done → Followed n
     follow-says o e =
         let p = passing-says (followChecks h n) e in
-        record { opened = o; whole = p .0; few = ltb-false mostBits (h .total + n) (not-true (ltb mostBits (h .total + n)) (p .1 .0)) }
+        record { opened = o; whole = p .0; few = ltb-false maxBits (h .total + n) (not-true (ltb maxBits (h .total + n)) (p .1 .0)) }
 
-    pub follows : wholeSoFar h ≡ true → h .total + n ≤ mostBits → firstRefusal (followChecks h n) ≡ Done
-    follows w l = rw (w, le-ltb mostBits (h .total + n) l)
+    pub follows : wholeSoFar h ≡ true → h .total + n ≤ maxBits → firstRefusal (followChecks h n) ≡ Done
+    follows w l = rw (w, le-ltb maxBits (h .total + n) l)
 
     pub inside : wholeSoFar h ≡ false → firstRefusal (followChecks h n) ≡ Refused InsideByte
     inside w = rw w
 
-    pub too-long : wholeSoFar h ≡ true → mostBits < h .total + n → firstRefusal (followChecks h n) ≡ Refused TooLong
-    too-long w l = rw (w, lt-ltb mostBits (h .total + n) l)
+    pub too-long : wholeSoFar h ≡ true → maxBits < h .total + n → firstRefusal (followChecks h n) ≡ Refused TooLong
+    too-long w l = rw (w, lt-ltb maxBits (h .total + n) l)
 
   open-passes : Open h → firstRefusal (openChecks h) ≡ Done
   open-passes o = rw (o .0, o .1)
@@ -119,10 +119,10 @@ module _ (h : Hasher) where
       unfolding updated
       update-status e = ap (λ (s : Status). record { status = s; hasher = whenDone s (grown h added) h }) (update-answer ∙ e)
 
-      pub update-long : wholeSoFar h ≡ true → mostBits < h .total + length (givenBits (variantOf h) g) → updated h g ≡ refused TooLong h
+      pub update-long : wholeSoFar h ≡ true → maxBits < h .total + length (givenBits (variantOf h) g) → updated h g ≡ refused TooLong h
       update-long w l = update-status (too-long (length added) w l)
 
-      pub update-done : wholeSoFar h ≡ true → h .total + length (givenBits (variantOf h) g) ≤ mostBits → updated h g ≡ done (grown h (givenBits (variantOf h) g))
+      pub update-done : wholeSoFar h ≡ true → h .total + length (givenBits (variantOf h) g) ≤ maxBits → updated h g ≡ done (grown h (givenBits (variantOf h) g))
       update-done w l = update-status (follows (length added) w l)
 
   -- a byte of which some bits count takes as much of what is left as a whole one
@@ -136,7 +136,7 @@ module _ (h : Hasher) where
       (λ w. ⊎-elim
       (λ l. too-long (8 * length piece) w l ∙ sym (too-long bits w (omega (arith, least, eqb-true (h .total % 8) 0 w))))
       (λ l. follows (8 * length piece) w l ∙ sym (follows bits w (omega (arith, most))))
-      (lt-or-le mostBits (h .total + 8 * length piece)))
+      (lt-or-le maxBits (h .total + 8 * length piece)))
       (λ w. inside (8 * length piece) w ∙ sym (inside bits w))
       (either (wholeSoFar h))
 

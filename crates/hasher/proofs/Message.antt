@@ -19,7 +19,7 @@ use Rattle.standard.proofs.Variants.{streams}
 use Rattle.answers.specs.declared.Status.{Status}
 use Rattle.answers.specs.declared.Status.the-variants.{Done}
 use Rattle.answers.specs.Checks.{firstRefusal}
-use Rattle.answers.specs.Outputs.{written, most, mostBits}
+use Rattle.answers.specs.Outputs.{written, maxBytes, maxBits}
 use Rattle.answers.proofs.Rows.{row-second}
 use Rattle.standard.specs.Layout.{packedState, packedBlock}
 use Rattle.chain.specs.Messages.{Fits, messageChecks}
@@ -44,7 +44,7 @@ abbrev pub taken : ℕ → List ℕ → Hasher
 taken v m = reached v (byteBits m)
 
 -- whole bytes within the limit are bits within it
-pub few-bits : (m : List ℕ) → length m ≤ most → length (byteBits m) ≤ mostBits
+pub few-bits : (m : List ℕ) → length m ≤ maxBytes → length (byteBits m) ≤ maxBits
 few-bits m few = omega (arith, length-bitsIn high-first m)
 
 module _ (v : ℕ) (k : known v ≡ true) where
@@ -87,7 +87,7 @@ module _ (v : ℕ) (k : known v ≡ true) where
   -- ---- a message
 
   module _ (m : List Bool) where
-    pub reached-open : length m ≤ mostBits → Open (reached v m)
+    pub reached-open : length m ≤ maxBits → Open (reached v m)
     reached-open few = grown-open (fresh v) fresh-sized fresh-open m (omega arith)
 
     reached-sized : Sized (reached v m)
@@ -101,7 +101,7 @@ module _ (v : ℕ) (k : known v ≡ true) where
     reached-held : heldIn (reached v m) ≡ restOf (H .r) m
     reached-held = grown-held (fresh v) fresh-sized fresh-open m ∙ ap (λ (c : List Bool). restOf (H .r) (c ++ m)) fresh-held
 
-    module _ (few : length m ≤ mostBits) where
+    module _ (few : length m ≤ maxBits) where
       end-facts : Facts (ended (reached v m))
       end-facts = ended-facts (reached v m) (facts (reached v m) (reached-open few .0)) reached-sized
 
@@ -136,7 +136,7 @@ module _ (v : ℕ) (k : known v ≡ true) where
 
   -- ---- a whole message as a caller gives it
 
-  module _ (g : Given) (f : Fits g) (few : length (givenBits (variant v) g) ≤ mostBits) where
+  module _ (g : Given) (f : Fits g) (few : length (givenBits (variant v) g) ≤ maxBits) where
     abbrev m : List Bool
     m = givenBits (variant v) g
 
@@ -161,7 +161,7 @@ module _ (v : ℕ) (k : known v ≡ true) where
 
   -- ---- whole bytes
 
-  module _ (m : List ℕ) (few : length m ≤ most) where
+  module _ (m : List ℕ) (few : length m ≤ maxBytes) where
     -- the calls one after another
     pub calls-read : (wanted : Wanted) (out : List ℕ) (s u f : Advanced) (r : Status) (after : List ℕ)
         → s ≡ started v → u ≡ updated (s .hasher) (bytes m) → f ≡ finished (u .hasher)

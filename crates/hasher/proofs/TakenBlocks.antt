@@ -14,7 +14,7 @@ use Rattle.standard.specs.Chain.{padding, wholeBlocks, restOf, run}
 use Rattle.standard.proofs.BitLaws.{length-bitsOf, length-unpack, bitsIn-drop, filled-short, pack-none}
 use Rattle.standard.proofs.Streaming.{Streams, length-rest, run-append, run-length}
 use Rattle.standard.proofs.Variants.{Bounds, bounds, streams}
-use Rattle.answers.specs.Outputs.{mostBits}
+use Rattle.answers.specs.Outputs.{maxBits}
 use Rattle.standard.specs.Layout.{blockRoom, packedState, packedBlock, clear}
 use Rattle.chain.specs.Holding.{Holds}
 use Rattle.chain.specs.Padding.{dataBlocks, lengthBlocks}
@@ -82,7 +82,7 @@ module _ {h : Hasher} (w : Owned h) (o : Open h) {c : ℕ} (ec : c ≡ heldCount
     rate : 4 * (b / 4) ≡ b
     rate = omega (arith, B .rate-quarters)
 
-    pub small : k ≤ 8 → h .total + (8 * length piece + k) ≤ mostBits → Small (c + (8 * length piece + k)) b
+    pub small : k ≤ 8 → h .total + (8 * length piece + k) ≤ maxBits → Small (c + (8 * length piece + k)) b
     small hk few =
         let some : 0 < b = omega (arith, B .rate-least) in
         let room : n ≤ 2 ^ 32 = omega (arith, held-few) in

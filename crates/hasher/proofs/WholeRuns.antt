@@ -11,7 +11,7 @@ use Rattle.standard.specs.Chain.{startState, padded, blocksOf, run, endState}
 use Rattle.standard.specs.Variants.{variant, known}
 use Rattle.standard.proofs.Streaming.{run-append, run-length, run-none}
 use Rattle.standard.proofs.Variants.{streams}
-use Rattle.answers.specs.Outputs.{mostBits}
+use Rattle.answers.specs.Outputs.{maxBits}
 use Rattle.standard.specs.Layout.{packedState}
 use Rattle.chain.specs.Holding.{Holds}
 use Rattle.chain.specs.Blocks.{noneHeld, bitsAfter, firstBlocks, afterBlocks}
@@ -32,7 +32,7 @@ module _ (v : ℕ) (k : known v ≡ true) (n count : ℕ) (e : count ≡ dataBlo
   abbrev H : Variant
   H = variant v
 
-  pub count-most : n ≤ mostBits → count ≤ 2 ^ 32
+  pub count-most : n ≤ maxBits → count ≤ 2 ^ 32
   count-most few = omega (arith, marked-most v k n)
 
   module _ (front : List ℕ) (last : ℕ) (holds : HoldsMessage front last n) where

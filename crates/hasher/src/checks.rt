@@ -3,14 +3,14 @@ ghost use mathlib.Core.Path.{_≡_};
 ghost use Prim.Native.Nat.{_*_, _≤_};
 ghost use Rattle.standard.specs.Variants.{variant};
 ghost use Rattle.answers.specs.Checks.{firstRefusal};
-ghost use Rattle.answers.specs.Outputs.{mostBits};
+ghost use Rattle.answers.specs.Outputs.{maxBits};
 ghost use Rattle.chain.specs.MessageBytes.{given};
 ghost use Rattle.hasher.specs.Running.{openChecks, followChecks, updateChecks};
 ghost use Rattle.hasher.specs.Reading.{roomChecks, readStatus, hashStatus};
 use crate::Hasher;
 use crate::results;
-use answers::MOST;
-use answers::MOST_BITS;
+use answers::MAX_MESSAGE_BITS;
+use answers::MAX_MESSAGE_BYTES;
 use answers::Refusal;
 use answers::Status;
 use chain::message;
@@ -32,17 +32,17 @@ pub fn check_open(h: Hasher) -> Status
 
 // Whether so many bytes may follow what was taken: refusals 16, 4.
 fn check_follow(h: Hasher, bytes: usize) -> Status
-    requires { ⌜ h .total ≤ mostBits ⌝ }
+    requires { ⌜ h .total ≤ maxBits ⌝ }
     ensures { λ r. ⌜ r ≡ firstRefusal (followChecks h (8 * bytes)) ⌝ }
 {
     if h.total % 8 != 0 {
         return Status::Refused(Refusal::InsideByte);
     }
     // Eight times any number could pass the word's end: more bytes than any message has are refused first.
-    if MOST < bytes {
+    if MAX_MESSAGE_BYTES < bytes {
         return Status::Refused(Refusal::TooLong);
     }
-    let left = MOST_BITS - h.total;
+    let left = MAX_MESSAGE_BITS - h.total;
     if (left as usize) < 8 * bytes {
         return Status::Refused(Refusal::TooLong);
     }

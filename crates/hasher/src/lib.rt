@@ -3,7 +3,7 @@ ghost use mathlib.Core.Path.{_≡_};
 ghost use mathlib.Core.Bool.{true};
 ghost use Rattle.standard.specs.Variants.{known};
 ghost use Rattle.hasher.specs.Running.{heldCount, wellFormed};
-use answers::MOST_BITS;
+use answers::MAX_MESSAGE_BITS;
 use answers::Status;
 use chain::BLOCK_BYTES;
 use chain::STATE_BYTES;
@@ -70,7 +70,7 @@ pub fn is_well_formed(h: Hasher) -> bool
     if 1 < h.stage {
         return false;
     }
-    if MOST_BITS < h.total {
+    if MAX_MESSAGE_BITS < h.total {
         return false;
     }
     let state = h.state;

@@ -10,7 +10,7 @@ ghost use Rattle.standard.specs.Variants.{known};
 ghost use Rattle.standard.specs.Layout.{clear};
 ghost use Rattle.answers.specs.declared.Status.the-variants.{Done};
 ghost use Rattle.answers.specs.Checks.{firstRefusal};
-ghost use Rattle.answers.specs.Outputs.{mostBits};
+ghost use Rattle.answers.specs.Outputs.{maxBits};
 ghost use Rattle.chain.specs.Messages.{isBitNumber};
 ghost use Rattle.chain.specs.MessageBytes.{given, messageIn};
 ghost use Rattle.hasher.specs.Running.{variantOf, wholeSoFar, fresh, grown, ended, updateChecks, startedOver, started, updated, finished};
@@ -78,7 +78,7 @@ pub fn start(variant: u32) -> Advanced
 // bits and these run through the state, and what is left is held.
 fn grown(h: Hasher, piece: &[u8], last: u8, k: usize) -> Hasher
     requires { ⌜ Open h ⌝ }
-    requires { ⌜ (wholeSoFar h ≡ true) × (k ≤ 8) × (h .total + (8 * length (now piece) + k) ≤ mostBits) ⌝ }
+    requires { ⌜ (wholeSoFar h ≡ true) × (k ≤ 8) × (h .total + (8 * length (now piece) + k) ≤ maxBits) ⌝ }
     requires { ⌜ clear (drop (8 * length (now piece) + k) (bitsIn high-first (now piece ++ last ∷ []))) ≡ true ⌝ }
     ensures { λ r. ⌜ r ≡ grown h (messageIn (now (piece .entry)) last (8 * length (now (piece .entry)) + k)) ⌝ }
 {
@@ -108,7 +108,7 @@ fn grown(h: Hasher, piece: &[u8], last: u8, k: usize) -> Hasher
 fn grown_bits(h: Hasher, piece: &[u8], k: usize) -> Hasher
     requires { ⌜ Open h ⌝ }
     requires { ⌜ (wholeSoFar h ≡ true) × (isBitNumber k (length (now piece)) ≡ true) ⌝ }
-    requires { ⌜ h .total + length (messageBits (variantOf h) (now piece) k) ≤ mostBits ⌝ }
+    requires { ⌜ h .total + length (messageBits (variantOf h) (now piece) k) ≤ maxBits ⌝ }
     ensures { λ r. ⌜ r ≡ grown h (messageBits (variantOf h) (now (piece .entry)) k) ⌝ }
 {
     let n = piece.len() - 1;

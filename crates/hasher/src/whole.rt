@@ -8,7 +8,7 @@ ghost use Rattle.standard.specs.Messages.{bytes, partial, givenBits};
 ghost use Rattle.standard.specs.Variants.{variant, known};
 ghost use Rattle.answers.specs.declared.Status.the-variants.{Done};
 ghost use Rattle.answers.specs.Checks.{firstRefusal};
-ghost use Rattle.answers.specs.Outputs.{most};
+ghost use Rattle.answers.specs.Outputs.{maxBytes};
 ghost use Rattle.chain.specs.Messages.{numberChecks};
 ghost use Rattle.chain.specs.MessageBytes.{given, messageIn, HoldsMessage};
 ghost use Rattle.hasher.specs.Reading.{resultOf, resultSize, hashStatus, hashInto};
@@ -45,7 +45,7 @@ fn end_of(v: u8, front: &[u8], last: u8, bits: usize, wanted: Wanted) -> [u8; ST
 // The same of a message as a caller gives it.
 fn end_of_given(v: u8, message: &[u8], ending: Ending, wanted: Wanted) -> [u8; STATE_BYTES]
     requires { ⌜ (known v ≡ true) × (firstRefusal (numberChecks (given (now message) ending)) ≡ Done)
-        × (length (now message) ≤ most) ⌝ }
+        × (length (now message) ≤ maxBytes) ⌝ }
     ensures { λ r. ⌜ take (resultSize (variant v) wanted) r
         ≡ resultOf (variant v) wanted (endState (variant v) (givenBits (variant v) (given (now (message .entry)) ending))) ⌝ }
 {
