@@ -1,5 +1,4 @@
 pub mod TakenBack
-pub mod MatrixImage
 pub mod States
 pub mod ImageLaws
 pub mod ImageOfState
@@ -9,9 +8,6 @@ pub mod BlockRows
 pub mod PartBytes
 pub mod BlockRuns
 pub mod LastBlocks
-pub mod WordPlaces
-pub mod CellsOfBytes
-pub mod CellsIntoWords
 pub mod WordSteps
 pub mod ImageRows
 pub mod InsideBlocks

@@ -15,7 +15,7 @@ returns c =
 returns-2 : tie.Need-returns-2
 returns-2 c =
     let a = c .before .before .before .before .before .before .args in
-    c .half-of2 .ensures
+    c .nibble-of2 .ensures
     ∙ half-piece (a .held .now) (a .p) (omega arith) (a .n) (a .piece .now) (a .last) (omega arith) (λ i. omega (arith, c .before .shared-slice-known4 .given i)) (omega arith)
 
 returns-3 : tie.Need-returns-3
@@ -26,7 +26,7 @@ returns-3 c =
 returns-4 : tie.Need-returns-4
 returns-4 c =
     let a = c .before .before .before .before .before .before .args in
-    c .half-of3 .ensures
+    c .nibble-of3 .ensures
     ∙ half-last (a .held .now) (a .p) (omega arith) (a .n) (a .piece .now) (a .last) (omega arith) (omega arith) (omega arith)
 
 pub half-at-spec : {M : Type 1} → statement M

@@ -19,7 +19,7 @@ Inv-loop out₀ p s q i₀ out i = (i ≤ q) × (length out₀ ≡ stateRoom) ×
 abbrev μ-loop : tie.MeasureT-loop
 μ-loop out₀ p s q i₀ out i = q - i
 
-put-nibble-requires : tie.Need-put-half-requires Inv-loop μ-loop
+put-nibble-requires : tie.Need-put-nibble-requires Inv-loop μ-loop
 put-nibble-requires c κs =
     let l = c .before .before .before .before .loop in
     let known = c .before .before .before .before .before .shared-slice-known .given in
