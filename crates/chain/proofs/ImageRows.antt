@@ -1,21 +1,18 @@
 -- The first bytes of SPONGENT's words against the whole state.
 -- Assumes nothing.
-use mathlib.Core.Path.{_≡_, refl, sym, ap, ap₂, _∙_}
-use mathlib.Core.Bool.{Bool}
-use mathlib.Core.List.{List, [], _∷_, _++_, append-nil, flatMap}
-use Prim.Native.Nat.{ℕ, zero, suc, _+_, _-_, _*_, _/_, _%_, _^_, _≤_, _<_}
-use native.Mathlib.Nat.{zero-mul, suc-mul, mul-assoc, le-refl}
-use native.Mathlib.Numerals.{add-one}
+use mathlib.Core.Path.{_≡_, refl, sym, ap, _∙_}
+use mathlib.Core.List.{List, _++_}
+use Prim.Native.Nat.{ℕ, _+_, _-_, _*_, _≤_}
 use native.Mathlib.Omega.{arith}
 use lib.Dec.{lit≤}
-use lib.ListN.{length, getD, take, drop, replicate, length-append, take-append-drop}
-use lib.Seq.{take-suc, take-all, take-take, take-append-le, length-take-le}
-use Rattle.standard.specs.Bits.{low-first, high-first, bitsOf, bitsIn, pack, unpack}
+use lib.ListN.{length, take, replicate}
+use lib.Seq.{take-take, take-append-le, length-take-le}
+use Rattle.standard.specs.Bits.{low-first, high-first, bitsIn, pack, unpack}
 use Rattle.standard.specs.Families.{imageSize}
 use Rattle.standard.specs.Variants.{variant}
 use Rattle.standard.specs.ForCode.{outputBits}
-use Rattle.standard.proofs.Tests.{one-to-five, six-to-ten}
-use Rattle.standard.proofs.BitLaws.{length-pack, bitsIn-take, pack-none}
+use Rattle.standard.proofs.Tests.{six-to-ten}
+use Rattle.standard.proofs.BitLaws.{bitsIn-take}
 use Rattle.standard.proofs.Variants.{Bounds, bounds, known-true}
 use Rattle.spongent.specs.Parameters.{spongentOf}
 use Rattle.spongent.specs.Words.{bytesIn}

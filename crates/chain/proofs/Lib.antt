@@ -1,3 +1,4 @@
+pub mod FamilyLaws
 pub mod TakenBack
 pub mod States
 pub mod ImageLaws

@@ -1,38 +1,27 @@
 -- The bytes that hold a state, through the permutation of either family, and the block step.
 -- Assumes nothing.
-use mathlib.Core.Path.{_≡_, refl, sym, ap, _∙_}
+use mathlib.Core.Path.{_≡_, sym, ap, _∙_}
 use mathlib.Core.Bool.{Bool, true}
 use mathlib.Core.List.{List}
 use mathlib.Core.Logic.{_⊎_, inl, inr, ⊎-elim}
-use Prim.Native.Nat.{ℕ, _*_, _%_, _^_, _≤_, _<_}
+use Prim.Native.Nat.{ℕ, _%_, _≤_, _<_}
 use native.Mathlib.Omega.{arith}
-use lib.Dec.{lit≤}
 use lib.ListN.{length, getD}
 use Rattle.standard.specs.Bits.{Order, low-first, high-first, bitsIn, pack, unpack, xorInto, turned}
 use Rattle.standard.specs.declared.Direction.{Direction}
 use Rattle.standard.specs.declared.Direction.the-variants.{Backward}
-use Rattle.standard.specs.Grid.{Grid}
-use Rattle.standard.specs.ForCode.{window, Small}
-use Rattle.standard.specs.Photon.{photonRounds, matrixOf, bitsOfMatrix, photonPermutation}
 use Rattle.standard.specs.Spongent.{spongentPermutation}
 use Rattle.standard.specs.Sponge.{permutation}
 use Rattle.standard.specs.Families.{Variant, isSponge, order, stateIn}
 use Rattle.standard.specs.Variants.{variant, known}
-use Rattle.standard.proofs.Tests.{one-to-five}
-use Rattle.standard.proofs.Tab.{small-window}
 use Rattle.standard.proofs.BitLaws.{length-unpack}
-use Rattle.standard.proofs.PhotonLaws.{photonRounds-state}
-use Rattle.standard.proofs.MatrixLaws.{matrixOf-square, matrixOf-small}
 use Rattle.standard.proofs.Variants.{Bounds, bounds, WholeBytes, layouts, is-sponge}
-use Rattle.photon.specs.Parameters.{photonOf}
-use Rattle.photon.proofs.ParametersOf.{photon-variant, sound}
 use Rattle.spongent.specs.Parameters.{spongentOf}
 use Rattle.spongent.proofs.ParametersOf.{family-of, bits-of}
 use Rattle.standard.specs.Layout.{blockRoom, stateRoom, packedState}
 use Rattle.chain.specs.Holding.{blockIn, Holds, HoldsBlock}
 use Rattle.chain.specs.TakenBack.{permutedState, unstep}
 use Rattle.chain.proofs.TakenBack.{permuted-length}
-use Rattle.chain.proofs.MatrixImage.{matrix-front}
 use Rattle.bytes.proofs.LayoutLaws.{state-back, taken-bytes}
 
 -- ---- SPONGENT

@@ -1,52 +1,38 @@
--- The block step on words: what is added to the columns of a state is the block xored in, and the rounds on words are the permutation. And the words of an image.
+-- The block step on words, as SPONGENT and Lesamnta-LW promise it; and the words of an image.
 -- Assumes nothing.
 use mathlib.Core.Path.{_≡_, refl, sym, ap, ap₂, _∙_, subst}
 use mathlib.Core.Bool.{Bool, true}
 use mathlib.Core.List.{List, [], _∷_, _++_, reverse-reverse}
 use mathlib.Core.Logic.{inr, ⊎-elim}
-use Prim.Native.Nat.{ℕ, zero, suc, _+_, _*_, _/_, _%_, _^_, _≤_, _<_}
-use native.Mathlib.Nat.{mul-comm, zero-mul, zero-add, one-mul, add-mul, suc-mul, mul-le-mul-left, mul-le-mul-right, mul-assoc}
+use Prim.Native.Nat.{ℕ, _+_, _*_, _/_, _%_, _≤_, _<_}
 use native.Mathlib.Omega.{arith}
-use lib.Bits.{bitXor}
-use lib.Dec.{lit≤}
-use lib.ListN.{length, getD, take, drop, replicate, length-append}
-use lib.Seq.{take-all, take-at, drop-at, length-take-le}
+use lib.ListN.{length, getD, take, drop, length-append}
+use lib.Seq.{take-all, take-at, drop-at}
 use Rattle.standard.specs.Bits.{low-first, high-first, lowBits, ordered, bitsOf, valueOf, bitsIn, pack, unpack, bytesFor, turned, xorInto}
-use Rattle.standard.proofs.Turned.{turned-high, turned-in}
+use Rattle.standard.proofs.Turned.{turned-in}
 use Rattle.standard.specs.declared.Direction.the-variants.{Forward}
-use Rattle.standard.specs.Grid.{at, tab}
-use Rattle.standard.specs.Photon.{matrixOf, bitsOfMatrix, photonRounds, photonPermutation}
+use Rattle.standard.specs.Grid.{tab}
 use Rattle.standard.specs.Spongent.{spongentPermutation}
 use Rattle.standard.specs.Sponge.{permutation}
 use Rattle.standard.specs.Families.{stateIn}
 use Rattle.standard.specs.Chain.{step}
 use Rattle.standard.specs.Variants.{variant, known}
-use Rattle.standard.proofs.Tests.{lt-or-le, one-to-five, six-to-ten}
-use Rattle.standard.proofs.Tab.{at-grid, grid-cong, grid-self, square-grid}
+use Rattle.standard.proofs.Tests.{lt-or-le, six-to-ten}
 use Rattle.standard.proofs.BitLaws.{filled-take, length-lowBits, lowBits-lowValue, length-bitsOf, length-bitsIn, length-unpack, bitsIn-take, bitsIn-drop}
-use Rattle.standard.proofs.MatrixLaws.{length-bitsOfMatrix, matrixOf-square, bits-matrix}
-use Rattle.standard.proofs.PhotonLaws.{State}
 use Rattle.standard.proofs.Variants.{known-low, known-high, sponge-true, is-sponge}
-use Rattle.photon_tables.specs.Columns.{cellOf, placeIn, placeOf}
-use Rattle.photon_tables.proofs.LookUps.{words-state}
-use Rattle.photon.specs.Parameters.{photonOf}
-use Rattle.photon.specs.Words.{matrixIn}
-use Rattle.photon.proofs.ParametersOf.{photon-variant, sound}
-use Rattle.photon.proofs.WordPlaces.{rising-places, one-to-four, four-bits}
 use Rattle.spongent.specs.Parameters.{spongentOf}
 use Rattle.spongent.specs.Words.{bytesIn}
 use Rattle.spongent.proofs.ParametersOf.{family-of, bits-of, sizes-of}
 use Rattle.spongent.proofs.WordLaws.{length-bytesIn}
-use Rattle.bytes.specs.Cells.{cellIn}
 use Rattle.chain.specs.Words.{stateInWords}
 use Rattle.chain.specs.TakenBack.{permutedState}
 use Rattle.chain.proofs.TakenBack.{step-permutes}
+use Rattle.chain.proofs.FamilyLaws.{photon-holds}
+use Rattle.photon.proofs.WordSteps.{columns-length}
 use Rattle.standard.specs.Lesamnta.{lesamntaStep}
 use Rattle.standard.proofs.LesamntaLaws as lw
 use Rattle.lesamnta.specs.States.{stateOfFour}
-use Rattle.standard.specs.Layout.{stateRoom, packedState}
-use Rattle.chain.proofs.MatrixImage.{matrix-front}
-use Rattle.chain.proofs.CellsIntoWords.{Taken, taken-none, taken-row, columns-are, matrix-xor, block-cell}
+use Rattle.standard.specs.Layout.{packedState}
 
 -- ---- SPONGENT
 
@@ -132,7 +118,7 @@ words-length v k w = ⊎-elim photons (λ low. ⊎-elim (spongents low) last (lt
     photons h =
         let low : 1 ≤ v = known-low v k in
         let high : v ≤ 5 = omega arith in
-        rw (photon-variant v low high) (length-bitsOfMatrix (photonOf v .d) (photonOf v .s) (matrixIn v w) (square-grid (photonOf v .d) _) ∙ sym (state-size v low high))
+        ap length (photon-holds v low high w) ∙ columns-length v low high w
 
     spongents : 6 ≤ v → v < 11 → length (stateInWords (variant v) w) ≡ variant v .t
     spongents low h =

@@ -13,7 +13,7 @@ ghost use Rattle.bytes.specs.Nibbles.{nibbleIn};
 ghost use Rattle.chain.specs.Words.{stateInWords, TableOf};
 use crate::sizes;
 use crate::sizes::BLOCK_BYTES;
-use crate::words;
+use crate::state;
 
 // The half byte n of the first p half bytes of `held`, the piece and the last byte.
 fn half_at(held: &[u8], p: usize, piece: &[u8], last: u8, n: usize) -> u8
@@ -104,11 +104,11 @@ fn step_at(
         ≡ step (variant v) (stateInWords (variant v) (now (w .entry))) (filled (4 * q) (drop (4 * first) (heldThen (now (held .entry)) p (now (piece .entry) ++ last ∷ [])))) ⌝ }
 {
     if is_inside(p, piece.len(), first, q) {
-        words::step_words(v, w, piece, first - p, table);
+        state::step_words(v, w, piece, first - p, table);
         return;
     }
     let block = block_at(held, p, piece, last, first, q);
-    words::step_words(v, w, &block, 0, table);
+    state::step_words(v, w, &block, 0, table);
 }
 
 // The first `count` blocks run through the state of the words.

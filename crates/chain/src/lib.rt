@@ -2,13 +2,12 @@
 pub mod blocks;
 pub mod endings;
 pub mod images;
-mod matrix;
 pub mod outcome;
 pub mod parts;
+pub mod plain;
 pub mod sizes;
 pub mod squeeze;
-pub mod step;
-pub mod words;
+pub mod state;
 
 pub use images::permute;
 pub use images::unpermute;

@@ -16,7 +16,7 @@ ghost use Rattle.chain.specs.Words.{TableOf, outcome};
 use crate::blocks;
 use crate::sizes::STATE_BYTES;
 use crate::squeeze;
-use crate::words;
+use crate::state;
 
 // Of a sponge, with its table at hand.
 fn outcome_with(
@@ -34,12 +34,12 @@ fn outcome_with(
     requires { ⌜ TableOf v (now table) ⌝ }
     ensures { λ r. ⌜ r ≡ outcome (variant v) digest (run (variant v) (stateIn (variant v) s) (firstBlocks (variant v .r) count (heldThen (now (held .entry)) p (now (piece .entry) ++ last ∷ [])))) ⌝ }
 {
-    let mut w = words::words_of(v, s);
+    let mut w = state::words_of(v, s);
     blocks::run_words(v, &mut w, held, p, piece, last, count, table);
     if digest {
         return squeeze::squeezed(v, &mut w, table);
     }
-    words::bytes_of(v, &w)
+    state::bytes_of(v, &w)
 }
 
 // Each table is as large as it has to be, and lies in a function of its own: a call needs the room of its family's alone.
@@ -57,7 +57,7 @@ fn outcome_pairs(
     requires { ⌜ (1 ≤ v) × (v ≤ 4) × (p ≤ 2 * length (now held)) × (count ≤ 2 ^ 32) ⌝ }
     ensures { λ r. ⌜ r ≡ outcome (variant v) digest (run (variant v) (stateIn (variant v) s) (firstBlocks (variant v .r) count (heldThen (now (held .entry)) p (now (piece .entry) ++ last ∷ [])))) ⌝ }
 {
-    let mut table = [0u64; 1040];
+    let mut table = [0u64; photon::words::PAIR_WORDS];
     photon::words::fill_pairs(v as usize, &mut table);
     outcome_with(v, s, held, p, piece, last, count, digest, &table)
 }
@@ -110,9 +110,9 @@ fn outcome_boxes(
 {
     let mut table = [0u64; lesamnta::TABLE_WORDS];
     lesamnta::fill_table(&mut table);
-    let mut w = words::words_of(11, s);
+    let mut w = state::words_of(11, s);
     blocks::run_words(11, &mut w, held, p, piece, last, count, &table);
-    words::bytes_of(11, &w)
+    state::bytes_of(11, &w)
 }
 
 // The state after the first `count` blocks, or the digest that it gives.
@@ -141,7 +141,7 @@ pub fn outcome_after(
     outcome_spread(v, s, held, p, piece, last, count, digest)
 }
 
-// The permutation of a sponge by look-ups: the step of a block of zeros. It promises what `step::permuted` does by the standard's steps.
+// The permutation of a sponge by look-ups: the step of a block of zeros. It promises what `state::permuted` does by the standard's steps.
 pub fn permuted_by_words(v: u8, s: [u8; STATE_BYTES]) -> [u8; STATE_BYTES]
     requires { ⌜ (known v ≡ true) × (isSponge (variant v) ≡ true) ⌝ }
     ensures { λ r. ⌜ r ≡ packedState (variant v) (permutedState (variant v) Forward (stateIn (variant v) s)) ⌝ }

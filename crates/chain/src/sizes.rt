@@ -8,6 +8,7 @@ ghost use Rattle.standard.specs.Variants.{variant, known};
 ghost use Rattle.standard.specs.ForCode.{outputBits};
 ghost use Rattle.answers.specs.Outputs.{mostBits};
 ghost use Rattle.standard.specs.Layout.{stateRoom};
+ghost use Rattle.chain.specs.Families.{familyOf};
 ghost use Rattle.chain.specs.Endings.{markedCount};
 
 // Room for the state of every variant, for a block and for a digest.
@@ -58,6 +59,26 @@ pub fn is_sponge(v: u8) -> bool
         return false;
     }
     v <= 10
+}
+
+// The families. What depends on them is in `state`.
+pub enum Family {
+    Photon,
+    Spongent,
+    Lesamnta,
+}
+
+pub fn family_of(v: u8) -> Family
+    requires { ⌜ known v ≡ true ⌝ }
+    ensures { λ r. ⌜ r ≡ familyOf (variant v .family) ⌝ }
+{
+    if v <= 5 {
+        return Family::Photon;
+    }
+    if v <= 10 {
+        return Family::Spongent;
+    }
+    Family::Lesamnta
 }
 
 fn sizes_of(v: u8) -> Sizes

@@ -162,7 +162,7 @@ fn fresh(v: u8) -> Hasher
         total: 0,
         variant: v,
         stage: 0,
-        state: chain::step::start(v),
+        state: chain::state::start(v),
         held: [0u8; BLOCK_BYTES],
     }
 }
@@ -425,7 +425,7 @@ fn end_of(v: u8, front: &[u8], last: u8, bits: usize, wanted: Wanted) -> [u8; ST
 {
     let count = chain::sizes::marked_count(v, bits);
     let none: [u8; 0] = [];
-    let start = chain::step::start(v);
+    let start = chain::state::start(v);
     if chain::sizes::is_sponge(v) {
         let digest = is_digest(wanted);
         return chain::outcome::outcome_after(v, start, &none, 0, front, last, count, digest);

@@ -5,11 +5,10 @@ use mathlib.Core.Bool.{Bool, true, false, cond, xor}
 use mathlib.Core.List.{List, [], _∷_}
 use mathlib.Core.Logic.{⊎-elim}
 use Prim.Native.Nat.{ℕ, zero, suc, _+_, _-_, _*_, _^_, _≤_, _<_}
-use native.Mathlib.Nat.{mul-le-mul-right, suc-mul, mul-assoc, min-le-left, eq-or-lt-of-le, lt-of-lt-of-le, suc-inj, add-mul}
+use native.Mathlib.Nat.{mul-le-mul-right, suc-mul, mul-assoc, min-le-left, eq-or-lt-of-le, suc-inj, add-mul}
 use native.Mathlib.Omega.{arith}
 use lib.Bits.{bitXor, xor-zero-r, xor-lt}
 use lib.Dec.{eqb, ltb}
-use lib.Pow.{pow-mono}
 use lib.ListN.{length, getD, take, drop, length-take, length-drop, drop-of-length-le}
 use lib.Seq.{length-take-le, drop-drop, take-nil}
 use borrow.Author.Tests.{lt-ltb, le-ltb, eq-eqb, ne-eqb}

@@ -9,15 +9,15 @@ use native.Mathlib.Numerals.{add-one}
 use native.Mathlib.Omega.{arith}
 use lib.Dec.{lit≤}
 use lib.ListN.{length, getD, take, drop, replicate, length-append, take-append-drop}
-use lib.Seq.{take-suc, take-all, take-take, take-append-le, length-take-le}
-use Rattle.standard.specs.Bits.{low-first, high-first, bitsOf, bitsIn, pack, unpack}
+use lib.Seq.{take-suc, take-all, take-append-le}
+use Rattle.standard.specs.Bits.{high-first, bitsOf, bitsIn, pack, unpack}
 use Rattle.standard.specs.Grid.{Grid, tab, grid}
 use Rattle.standard.specs.Photon.{bitsOfMatrix}
 use Rattle.standard.specs.Variants.{variant}
 use Rattle.standard.specs.ForCode.{outputBits}
 use Rattle.standard.proofs.Tests.{one-to-five}
 use Rattle.standard.proofs.Tab.{length-tab, getD-tab, square-grid}
-use Rattle.standard.proofs.BitLaws.{length-pack, bitsIn-take, pack-none}
+use Rattle.standard.proofs.BitLaws.{length-pack, pack-none}
 use Rattle.standard.proofs.CutLaws.{cut-fits, flatMap-append}
 use Rattle.standard.proofs.MatrixLaws.{length-bitsOfMatrix}
 use Rattle.photon_tables.specs.Columns.{placeIn}

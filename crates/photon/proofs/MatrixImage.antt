@@ -1,20 +1,19 @@
 -- A PHOTON state's matrix and the bytes that hold it: cell by cell one way, byte by byte the other.
 -- Assumes nothing.
-use mathlib.Core.Path.{_≡_, refl, sym, ap, _∙_, subst}
-use mathlib.Core.Bool.{Bool, false}
-use mathlib.Core.List.{List, [], _∷_, _++_, reverse-append}
+use mathlib.Core.Path.{_≡_, sym, ap, _∙_, subst}
+use mathlib.Core.Bool.{Bool}
+use mathlib.Core.List.{List, []}
 use mathlib.Core.Logic.{⊎-elim}
 use Prim.Native.Nat.{ℕ, zero, suc, _+_, _*_, _/_, _%_, _^_, _≤_, _<_}
-use native.Mathlib.Nat.{not-suc-le-zero, le-of-suc-le-suc, div-add-mod', div-lt-iff-lt-mul, le-div-iff-mul-le, zero-lt-suc, mod-lt, mul-le-mul-left, mul-le-mul-right, mul-assoc, suc-mul}
+use native.Mathlib.Nat.{div-add-mod', div-lt-iff-lt-mul, le-div-iff-mul-le, zero-lt-suc, mod-lt, mul-le-mul-left, mul-le-mul-right, mul-assoc, suc-mul}
 use native.Mathlib.Omega.{arith}
-use lib.ListN.{length, take, drop, getD, replicate, drop-of-length-le, List·getD-eq-default, length-reverse, length-drop}
-use lib.Seq.{drop-drop}
-use Rattle.standard.specs.Bits.{high-first, ordered, valueOf, filled, pack}
+use lib.ListN.{length, take, drop, getD, drop-of-length-le, List·getD-eq-default, length-drop}
+use Rattle.standard.specs.Bits.{high-first, valueOf, filled, pack}
 use Rattle.standard.specs.Grid.{Grid, at}
 use Rattle.standard.specs.ForCode.{window, Square, Small}
 use Rattle.standard.specs.Photon.{matrixOf, bitsOfMatrix}
 use Rattle.standard.proofs.Tests.{lt-or-le}
-use Rattle.standard.proofs.BitLaws.{filled-take, length-filled, filled-add, lowValue-append, reverse-replicate}
+use Rattle.standard.proofs.BitLaws.{filled-take}
 use Rattle.standard.proofs.CutLaws.{take-drop-take}
 use Rattle.standard.proofs.Tab.{grid-cong, grid-self, window-square, window-small}
 use Rattle.standard.proofs.MatrixLaws.{matrixOf-square, at-matrixOf, length-bitsOfMatrix, matrix-bits}

@@ -1,28 +1,27 @@
 -- The block step on words: what is added to the columns of a state is the block xored in, and the rounds on words are the permutation. And the words of an image.
 -- Assumes nothing.
 use mathlib.Core.Path.{_≡_, refl, sym, ap, ap₂, _∙_, subst}
-use mathlib.Core.Bool.{Bool, true}
-use mathlib.Core.List.{List, [], _∷_, _++_, reverse-reverse}
-use mathlib.Core.Logic.{inr, ⊎-elim}
+use mathlib.Core.Bool.{Bool}
+use mathlib.Core.List.{List}
 use Prim.Native.Nat.{ℕ, zero, suc, _+_, _*_, _/_, _%_, _^_, _≤_, _<_}
 use native.Mathlib.Nat.{mul-comm, zero-mul, zero-add, one-mul, add-mul, suc-mul, mul-le-mul-left, mul-le-mul-right, mul-assoc}
 use native.Mathlib.Omega.{arith}
 use lib.Bits.{bitXor}
 use lib.Dec.{lit≤}
-use lib.ListN.{length, getD, take, drop, replicate, length-append}
-use lib.Seq.{take-all, take-at, drop-at, length-take-le}
-use Rattle.standard.specs.Bits.{low-first, high-first, lowBits, ordered, bitsOf, valueOf, bitsIn, pack, unpack, bytesFor, turned, xorInto}
-use Rattle.standard.proofs.Turned.{turned-high, turned-in}
+use lib.ListN.{length, getD, take, drop, replicate}
+use lib.Seq.{length-take-le}
+use Rattle.standard.specs.Bits.{high-first, bitsIn, unpack, xorInto}
+use Rattle.standard.proofs.Turned.{turned-high}
 use Rattle.standard.specs.declared.Direction.the-variants.{Forward}
-use Rattle.standard.specs.Grid.{at, tab}
+use Rattle.standard.specs.Grid.{at}
 use Rattle.standard.specs.Photon.{matrixOf, bitsOfMatrix, photonRounds, photonPermutation}
 use Rattle.standard.specs.Sponge.{permutation, spongeStep}
 use Rattle.standard.specs.Families.{stateIn}
 use Rattle.standard.specs.Chain.{step}
-use Rattle.standard.specs.Variants.{variant, known}
-use Rattle.standard.proofs.Tests.{lt-or-le, one-to-five, six-to-ten}
+use Rattle.standard.specs.Variants.{variant}
+use Rattle.standard.proofs.Tests.{one-to-five}
 use Rattle.standard.proofs.Tab.{at-grid, grid-cong, grid-self, square-grid}
-use Rattle.standard.proofs.BitLaws.{filled-take, length-lowBits, lowBits-lowValue, length-bitsOf, length-bitsIn, length-unpack, bitsIn-take, bitsIn-drop}
+use Rattle.standard.proofs.BitLaws.{length-bitsIn}
 use Rattle.standard.proofs.MatrixLaws.{length-bitsOfMatrix, matrixOf-square, bits-matrix}
 use Rattle.standard.proofs.PhotonLaws.{State}
 use Rattle.photon_tables.specs.Columns.{cellOf, placeIn, placeOf}
@@ -32,7 +31,7 @@ use Rattle.photon.specs.Words.{matrixIn, stateOfColumns}
 use Rattle.photon.proofs.ParametersOf.{photon-variant, sound}
 use Rattle.photon.proofs.WordPlaces.{rising-places, one-to-four, four-bits}
 use Rattle.bytes.specs.Cells.{cellIn}
-use Rattle.standard.specs.Layout.{stateRoom, packedState}
+use Rattle.standard.specs.Layout.{stateRoom}
 use Rattle.photon.proofs.MatrixImage.{matrix-front}
 use Rattle.photon.proofs.CellsIntoWords.{Taken, taken-none, taken-row, columns-are, matrix-xor, block-cell}
 

@@ -25,8 +25,9 @@ use chain::blocks;
 use chain::images;
 use chain::parts;
 use chain::parts::Ending;
+use chain::plain;
 use chain::sizes;
-use chain::step;
+use chain::state;
 
 // The bytes of a block.
 pub fn block_bytes(v: u8) -> usize
@@ -56,7 +57,7 @@ fn run_back(
     for i in place + 1..n {
         let j = place + n - i;
         let block = blocks::block_at(b"", 0, front, last, j * q, q);
-        let before = step::unstepped(v, s, block);
+        let before = plain::unstepped(v, s, block);
         s = before;
     }
     s
@@ -83,7 +84,7 @@ fn cipher_difference(s: [u8; STATE_BYTES], end: [u8; STATE_BYTES]) -> [u8; STATE
     let x = lesamnta::decrypt_front(&s, &end);
     let enciphered = images::at_front(&x);
     let half = second_half(s);
-    step::xored(enciphered, &half)
+    plain::xored(enciphered, &half)
 }
 
 // What lies between the states on both sides of the place. For a sponge it is the state before the block, and the one that the permutation has to take to the state behind
@@ -103,14 +104,14 @@ fn difference(
     requires { ⌜ Holds v end ⌝ }
     ensures { λ r. ⌜ r ≡ packedState (variant v) (difference (variant v) (messageIn (now (front .entry)) last bits) place (stateIn (variant v) end)) ⌝ }
 {
-    let start = step::start(v);
+    let start = state::start(v);
     let before = chain::outcome::run_blocks(v, start, b"", 0, front, last, place);
     if !sizes::is_sponge(v) {
         return cipher_difference(before, end);
     }
     let behind = run_back(v, front, last, bits, place, end);
-    let wanted = step::permuted(v, behind, Direction::Backward);
-    step::xored(before, &wanted)
+    let wanted = state::permuted(v, behind, Direction::Backward);
+    plain::xored(before, &wanted)
 }
 
 // The block that leads to the state of an image, written over the front of the output: refusal 8 where none does.

@@ -1,4 +1,4 @@
--- `chain::step::xored` meets its contract: the bytes passed are xored in. Assumes nothing.
+-- `chain::plain::xored` meets its contract: the bytes passed are xored in. Assumes nothing.
 use mathlib.Core.Path.{_≡_, sym}
 use Prim.Native.Nat.{_-_, _≤_}
 use native.Mathlib.Omega.{arith}
@@ -7,8 +7,8 @@ use lib.ListN.{length, take}
 use lib.Seq.{take-all}
 use Rattle.standard.proofs.BitLaws.{bytesXor, bytesXor-none, bytesXor-more, bitsIn-bytesXor}
 use Rattle.standard.specs.Layout.{stateRoom}
-use Rattle.chain.proofs.step.xored.Statement.{statement}
-use Rattle.chain.proofs.step.xored.Tie as tie
+use Rattle.chain.proofs.plain.xored.Statement.{statement}
+use Rattle.chain.proofs.plain.xored.Tie as tie
 
 abbrev Inv-loop : tie.InvT-loop
 Inv-loop b out₀ i₀ out i = (length b ≤ stateRoom) × (i ≤ length b) × (out ≡ bytesXor out₀ (take i b))

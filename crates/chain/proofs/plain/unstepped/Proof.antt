@@ -1,11 +1,11 @@
--- `chain::step::unstepped` meets its contract: the permutation is taken back, and the block xored out. Assumes nothing.
+-- `chain::plain::unstepped` meets its contract: the permutation is taken back, and the block xored out. Assumes nothing.
 use native.Mathlib.Omega.{arith}
 use Rattle.bytes.proofs.Elements.{bytes-lt}
 use Rattle.standard.specs.Layout.{stateRoom}
 use Rattle.chain.proofs.States.{taken-back}
 use borrow.Author.Needs.{needs}
-use Rattle.chain.proofs.step.unstepped.Statement.{statement}
-use Rattle.chain.proofs.step.unstepped.Tie as tie
+use Rattle.chain.proofs.plain.unstepped.Statement.{statement}
+use Rattle.chain.proofs.plain.unstepped.Tie as tie
 
 returns : tie.Need-returns
 returns c =
