@@ -18,14 +18,14 @@ use Rattle.chain.proofs.state.step_words.Tie as tie
 step-requires : tie.Need-step-requires
 step-requires c κs =
     let t = c .before in
-    let s = t .before .before .before in
+    let s = t .before .before .before .before .before in
     let n = numbers-of (s .args .v) (s .pre .0 .0) (t .before .before .family-of .ensures) (t .enum-told .given .1) in
     ((n .0, n .1, s .pre .0 .1, s .pre .0 .2), s .pre .1 .photon (n .1))
 
 step-requires-2 : tie.Need-step-requires-2
 step-requires-2 c κs =
     let t = c .before in
-    let s = t .before .before .before in
+    let s = t .before .before .before .before .before in
     let n = numbers-of (s .args .v) (s .pre .0 .0) (t .before .before .family-of .ensures) (t .enum-told2 .given .1) in
     ((omega (arith, n), (n .1, omega (arith, s .pre .0 .1, s .pre .0 .2 (whole-rate (s .args .v) (n .0) (n .1))))), s .pre .1 .spread (n .0) (n .1))
 
@@ -40,14 +40,14 @@ module _ (v : ℕ) (eleven : v ≡ 11) (m size : ℕ) where
 stepped-requires : tie.Need-stepped-requires
 stepped-requires c κs =
     let t = c .before in
-    let s = t .before .before .before in
+    let s = t .before .before .before .before .before in
     let e = numbers-of (s .args .v) (s .pre .0 .0) (t .before .before .family-of .ensures) (t .enum-told3 .given .1) in
     (block-room (s .args .v) e (s .args .m) _ (s .pre .0 .1) (s .pre .0 .2) .1, s .pre .1 .boxes e)
 
 returns : tie.Need-returns
 returns c =
     let t = c .before .before in
-    let s = t .before .before .before in
+    let s = t .before .before .before .before .before in
     let n = numbers-of (s .args .v) (s .pre .0 .0) (t .before .before .family-of .ensures) (t .enum-told .given .1) in
     let a = s .args in
     photon-holds (a .v) (n .0) (n .1) _ ∙ c .step .ensures
@@ -56,14 +56,14 @@ returns c =
 returns-2 : tie.Need-returns-2
 returns-2 c =
     let t = c .before .before in
-    let s = t .before .before .before in
+    let s = t .before .before .before .before .before in
     let n = numbers-of (s .args .v) (s .pre .0 .0) (t .before .before .family-of .ensures) (t .enum-told2 .given .1) in
     spongent-stepped (s .args .v) (n .0) (n .1) (s .args .bytes .now) (s .args .m) (s .pre .0 .1) (s .pre .0 .2) (s .args .w .now) (c .step2 .last .1 .0) (c .step2 .ensures)
 
 returns-3 : tie.Need-returns-3
 returns-3 c =
     let t = c .before .before in
-    let s = t .before .before .before in
+    let s = t .before .before .before .before .before in
     let e = numbers-of (s .args .v) (s .pre .0 .0) (t .before .before .family-of .ensures) (t .enum-told3 .given .1) in
     let even = block-room (s .args .v) e (s .args .m) _ (s .pre .0 .1) (s .pre .0 .2) .0 in
     subst (λ (n : ℕ). stateInWords (variant n) (c .stepped .result) ≡ step (variant n) (stateInWords (variant n) (s .args .w .now)) (take (variant n .r) (drop (4 * s .args .m) (bitsIn high-first (s .args .bytes .now)))))
