@@ -3,34 +3,28 @@
 use mathlib.Core.Path.{_≡_, refl, sym, ap, ap₂, _∙_}
 use mathlib.Core.Bool.{Bool}
 use mathlib.Core.List.{List, [], _∷_, _++_, append-nil, flatMap}
-use Prim.Native.Nat.{ℕ, zero, suc, _+_, _-_, _*_, _/_, _%_, _^_, _≤_, _<_}
+use Prim.Native.Nat.{ℕ, zero, suc, _+_, _*_, _/_, _%_, _^_, _≤_, _<_}
 use native.Mathlib.Nat.{zero-mul, suc-mul, mul-assoc, le-refl}
 use native.Mathlib.Numerals.{add-one}
 use native.Mathlib.Omega.{arith}
 use lib.Dec.{lit≤}
 use lib.ListN.{length, getD, take, drop, replicate, length-append, take-append-drop}
-use lib.Seq.{take-suc, take-all, take-take, take-append-le, length-take-le}
-use Rattle.standard.specs.Bits.{low-first, high-first, bitsOf, bitsIn, pack, unpack}
+use lib.Seq.{take-suc, take-all, take-append-le}
+use Rattle.standard.specs.Bits.{high-first, bitsOf, bitsIn, pack, unpack}
 use Rattle.standard.specs.Grid.{Grid, tab, grid}
 use Rattle.standard.specs.Photon.{bitsOfMatrix}
-use Rattle.standard.specs.Families.{imageSize}
 use Rattle.standard.specs.Variants.{variant}
 use Rattle.standard.specs.ForCode.{outputBits}
-use Rattle.standard.proofs.Tests.{one-to-five, six-to-ten}
+use Rattle.standard.proofs.Tests.{one-to-five}
 use Rattle.standard.proofs.Tab.{length-tab, getD-tab, square-grid}
-use Rattle.standard.proofs.BitLaws.{length-pack, bitsIn-take, pack-none}
+use Rattle.standard.proofs.BitLaws.{length-pack, pack-none}
 use Rattle.standard.proofs.CutLaws.{cut-fits, flatMap-append}
 use Rattle.standard.proofs.MatrixLaws.{length-bitsOfMatrix}
-use Rattle.standard.proofs.Variants.{Bounds, bounds, known-true}
 use Rattle.photon_tables.specs.Columns.{placeIn}
 use Rattle.photon.specs.Parameters.{photonOf}
 use Rattle.photon.specs.Words.{matrixIn}
 use Rattle.photon.proofs.ParametersOf.{photon-variant}
 use Rattle.photon.proofs.WordPlaces.{one-to-four}
-use Rattle.spongent.specs.Parameters.{spongentOf}
-use Rattle.spongent.specs.Words.{bytesIn}
-use Rattle.spongent.proofs.ParametersOf.{family-of, bits-of, sizes-of}
-use Rattle.spongent.proofs.WordLaws.{length-bytesIn, image-packed}
 use Rattle.chain.specs.Layout.{stateRoom, packedState}
 use Rattle.chain.specs.Words.{stateInWords}
 use Rattle.chain.proofs.LayoutLaws.{packed-bits}
@@ -164,35 +158,3 @@ module _ (v : ℕ) (low : 1 ≤ v) (high : v ≤ 5) (k : ℕ) (is : v ≡ k) (w 
       let enough : m ≤ length X = omega (arith, fits .1) in
       let room : length (X ++ Y) ≤ stateRoom * 8 = omega (arith, fits .2) in
       rw (photon-variant v low high, rw (← is) at e, all, take-packed m X enough (omega arith), take-packed m (X ++ Y) (omega arith) room, take-append-le m X Y enough)
-
--- ---- SPONGENT
-
--- the first bits of bytes, of which the first two are those of b
-front-bytes : (m n : ℕ) (b z : List ℕ) → m ≤ 16 → 2 ≤ n → n ≤ length b → take m (bitsIn high-first (take n b ++ z)) ≡ take m (bitsIn high-first (take 2 b))
-front-bytes m n b z hm hn hb =
-    sym (take-take m 16 (bitsIn high-first (take n b ++ z)) hm)
-    ∙ ap (take m) (bitsIn-take high-first 2 (take n b ++ z) ∙ ap (bitsIn high-first) (take-append-le 2 (take n b) z (omega (arith, length-take-le n b hb)) ∙ take-take 2 n b hn))
-
-module _ (v : ℕ) (low : 6 ≤ v) (high : v ≤ 10) (w : List ℕ) where
-  sized : Bounds (variant v)
-  sized = bounds v (known-true v (omega arith) (omega arith))
-
-  pub spongent-image : (r : List ℕ) (n : ℕ) → n ≡ imageSize (variant v) → r ≡ take n (bytesIn w) ++ replicate (36 - n) 0 → r ≡ packedState (variant v) (stateInWords (variant v) w)
-  unfolding stateInWords
-  spongent-image r n en er =
-      let whole : 8 * n ≡ spongentOf v .t = omega (arith, bits-of v low high, sizes-of v low high .whole) in
-      rw (family-of v low high) (er ∙ image-packed w n (omega (arith, sized .image-most)) ∙ ap (λ (t : ℕ). pack low-first stateRoom (unpack low-first t (bytesIn w))) whole)
-
-  output-bytes : outputBits (variant v) ≤ 16
-  unfolding variant
-  output-bytes = six-to-ten (λ k. outputBits (variant k) ≤ 16) (lit≤ tt) (lit≤ tt) (lit≤ tt) (lit≤ tt) (lit≤ tt) v low high
-
-  pub spongent-front : (r : List ℕ) → r ≡ take 2 (bytesIn w) ++ replicate 34 0
-      → take (outputBits (variant v)) (bitsIn high-first r) ≡ take (outputBits (variant v)) (bitsIn high-first (packedState (variant v) (stateInWords (variant v) w)))
-  spongent-front r er =
-      let n : ℕ = imageSize (variant v) in
-      let m : ℕ = outputBits (variant v) in
-      ap (λ (x : List ℕ). take m (bitsIn high-first x)) er
-      ∙ front-bytes m 2 (bytesIn w) (replicate 34 0) output-bytes (lit≤ tt) (omega (arith, length-bytesIn w))
-      ∙ sym (front-bytes m n (bytesIn w) (replicate (36 - n) 0) output-bytes (sized .image-least) (omega (arith, length-bytesIn w, sized .image-most)))
-      ∙ ap (λ (x : List ℕ). take m (bitsIn high-first x)) (spongent-image (take n (bytesIn w) ++ replicate (36 - n) 0) n refl refl)

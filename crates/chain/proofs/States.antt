@@ -8,15 +8,14 @@ use Prim.Native.Nat.{ℕ, _*_, _%_, _^_, _≤_, _<_}
 use native.Mathlib.Omega.{arith}
 use lib.Dec.{lit≤}
 use lib.ListN.{length, getD}
-use Rattle.standard.specs.Bits.{Order, low-first, high-first, bitsIn, pack, unpack, xorInto, turned}
+use Rattle.standard.specs.Bits.{Order, high-first, bitsIn, pack, unpack, xorInto, turned}
 use Rattle.standard.specs.declared.Direction.{Direction}
 use Rattle.standard.specs.declared.Direction.the-variants.{Backward}
 use Rattle.standard.specs.Grid.{Grid}
 use Rattle.standard.specs.ForCode.{window, Small}
 use Rattle.standard.specs.Photon.{photonRounds, matrixOf, bitsOfMatrix, photonPermutation}
-use Rattle.standard.specs.Spongent.{spongentPermutation}
 use Rattle.standard.specs.Sponge.{permutation}
-use Rattle.standard.specs.Families.{Variant, isSponge, order, stateIn}
+use Rattle.standard.specs.Families.{spongent, Variant, isSponge, order, stateIn}
 use Rattle.standard.specs.Variants.{variant, known}
 use Rattle.standard.proofs.Tests.{one-to-five}
 use Rattle.standard.proofs.Tab.{small-window}
@@ -27,7 +26,7 @@ use Rattle.standard.proofs.Variants.{Bounds, bounds, WholeBytes, layouts, is-sp
 use Rattle.photon.specs.Parameters.{photonOf}
 use Rattle.photon.proofs.ParametersOf.{photon-variant, sound}
 use Rattle.spongent.specs.Parameters.{spongentOf}
-use Rattle.spongent.proofs.ParametersOf.{family-of, bits-of}
+use Rattle.spongent.proofs.ParametersOf.{family-of}
 use Rattle.chain.specs.Layout.{blockRoom, stateRoom, packedState}
 use Rattle.chain.specs.Holding.{blockIn, Holds, HoldsBlock}
 use Rattle.chain.specs.TakenBack.{permutedState, unstep}
@@ -72,17 +71,9 @@ module _ (v : ℕ) (low : 1 ≤ v) (high : v ≤ 5) (d s : ℕ) (ed : d ≡ phot
 
 -- ---- SPONGENT
 
-module _ (v : ℕ) (low : 6 ≤ v) (high : v ≤ 10) where
-  pub spongent-ready : (bytes : List ℕ) → Holds v bytes
-      → bytes ≡ pack low-first stateRoom (unpack low-first (spongentOf v .t) bytes)
-  unfolding stateIn
-  spongent-ready bytes e = rw (family-of v low high, bits-of v low high) at e
-
-  pub spongent-state : (bytes r : List ℕ) (w : Direction)
-      → r ≡ pack low-first stateRoom (spongentPermutation (spongentOf v) w (unpack low-first (spongentOf v .t) bytes))
-      → r ≡ packedState (variant v) (permutedState (variant v) w (stateIn (variant v) bytes))
-  unfolding permutedState permutation stateIn
-  spongent-state bytes r w e = rw (family-of v low high, bits-of v low high) e
+pub spongent-state : (v : ℕ) → 6 ≤ v → v ≤ 10 → (w : Direction) (s : List Bool) → permutedState (variant v) w s ≡ permutation (spongent (spongentOf v)) w s
+unfolding permutedState
+spongent-state v low high w s = rw (family-of v low high)
 
 -- ---- by number
 

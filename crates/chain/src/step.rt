@@ -51,7 +51,7 @@ pub fn permuted(v: u8, s: [u8; STATE_BYTES], way: Direction) -> [u8; STATE_BYTES
     if v <= 5 {
         return matrix::permuted(v as usize, s, back);
     }
-    spongent::permuted(v as usize, s, back)
+    spongent::steps::permuted(v, s, way)
 }
 
 // The block step of a sponge taken back.

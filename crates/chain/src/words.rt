@@ -20,7 +20,6 @@ ghost use Rattle.chain.specs.Layout.{stateRoom, packedState};
 ghost use Rattle.chain.specs.Blocks.{halfOf};
 ghost use Rattle.chain.specs.Cells.{cellIn};
 ghost use Rattle.chain.specs.Words.{stateInWords, TableOf};
-use crate::sizes;
 use crate::sizes::STATE_BYTES;
 
 // ---- PHOTON: rows of cells into columns
@@ -147,9 +146,9 @@ pub fn words_of(v: u8, s: [u8; STATE_BYTES]) -> [u64; 8]
         return columns8(&s);
     }
     if v == 11 {
-        return lesamnta::words_of(&s);
+        return lesamnta::words::words_of(&s);
     }
-    spongent::words::words_of(&s)
+    spongent::words::words_of(v, &s)
 }
 
 // ---- columns into bytes
@@ -276,9 +275,9 @@ pub fn bytes_of(v: u8, w: &[u64; 8]) -> [u8; STATE_BYTES]
         return image8(w, 6);
     }
     if v == 11 {
-        return lesamnta::image(*w);
+        return lesamnta::words::image(w);
     }
-    spongent::words::image(w, sizes::image_bytes(v))
+    spongent::words::image(v, w)
 }
 
 // The bytes of a sponge's first bits, as many as are given out: the rows that have them, and zeros for the others.
@@ -301,7 +300,7 @@ pub fn front_of(v: u8, w: &[u64; 8]) -> [u8; STATE_BYTES]
     if v == 5 {
         return image8(w, 1);
     }
-    spongent::words::image(w, 2)
+    spongent::words::front(v, w)
 }
 
 // ---- the block step
@@ -363,9 +362,8 @@ pub fn step_words(v: u8, w: &mut [u64; 8], bytes: &[u8], m: usize, table: &[u64]
         return;
     }
     if v == 11 {
-        let next = lesamnta::stepped(*w, bytes, m / 2, table);
-        *w = next;
+        lesamnta::words::step(w, bytes, m, table);
         return;
     }
-    spongent::words::step(v as usize, w, bytes, m / 2, table);
+    spongent::words::step(v, w, bytes, m, table);
 }

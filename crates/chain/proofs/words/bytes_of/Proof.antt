@@ -1,14 +1,9 @@
 -- `chain::words::bytes_of` meets its contract: all rows of a PHOTON matrix, or all bytes of a SPONGENT state. Assumes nothing.
-use mathlib.Core.Path.{_≡_, sym, subst}
-use Prim.Native.Nat.{ℕ}
 use native.Mathlib.Omega.{arith}
 use borrow.Author.Needs.{needs}
-use Rattle.standard.proofs.Variants.{bounds, known-low, known-high}
-use Rattle.standard.specs.Variants.{variant}
-use Rattle.chain.specs.Layout.{packedState}
-use Rattle.chain.specs.Words.{stateInWords}
-use Rattle.chain.proofs.ImageRows.{side-of, all-rows, spongent-image}
-use Rattle.chain.proofs.WordSteps.{lesamnta-image}
+use Rattle.standard.proofs.Variants.{known-low, known-high}
+use Rattle.chain.proofs.ImageRows.{side-of, all-rows}
+use Rattle.chain.proofs.WordSteps.{spongent-words, lesamnta-words}
 use Rattle.chain.proofs.words.bytes_of.Statement.{statement}
 use Rattle.chain.proofs.words.bytes_of.Tie as tie
 
@@ -39,19 +34,18 @@ returns-5 c =
 
 returns-6 : tie.Need-returns-6
 returns-6 c =
-    let s = c .before .before .before .before .before .before .before .before in
-    subst (λ (n : ℕ). c .image .result ≡ packedState (variant n) (stateInWords (variant n) (s .args .w .now))) (sym (c .before .before .if6 .taken)) (lesamnta-image (s .args .w .now) _ (c .image .ensures))
+    rw (c .before .if6 .taken, lesamnta-words (c .before .before .before .before .before .before .before .args .w .now)) (c .image .ensures)
 
-image-requires-2 : tie.Need-image-requires-2
-image-requires-2 c κs =
-    let s = c .before .before .before .before .before .before .before in
-    omega (arith, c .image-bytes .ensures, bounds (s .args .v) (s .pre) .image-most)
+spongent-requires : tie.Need-image-requires-2
+spongent-requires c κs =
+    let s = c .before .before .before .before .before .before in
+    (omega (arith, known-low (s .args .v) (s .pre)), omega (arith, known-high (s .args .v) (s .pre)))
 
 returns-7 : tie.Need-returns-7
 returns-7 c =
-    let s = c .before .before .before .before .before .before .before .before in
+    let s = c .before .before .before .before .before .before .before in
     let low = known-low (s .args .v) (s .pre) in
-    spongent-image (s .args .v) (omega (arith, low)) (omega (arith, known-high (s .args .v) (s .pre))) (s .args .w .now) _ _ (c .before .image-bytes .ensures) (c .image2 .ensures)
+    rw (spongent-words (s .args .v) (omega arith) (omega (arith, known-high (s .args .v) (s .pre))) (s .args .w .now)) (c .image2 .ensures)
 
 pub bytes-of-spec : {M : Type 1} → statement M
 bytes-of-spec =
@@ -67,6 +61,5 @@ bytes-of-spec =
     returns-5
     (λ c κs. search needs)
     returns-6
-    (λ c κs. search needs)
-    image-requires-2
+    spongent-requires
     returns-7)

@@ -1,7 +1,8 @@
 -- `chain::words::front_of` meets its contract: the rows, or the bytes, that hold the bits given out. Assumes nothing.
 use native.Mathlib.Omega.{arith}
 use Rattle.standard.proofs.Variants.{known-low, sponge-high}
-use Rattle.chain.proofs.ImageRows.{side-of, front-rows, spongent-front}
+use Rattle.chain.proofs.ImageRows.{side-of, front-rows}
+use Rattle.chain.proofs.WordSteps.{spongent-words}
 use Rattle.chain.proofs.words.front_of.Statement.{statement}
 use Rattle.chain.proofs.words.front_of.Tie as tie
 
@@ -30,11 +31,16 @@ returns-5 c =
     let a = c .before .before .before .before .before .before .args in
     front-rows (a .v) (omega arith) (omega arith) 5 (c .before .if5 .taken) (a .w .now) _ (c .image8 .ensures)
 
+front-requires : tie.Need-front-requires
+front-requires c κs =
+    let s = c .before .before .before .before .before in
+    (omega (arith, known-low (s .args .v) (s .pre .0)), sponge-high (s .args .v) (s .pre .1))
+
 returns-6 : tie.Need-returns-6
 returns-6 c =
     let s = c .before .before .before .before .before .before in
     let low = known-low (s .args .v) (s .pre .0) in
-    spongent-front (s .args .v) (omega (arith, low)) (sponge-high (s .args .v) (s .pre .1)) (s .args .w .now) _ (c .image .ensures)
+    rw (spongent-words (s .args .v) (omega arith) (sponge-high (s .args .v) (s .pre .1)) (s .args .w .now)) (c .front .ensures)
 
 pub front-of-spec : {M : Type 1} → statement M
 front-of-spec =
@@ -48,5 +54,5 @@ front-of-spec =
     returns-4
     (λ c κs. omega arith)
     returns-5
-    (λ c κs. omega arith)
+    front-requires
     returns-6)

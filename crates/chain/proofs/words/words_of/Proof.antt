@@ -1,13 +1,9 @@
 -- `chain::words::words_of` meets its contract: the columns of the matrix, or the bytes eight to a word. Assumes nothing.
-use mathlib.Core.Path.{_≡_, sym, subst}
-use Prim.Native.Nat.{ℕ}
+use mathlib.Core.Path.{_∙_}
 use native.Mathlib.Omega.{arith}
 use lib.Dec.{lit≤}
 use borrow.Author.Needs.{needs}
-use Rattle.standard.specs.Families.{stateIn}
-use Rattle.standard.specs.Variants.{variant}
 use Rattle.standard.proofs.Variants.{known-high, known-low}
-use Rattle.chain.specs.Words.{stateInWords}
 use Rattle.chain.proofs.ImageRows.{side-of}
 use Rattle.chain.proofs.WordSteps.{photon-words, spongent-words, lesamnta-words}
 use Rattle.chain.proofs.words.words_of.Statement.{statement}
@@ -35,16 +31,20 @@ returns-5 c =
 
 returns-6 : tie.Need-returns-6
 returns-6 c =
-    let s = c .before .before .before .before .before .before .before .before in
-    subst (λ (n : ℕ). stateInWords (variant n) (c .words-of .result) ≡ stateIn (variant n) (s .args .t2)) (sym (c .before .before .if6 .taken)) (lesamnta-words (s .args .t2) _ (c .words-of .ensures))
+    rw (c .before .before .if6 .taken) (lesamnta-words (c .words-of .result) ∙ c .words-of .ensures)
+
+spongent-requires : tie.Need-words-of-requires-2
+spongent-requires c κs =
+    let s = c .before .before .before .before .before .before .before in
+    (omega (arith, known-low (s .args .v) (s .pre)), omega (arith, known-high (s .args .v) (s .pre)))
 
 returns-7 : tie.Need-returns-7
 returns-7 c =
     let s = c .before .before .before .before .before .before .before .before in
     let low = known-low (s .args .v) (s .pre) in
-    spongent-words (s .args .v) (omega arith) (omega (arith, known-high (s .args .v) (s .pre))) (s .args .t2) _ (c .words-of2 .ensures)
+    spongent-words (s .args .v) (omega arith) (omega (arith, known-high (s .args .v) (s .pre))) (c .words-of2 .result) ∙ c .words-of2 .ensures
 
 pub words-of-spec : {M : Type 1} → statement M
 words-of-spec =
     tie.close (tie.spec (λ c. search needs) (λ c κs. (omega arith, omega arith, side-of 1 (lit≤ tt) (lit≤ tt), omega arith)) returns (λ c. search needs) (λ c κs. (omega arith, omega arith, side-of 2 (lit≤ tt) (lit≤ tt), omega arith)) returns-2 (λ c. search needs) (λ c κs. (omega arith, omega arith, side-of 3 (lit≤ tt) (lit≤ tt), omega arith)) returns-3
-    (λ c. search needs) (λ c κs. (omega arith, omega arith, side-of 4 (lit≤ tt) (lit≤ tt), omega arith)) returns-4 (λ c. search needs) (λ c κs. search needs) returns-5 (λ c. search needs) (λ c κs. search needs) returns-6 (λ c κs. search needs) returns-7)
+    (λ c. search needs) (λ c κs. (omega arith, omega arith, side-of 4 (lit≤ tt) (lit≤ tt), omega arith)) returns-4 (λ c. search needs) (λ c κs. search needs) returns-5 (λ c κs. search needs) returns-6 spongent-requires returns-7)
