@@ -9,7 +9,5 @@ pub mod BlockRows
 pub mod PartBytes
 pub mod BlockRuns
 pub mod LastBlocks
-pub mod WordSteps
-pub mod ImageRows
 pub mod InsideBlocks
 pub mod Outcomes

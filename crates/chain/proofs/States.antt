@@ -4,41 +4,21 @@ use mathlib.Core.Path.{_≡_, sym, ap, _∙_}
 use mathlib.Core.Bool.{Bool, true}
 use mathlib.Core.List.{List}
 use mathlib.Core.Logic.{_⊎_, inl, inr, ⊎-elim}
-use Prim.Native.Nat.{ℕ, _%_, _≤_, _<_}
+use Prim.Native.Nat.{ℕ, _%_, _<_}
 use native.Mathlib.Omega.{arith}
 use lib.ListN.{length, getD}
-use Rattle.standard.specs.Bits.{Order, low-first, high-first, bitsIn, pack, unpack, xorInto, turned}
-use Rattle.standard.specs.declared.Direction.{Direction}
+use Rattle.standard.specs.Bits.{Order, high-first, bitsIn, xorInto, turned}
 use Rattle.standard.specs.declared.Direction.the-variants.{Backward}
-use Rattle.standard.specs.Spongent.{spongentPermutation}
 use Rattle.standard.specs.Sponge.{permutation}
 use Rattle.standard.specs.Families.{Variant, isSponge, order, stateIn}
 use Rattle.standard.specs.Variants.{variant, known}
 use Rattle.standard.proofs.BitLaws.{length-unpack}
 use Rattle.standard.proofs.Variants.{Bounds, bounds, WholeBytes, layouts, is-sponge}
-use Rattle.spongent.specs.Parameters.{spongentOf}
-use Rattle.spongent.proofs.ParametersOf.{family-of, bits-of}
 use Rattle.standard.specs.Layout.{blockRoom, stateRoom, packedState}
 use Rattle.chain.specs.Holding.{blockIn, Holds, HoldsBlock}
 use Rattle.chain.specs.TakenBack.{permutedState, unstep}
 use Rattle.chain.proofs.TakenBack.{permuted-length}
 use Rattle.bytes.proofs.LayoutLaws.{state-back, taken-bytes}
-
--- ---- SPONGENT
-
-module _ (v : ℕ) (low : 6 ≤ v) (high : v ≤ 10) where
-  pub spongent-ready : (bytes : List ℕ) → Holds v bytes
-      → bytes ≡ pack low-first stateRoom (unpack low-first (spongentOf v .t) bytes)
-  unfolding stateIn
-  spongent-ready bytes e = rw (family-of v low high, bits-of v low high) at e
-
-  pub spongent-state : (bytes r : List ℕ) (w : Direction)
-      → r ≡ pack low-first stateRoom (spongentPermutation (spongentOf v) w (unpack low-first (spongentOf v .t) bytes))
-      → r ≡ packedState (variant v) (permutedState (variant v) w (stateIn (variant v) bytes))
-  unfolding permutedState permutation stateIn
-  spongent-state bytes r w e = rw (family-of v low high, bits-of v low high) e
-
--- ---- by number
 
 module _ (v : ℕ) (k : known v ≡ true) where
   b : Bounds (variant v)

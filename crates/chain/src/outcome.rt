@@ -91,7 +91,7 @@ fn outcome_spread(
     requires { ⌜ (6 ≤ v) × (v ≤ 10) × (p ≤ 2 * length (now held)) × (count ≤ 2 ^ 32) ⌝ }
     ensures { λ r. ⌜ r ≡ outcome (variant v) digest (run (variant v) (stateIn (variant v) s) (firstBlocks (variant v .r) count (heldThen (now (held .entry)) p (now (piece .entry) ++ last ∷ [])))) ⌝ }
 {
-    let mut table = [0u64; 2048];
+    let mut table = [0u64; spongent::words::TABLE_WORDS];
     spongent::words::fill_table(&mut table);
     outcome_with(v, s, held, p, piece, last, count, digest, &table)
 }
@@ -108,8 +108,8 @@ fn outcome_boxes(
     requires { ⌜ (p ≤ 2 * length (now held)) × (count ≤ 2 ^ 32) ⌝ }
     ensures { λ r. ⌜ r ≡ packedState (variant 11) (run (variant 11) (stateIn (variant 11) s) (firstBlocks (variant 11 .r) count (heldThen (now (held .entry)) p (now (piece .entry) ++ last ∷ [])))) ⌝ }
 {
-    let mut table = [0u64; lesamnta::TABLE_WORDS];
-    lesamnta::fill_table(&mut table);
+    let mut table = [0u64; lesamnta::words::TABLE_WORDS];
+    lesamnta::words::fill_table(&mut table);
     let mut w = state::words_of(11, s);
     blocks::run_words(11, &mut w, held, p, piece, last, count, &table);
     state::bytes_of(11, &w)

@@ -8,7 +8,7 @@ ghost use Rattle.standard.specs.Bits.{high-first, bitsIn};
 ghost use Rattle.standard.specs.Families.{isSponge, stateIn};
 ghost use Rattle.standard.specs.Chain.{startState, step};
 ghost use Rattle.standard.specs.Variants.{variant, known};
-ghost use Rattle.standard.specs.ForCode.{direction, outputBits};
+ghost use Rattle.standard.specs.ForCode.{outputBits};
 ghost use Rattle.standard.specs.Layout.{packedState};
 ghost use Rattle.chain.specs.Holding.{Holds};
 ghost use Rattle.chain.specs.TakenBack.{permutedState};
@@ -75,8 +75,8 @@ pub fn words_of(v: u8, s: [u8; STATE_BYTES]) -> [u64; 8]
     let family = sizes::family_of(v);
     match family {
         Family::Photon => photon::words::words_of(v, &s),
-        Family::Spongent => spongent::words::words_of(&s),
-        Family::Lesamnta => lesamnta::words_of(&s),
+        Family::Spongent => spongent::words::words_of(v, &s),
+        Family::Lesamnta => lesamnta::words::words_of(&s),
     }
 }
 
@@ -88,8 +88,8 @@ pub fn bytes_of(v: u8, w: &[u64; 8]) -> [u8; STATE_BYTES]
     let family = sizes::family_of(v);
     match family {
         Family::Photon => photon::words::image(v, w),
-        Family::Spongent => spongent::words::image(w, sizes::image_bytes(v)),
-        Family::Lesamnta => lesamnta::image(*w),
+        Family::Spongent => spongent::words::image(v, w),
+        Family::Lesamnta => lesamnta::words::image(w),
     }
 }
 
@@ -102,7 +102,7 @@ pub fn front_of(v: u8, w: &[u64; 8]) -> [u8; STATE_BYTES]
     let family = sizes::family_of(v);
     match family {
         Family::Photon => photon::words::front(v, w),
-        Family::Spongent => spongent::words::image(w, 2),
+        Family::Spongent => spongent::words::front(v, w),
         Family::Lesamnta => [0u8; STATE_BYTES],
     }
 }
@@ -119,21 +119,8 @@ pub fn step_words(v: u8, w: &mut [u64; 8], bytes: &[u8], m: usize, table: &[u64]
     let family = sizes::family_of(v);
     match family {
         Family::Photon => photon::words::step(v, w, bytes, m, table),
-        Family::Spongent => spongent::words::step(v as usize, w, bytes, m / 2, table),
-        Family::Lesamnta => {
-            let next = lesamnta::stepped(*w, bytes, m / 2, table);
-            *w = next;
-        }
-    }
-}
-
-// The direction as SPONGENT asks for it.
-fn is_backward(way: Direction) -> bool
-    ensures { λ r. ⌜ direction r ≡ way ⌝ }
-{
-    match way {
-        Direction::Forward => false,
-        Direction::Backward => true,
+        Family::Spongent => spongent::words::step(v, w, bytes, m, table),
+        Family::Lesamnta => lesamnta::words::step(w, bytes, m, table),
     }
 }
 
@@ -146,7 +133,7 @@ pub fn permuted(v: u8, s: [u8; STATE_BYTES], way: Direction) -> [u8; STATE_BYTES
     let family = sizes::family_of(v);
     match family {
         Family::Photon => photon::steps::permuted(v, s, way),
-        Family::Spongent => spongent::permuted(v as usize, s, is_backward(way)),
+        Family::Spongent => spongent::steps::permuted(v, s, way),
         Family::Lesamnta => s,
     }
 }

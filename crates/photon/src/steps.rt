@@ -12,7 +12,7 @@ ghost use Rattle.standard.specs.Bits.{high-first, bitsIn, pack};
 ghost use Rattle.standard.specs.ForCode.{cells, window, Small, Modulus};
 ghost use Rattle.standard.specs.Grid.{at};
 ghost use Rattle.standard.specs.Field.{double, dot};
-ghost use Rattle.standard.specs.Photon.{inFirst, addConstants, subCells, shiftRows, mixColumns, unmixColumns};
+ghost use Rattle.standard.specs.Photon.{inFirst, shiftRows, mixColumns, unmixColumns};
 ghost use Rattle.standard.specs.Photon.{photonRound, photonRounds, matrixOf, bitsOfMatrix, photonPermutation};
 ghost use Rattle.standard.specs.Families.{stateIn};
 ghost use Rattle.standard.specs.Variants.{variant};

@@ -1,13 +1,8 @@
 -- `chain::state::words_of` meets its contract: the family of the number does the work. Assumes nothing.
-use mathlib.Core.Path.{_≡_, sym, subst, _∙_}
-use Prim.Native.Nat.{ℕ}
+use mathlib.Core.Path.{_∙_}
 use native.Mathlib.Omega.{arith}
 use borrow.Author.Needs.{needs}
-use Rattle.standard.specs.Families.{stateIn}
-use Rattle.standard.specs.Variants.{variant}
-use Rattle.chain.specs.Words.{stateInWords}
-use Rattle.chain.proofs.FamilyLaws.{numbers-of, photon-holds}
-use Rattle.chain.proofs.WordSteps.{spongent-words, lesamnta-words}
+use Rattle.chain.proofs.FamilyLaws.{numbers-of, photon-holds, spongent-holds, lesamnta-holds}
 use Rattle.chain.proofs.state.words_of.Statement.{statement}
 use Rattle.chain.proofs.state.words_of.Tie as tie
 
@@ -17,6 +12,13 @@ words-of-requires c κs =
     let s = t .before .before .before in
     let n = numbers-of (s .args .v) (s .pre) (t .before .before .family-of .ensures) (t .enum-told .given .1) in
     (n .0, n .1, omega arith)
+
+words-of-requires-2 : tie.Need-words-of-requires-2
+words-of-requires-2 c κs =
+    let t = c .before in
+    let s = t .before .before .before in
+    let n = numbers-of (s .args .v) (s .pre) (t .before .before .family-of .ensures) (t .enum-told2 .given .1) in
+    n
 
 returns : tie.Need-returns
 returns c =
@@ -30,16 +32,16 @@ returns-2 c =
     let t = c .before .before in
     let s = t .before .before .before in
     let n = numbers-of (s .args .v) (s .pre) (t .before .before .family-of .ensures) (t .enum-told2 .given .1) in
-    spongent-words (s .args .v) (n .0) (n .1) (s .args .t2) _ (c .words-of2 .ensures)
+    spongent-holds (s .args .v) (n .0) (n .1) _ ∙ c .words-of2 .ensures
 
 returns-3 : tie.Need-returns-3
 returns-3 c =
     let t = c .before .before in
     let s = t .before .before .before in
-    subst (λ (n : ℕ). stateInWords (variant n) (c .words-of3 .result) ≡ stateIn (variant n) (s .args .t2)) (sym (numbers-of (s .args .v) (s .pre) (t .before .before .family-of .ensures) (t .enum-told3 .given .1)))
-    (lesamnta-words (s .args .t2) _ (c .words-of3 .ensures))
+    let e = numbers-of (s .args .v) (s .pre) (t .before .before .family-of .ensures) (t .enum-told3 .given .1) in
+    rw e (lesamnta-holds _ ∙ c .words-of3 .ensures)
 
 pub words-of-spec : {M : Type 1} → statement M
 words-of-spec =
-    tie.close (tie.spec (λ c κs. search needs) (λ c. search needs) words-of-requires (λ c. search needs) (λ c κs. search needs) (λ c. search needs)
-    (λ c. search needs) (λ c κs. search needs) returns returns-2 returns-3)
+    tie.close (tie.spec (λ c κs. search needs) (λ c. search needs) words-of-requires (λ c. search needs) words-of-requires-2 (λ c. search needs)
+    (λ c κs. search needs) returns returns-2 returns-3)
