@@ -25,9 +25,10 @@ use Rattle.standard.proofs.BitLaws.{length-bitsIn}
 use Rattle.standard.proofs.MatrixLaws.{length-bitsOfMatrix, matrixOf-square, bits-matrix}
 use Rattle.standard.proofs.PhotonLaws.{State}
 use Rattle.photon_tables.specs.Columns.{cellOf, placeIn, placeOf}
+use Rattle.photon_tables.specs.Tables.{Pairs}
 use Rattle.photon_tables.proofs.LookUps.{words-state}
 use Rattle.photon.specs.Parameters.{photonOf}
-use Rattle.photon.specs.Words.{matrixIn, stateOfColumns}
+use Rattle.photon.specs.Words.{matrixIn, stateOfColumns, TableFor}
 use Rattle.photon.proofs.ParametersOf.{photon-variant, sound}
 use Rattle.photon.proofs.WordPlaces.{rising-places, one-to-four, four-bits}
 use Rattle.bytes.specs.Cells.{cellIn}
@@ -93,50 +94,103 @@ module _ (v : ℕ) (low : 1 ≤ v) (high : v ≤ 4) (bytes : List ℕ) (m : ℕ)
   nibbles-stepped q rate room w x y u e =
       block-stepped v low up bytes w x y m (4 * m) q (mul-comm 4 m ∙ ap (λ (s : ℕ). m * s) s4) (rw (← s4) (omega arith)) (rate ∙ mul-comm 4 q ∙ ap (λ (s : ℕ). q * s) s4) u e
 
-  pub one-row : (at odd q : ℕ) → 2 * at + odd ≡ m → q ≤ photonOf v .d → variant v .r ≡ 4 * q → 4 * m + variant v .r ≤ 8 * length bytes → (w x y : List ℕ)
-      → ((j : ℕ) → j < q → getD x j 0 ≡ bitXor (getD w j 0) (cellIn 4 bytes (2 * at + odd + j) * 2 ^ 0))
-      → ((j : ℕ) → q ≤ j → getD x j 0 ≡ getD w j 0)
-      → matrixIn v y ≡ photonRounds (photonOf v) Forward (matrixIn v x)
-      → stateOfColumns (photonOf v) y ≡ step (variant v) (stateOfColumns (photonOf v) w) (take (variant v .r) (drop (4 * m) (bitsIn high-first bytes)))
-  one-row at odd q e hq rate room w x y new old er =
-      let whole : 0 * photonOf v .d + q ≡ q = omega (arith, zero-mul (photonOf v .d)) in
-      nibbles-stepped q rate room w x y (subst (λ (k : ℕ). TakenTo k w x) whole (row-taken at odd q e hq w x new old)) er
+-- ---- a block taken in, as the code does it for each variant
 
--- variant 3: nine cells, seven in row 0 and two in row 1
-pub two-rows : (bytes : List ℕ) (m : ℕ) → 4 * m + 36 ≤ 8 * length bytes → (w x y z : List ℕ)
-    → ((j : ℕ) → j < 7 → getD x j 0 ≡ bitXor (getD w j 0) (cellIn 4 bytes (2 * (m / 2) + m % 2 + j) * 2 ^ 0))
-    → ((j : ℕ) → 7 ≤ j → getD x j 0 ≡ getD w j 0)
-    → ((j : ℕ) → j < 2 → getD y j 0 ≡ bitXor (getD x j 0) (cellIn 4 bytes (2 * (m / 2 + 3) + (m % 2 + 1) + j) * 2 ^ 4))
-    → ((j : ℕ) → 2 ≤ j → getD y j 0 ≡ getD x j 0)
-    → matrixIn 3 z ≡ photonRounds (photonOf 3) Forward (matrixIn 3 y)
-    → stateOfColumns (photonOf 3) z ≡ step (variant 3) (stateOfColumns (photonOf 3) w) (take (variant 3 .r) (drop (4 * m) (bitsIn high-first bytes)))
+-- n cells of s bits, from the cell c of the bytes on, are added to the words w from the bit `bit` on
+abbrev Added : ℕ → List ℕ → ℕ → ℕ → ℕ → List ℕ → List ℕ → Type 0
+Added s bytes c n bit w x =
+    (length x ≡ 8) × ((j : ℕ) → j < n → getD x j 0 ≡ bitXor (getD w j 0) (cellIn s bytes (c + j) * 2 ^ bit)) × ((j : ℕ) → n ≤ j → getD x j 0 ≡ getD w j 0)
+
+-- the rounds of the variant k lead from the words x to y
+abbrev Ran : ℕ → List ℕ → List ℕ → Type 0
+Ran k x y = (length y ≡ 8) × (matrixIn k y ≡ photonRounds (photonOf k) Forward (matrixIn k x))
+
+-- the step of a block from the nibble m of the bytes on leads from the words w to y
+abbrev Stepped : ℕ → List ℕ → ℕ → List ℕ → List ℕ → Type 0
+Stepped v bytes m w y =
+    stateOfColumns (photonOf v) y ≡ step (variant v) (stateOfColumns (photonOf v) w) (take (variant v .r) (drop (4 * m) (bitsIn high-first bytes)))
+
+-- a row of the code: the variant k has d columns of cells of four bits, and blocks of q cells
+pub record Row (k d q : ℕ) : Type 0 where
+  pub low : 1 ≤ k
+  pub high : k ≤ 4
+  pub size : d ≡ photonOf k .d
+  pub rate : variant k .r ≡ 4 * q
+
+pub row1 : Row 1 5 5
 unfolding photonOf variant
-two-rows bytes m room w x y z new old new₂ old₂ er =
-    let low : 1 ≤ 3 = lit≤ tt in
-    let high : 3 ≤ 4 = lit≤ tt in
-    nibbles-stepped 3 low high bytes m 9 refl room w y z
-    (taken-row (placeOf (photonOf 3)) 4 7 (rising-places 3 low (lit≤ tt)) bytes m 1 2 4 (lit≤ tt) (lit≤ tt) refl w x y
-    (row-taken 3 low high bytes m (m / 2) (m % 2) 7 (omega arith) (lit≤ tt) w x new old)
-    (λ j h. new₂ j h ∙ ap (λ (k : ℕ). bitXor (getD x j 0) (cellIn 4 bytes k * 2 ^ 4)) (here j))
-    old₂) er
-  where
-    here : (j : ℕ) → 2 * (m / 2 + 3) + (m % 2 + 1) + j ≡ m + (1 * 7 + j)
-    here j = omega arith
+row1 = record { low = lit≤ tt; high = lit≤ tt; size = refl; rate = refl }
 
--- ---- cells of eight bits
-
-pub one-row8 : (bytes : List ℕ) (m : ℕ) → m % 2 ≡ 0 → 4 * m + 32 ≤ 8 * length bytes → (w x y : List ℕ)
-    → ((j : ℕ) → j < 4 → getD x j 0 ≡ bitXor (getD w j 0) (cellIn 8 bytes (m / 2 + j) * 2 ^ 0))
-    → ((j : ℕ) → 4 ≤ j → getD x j 0 ≡ getD w j 0)
-    → matrixIn 5 y ≡ photonRounds (photonOf 5) Forward (matrixIn 5 x)
-    → stateOfColumns (photonOf 5) y ≡ step (variant 5) (stateOfColumns (photonOf 5) w) (take (variant 5 .r) (drop (4 * m) (bitsIn high-first bytes)))
+pub row2 : Row 2 6 4
 unfolding photonOf variant
-one-row8 bytes m even room w x y new old er =
-    block-stepped 5 (lit≤ tt) (lit≤ tt) bytes w x y (m / 2) (4 * m) 4 (omega arith) room refl
-    (taken-row (placeOf (photonOf 5)) 8 6 (rising-places 5 (lit≤ tt) (lit≤ tt)) bytes (m / 2) 0 4 0 (lit≤ tt) (lit≤ tt) refl w w x
-    (taken-none (placeOf (photonOf 5)) 8 6 bytes (m / 2) w)
-    (λ j h. new j h ∙ ap (λ (k : ℕ). bitXor (getD w j 0) (cellIn 8 bytes (m / 2 + k) * 2 ^ 0)) (sym (zero-add j)))
-    old) er
+row2 = record { low = lit≤ tt; high = lit≤ tt; size = refl; rate = refl }
+
+pub row3 : Row 3 7 9
+unfolding photonOf variant
+row3 = record { low = lit≤ tt; high = lit≤ tt; size = refl; rate = refl }
+
+pub row4 : Row 4 8 8
+unfolding photonOf variant
+row4 = record { low = lit≤ tt; high = lit≤ tt; size = refl; rate = refl }
+
+-- what is asked of the block and of the table for v, said of k
+module _ {k d q : ℕ} (R : Row k d q) {v : ℕ} (is : v ≡ k) where
+  pub row-block : (m n : ℕ) → 4 * m + variant v .r ≤ 8 * n → 4 * m + 4 * q ≤ 8 * n
+  row-block m n room = omega (arith, R .rate, rw is at room)
+
+  pub row-even : (m e : ℕ) → q ≡ 2 * e → (variant v .r % 8 ≡ 0 → m % 2 ≡ 0) → 2 * (m / 2) + 0 ≡ m
+  row-even m e two even =
+      let whole : variant v .r % 8 ≡ 0 = rw is (omega (arith, R .rate)) in
+      omega (arith, even whole)
+
+  pub row-table : (table : List ℕ) (n : ℕ) → TableFor v table → n ≡ 8 → ((n ≡ 8) × (1 ≤ k) × (k ≤ 4) × (d ≡ photonOf k .d)) × Pairs (photonOf k) table
+  row-table table n T len = let four : v ≤ 4 = omega (arith, R .high) in ((len, R .low, R .high, R .size), rw is at (T .pairs four))
+
+  module _ (bytes : List ℕ) (m : ℕ) (room : 4 * m + variant v .r ≤ 8 * length bytes) {w s : List ℕ} (copy : s ≡ w) where
+    cells-stepped : (x y : List ℕ) → TakenTo k (R .low) (R .high) bytes m q s x → Ran k x y → Stepped v bytes m w y
+    cells-stepped x y u run = rw (is, ← copy) (nibbles-stepped k (R .low) (R .high) bytes m q (R .rate) (rw is at room) s x y u (run .1))
+
+    -- a block in row 0
+    pub one-row : (at odd : ℕ) → 2 * at + odd ≡ m → q ≤ d → (x y : List ℕ) → Added 4 bytes (2 * at + odd) q 0 s x → Ran k x y → Stepped v bytes m w y
+    one-row at odd e fits x y added run =
+        let whole : 0 * photonOf k .d + q ≡ q = omega (arith, zero-mul (photonOf k .d)) in
+        cells-stepped x y
+        (subst (λ (n : ℕ). TakenTo k (R .low) (R .high) bytes m n s x) whole
+        (row-taken k (R .low) (R .high) bytes m at odd q e (omega (arith, R .size)) s x (added .1) (added .2))) run
+
+    -- a block that ends in row 1, with n cells there, from the bit `bit` on
+    pub two-rows : (at odd at₂ odd₂ n bit : ℕ) → 2 * at + odd ≡ m → 2 * at₂ + odd₂ ≡ m + d → q ≡ d + n → n ≤ d → 1 < d → bit ≡ placeOf (photonOf k) 1
+        → (x y z : List ℕ) → Added 4 bytes (2 * at + odd) d 0 s x → Added 4 bytes (2 * at₂ + odd₂) n bit x y → Ran k y z → Stepped v bytes m w z
+    two-rows at odd at₂ odd₂ n bit e e₂ eq fits some place x y z added added₂ run =
+        let p = photonOf k in
+        let size : 1 * p .d + n ≡ q = omega (arith, R .size, one-mul (p .d)) in
+        let first : 0 * p .d + d ≡ 1 * p .d = omega (arith, R .size, one-mul (p .d), zero-mul (p .d)) in
+        cells-stepped y z
+        (subst (λ (c : ℕ). TakenTo k (R .low) (R .high) bytes m c s y) size
+        (taken-row (placeOf p) (p .s) (p .d) (rising-places k (R .low) (omega (arith, R .high))) bytes m 1 n bit (omega (arith, R .size)) (omega (arith, R .size)) place s x y
+        (subst (λ (c : ℕ). TakenTo k (R .low) (R .high) bytes m c s x) first (row-taken k (R .low) (R .high) bytes m at odd d e (omega (arith, R .size)) s x (added .1) (added .2)))
+        (λ j h. added₂ .1 j h ∙ ap₂ (λ (c b : ℕ). bitXor (getD x j 0) (cellIn b bytes c * 2 ^ bit)) (here j) (sym (four-bits k (R .low) (R .high))))
+        (added₂ .2))) run
+      where
+        here : (j : ℕ) → 2 * at₂ + odd₂ + j ≡ m + (1 * photonOf k .d + j)
+        here j = omega (arith, R .size, one-mul (photonOf k .d))
+
+-- cells of eight bits: the variant 5, with blocks of four
+pub row8-block : (v m n : ℕ) → v ≡ 5 → 4 * m + variant v .r ≤ 8 * n → (variant v .r % 8 ≡ 0 → m % 2 ≡ 0) → (4 * m + 32 ≤ 8 * n) × (m % 2 ≡ 0)
+unfolding variant
+row8-block v m n is room even = (rw is at room, rw is at even refl)
+
+pub one-row8 : (v : ℕ) → v ≡ 5 → (bytes : List ℕ) (m : ℕ) → 4 * m + variant v .r ≤ 8 * length bytes → (variant v .r % 8 ≡ 0 → m % 2 ≡ 0) → {w s : List ℕ} → s ≡ w → (x y : List ℕ)
+    → Added 8 bytes (m / 2) 4 0 s x → Ran 5 x y → Stepped v bytes m w y
+unfolding photonOf variant
+one-row8 v is bytes m room even {w} {s} copy x y added run =
+    let asked = row8-block v m (length bytes) is room even in
+    rw (is, ← copy)
+    (block-stepped 5 (lit≤ tt) (lit≤ tt) bytes s x y (m / 2) (4 * m) 4 (omega (arith, asked .1)) (asked .0) refl
+    (taken-row (placeOf (photonOf 5)) 8 6 (rising-places 5 (lit≤ tt) (lit≤ tt)) bytes (m / 2) 0 4 0 (lit≤ tt) (lit≤ tt) refl s s x
+    (taken-none (placeOf (photonOf 5)) 8 6 bytes (m / 2) s)
+    (λ j h. added .1 j h ∙ ap (λ (c : ℕ). bitXor (getD s j 0) (cellIn 8 bytes (m / 2 + c) * 2 ^ 0)) (sym (zero-add j)))
+    (added .2)) (run .1))
 
 -- ---- the columns of an image, row by row
 

@@ -125,7 +125,7 @@ fn columns8(s: &[u8]) -> [u64; 8]
 
 // The words that hold the state of the bytes.
 pub fn words_of(v: u8, s: &[u8; STATE_BYTES]) -> [u64; 8]
-    requires { ⌜ (1 ≤ v) × (v ≤ 5) × (length (now s) ≡ stateRoom) ⌝ }
+    requires { ⌜ (1 ≤ v) × (v ≤ 5) ⌝ }
     ensures { λ r. ⌜ stateOfColumns (photonOf v) r ≡ stateIn (variant v) (now (s .entry)) ⌝ }
 {
     if v == 1 {

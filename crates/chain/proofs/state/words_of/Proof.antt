@@ -1,6 +1,5 @@
 -- `chain::state::words_of` meets its contract: the family of the number does the work. Assumes nothing.
 use mathlib.Core.Path.{_∙_}
-use native.Mathlib.Omega.{arith}
 use borrow.Author.Needs.{needs}
 use Rattle.chain.proofs.FamilyLaws.{numbers-of, photon-holds, spongent-holds, lesamnta-holds}
 use Rattle.chain.proofs.state.words_of.Statement.{statement}
@@ -11,7 +10,7 @@ words-of-requires c κs =
     let t = c .before in
     let s = t .before .before .before in
     let n = numbers-of (s .args .v) (s .pre) (t .before .before .family-of .ensures) (t .enum-told .given .1) in
-    (n .0, n .1, omega arith)
+    n
 
 words-of-requires-2 : tie.Need-words-of-requires-2
 words-of-requires-2 c κs =
