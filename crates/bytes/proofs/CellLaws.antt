@@ -1,17 +1,22 @@
 -- The cells of 4 or 8 bits in bytes.
 -- Assumes nothing.
-use mathlib.Core.Path.{_≡_, ap}
+use mathlib.Core.Path.{_≡_, refl, sym, ap}
 use mathlib.Core.Bool.{Bool}
 use mathlib.Core.List.{List, append-assoc}
 use mathlib.Core.Logic.{_⊎_, ⊎-elim}
-use Prim.Native.Nat.{ℕ, _+_, _*_, _/_, _%_, _≤_, _<_}
+use Prim.Native.Nat.{ℕ, _+_, _*_, _/_, _%_, _^_, _≤_, _<_}
+use native.Mathlib.Nat.{min-le-left, lt-of-lt-of-le}
 use native.Mathlib.Omega.{arith}
-use lib.ListN.{length, take, getD, drop-of-length-le}
+use lib.ListN.{length, take, drop, getD, drop-of-length-le, length-take}
+use lib.Pow.{pow-mono}
 use lib.Seq.{take-at, drop-at, drop-drop}
 use Rattle.standard.specs.Bits.{high-first, ordered, bitsOf, valueOf, lowValue, bitsIn}
-use Rattle.standard.proofs.BitLaws.{length-bitsOf, length-bitsIn, bitsIn-drop, valueOf-bitsOf}
+use Rattle.standard.proofs.BitLaws.{length-bitsOf, length-bitsIn, bitsIn-drop, valueOf-bitsOf, valueOf-lt}
+use Rattle.standard.proofs.Tests.{lt-or-le}
+use borrow.Author.Tests.{eq-eqb, ne-eqb}
 use Rattle.standard.proofs.PutBits.{byte-halves}
 use Rattle.bytes.specs.Cells.{cellIn}
+use Rattle.bytes.specs.Nibbles.{nibbleOf}
 use Rattle.standard.proofs.HighBits.{value-mod}
 use Rattle.bytes.proofs.Clear.{first-byte}
 
@@ -44,6 +49,23 @@ module _ (s : List ℕ) (bytes : (i : ℕ) → getD s i 0 < 256) (n : ℕ) where
       rw (e, ← drop-drop, bitsIn-drop, first-byte high-first s k h, byte-halves, append-assoc)
       (rw (drop-at (bitsOf high-first 4 (x / 16)) _ 4 (length-bitsOf high-first 4 _), take-at (bitsOf high-first 4 x) _ 4 (length-bitsOf high-first 4 x), value-mod))
 
+  -- a nibble is a cell of four bits
+  pub nibble-is : n / 2 < length s → nibbleOf (getD s (n / 2) 0) n ≡ cellIn 4 s n
+  nibble-is h =
+      ⊎-elim (λ l. rw (eq-eqb (n % 2) 0 (omega arith)) (sym (cell-even h (omega arith))))
+      (λ l. rw (ne-eqb (n % 2) 0 (λ z. omega arith)) (sym (cell-odd h (omega arith)))) (lt-or-le (n % 2) 1)
+
 -- a width that is not 8 is 4
 pub narrow : (w : ℕ) → (w ≡ 4) ⊎ (w ≡ 8) → (w ≡ 8 → ⊥) → w ≡ 4
 narrow w h n = ⊎-elim (λ e. e) (λ e. absurd (n e)) h
+
+-- a cell, and a nibble of a byte, are below their bound
+pub cell-in-lt : (s : ℕ) (bytes : List ℕ) (n : ℕ) → cellIn s bytes n < 2 ^ s
+unfolding cellIn
+cell-in-lt s bytes n =
+    let piece : List Bool = take s (drop (n * s) (bitsIn high-first bytes)) in
+    lt-of-lt-of-le (valueOf-lt high-first (length piece) piece refl) (pow-mono (rw length-take (min-le-left s _)))
+
+pub nibble-below : (x n : ℕ) → x < 256 → nibbleOf x n < 16
+nibble-below x n h =
+    ⊎-elim (λ l. rw (eq-eqb (n % 2) 0 (omega arith)) (omega arith)) (λ l. rw (ne-eqb (n % 2) 0 (λ z. omega arith)) (omega arith)) (lt-or-le (n % 2) 1)

@@ -1,6 +1,6 @@
 pub mod OwnedHeld
+pub mod FamilyLaws
 pub mod TakenBack
-pub mod MatrixImage
 pub mod States
 pub mod ImageLaws
 pub mod ImageOfState
@@ -10,10 +10,5 @@ pub mod BlockRows
 pub mod MessageLaws
 pub mod BlockRuns
 pub mod LastBlocks
-pub mod WordPlaces
-pub mod CellsOfBytes
-pub mod CellsIntoWords
-pub mod WordSteps
-pub mod ImageRows
 pub mod InsideBlocks
 pub mod Outcomes

@@ -1,90 +1,24 @@
 -- The bytes that hold a state, through the permutation of either family, and the block step.
 -- Assumes nothing.
-use mathlib.Core.Path.{_≡_, refl, sym, ap, _∙_}
+use mathlib.Core.Path.{_≡_, sym, ap, _∙_}
 use mathlib.Core.Bool.{Bool, true}
 use mathlib.Core.List.{List}
 use mathlib.Core.Logic.{_⊎_, inl, inr, ⊎-elim}
-use Prim.Native.Nat.{ℕ, _*_, _%_, _^_, _≤_, _<_}
+use Prim.Native.Nat.{ℕ, _%_, _<_}
 use native.Mathlib.Omega.{arith}
-use lib.Dec.{lit≤}
 use lib.ListN.{length, getD}
-use Rattle.standard.specs.Bits.{Order, low-first, high-first, bitsIn, pack, unpack, xorInto, turned}
-use Rattle.standard.specs.declared.Direction.{Direction}
+use Rattle.standard.specs.Bits.{Order, high-first, bitsIn, xorInto, turned}
 use Rattle.standard.specs.declared.Direction.the-variants.{Backward}
-use Rattle.standard.specs.Grid.{Grid}
-use Rattle.standard.specs.ForCode.{window, Small}
-use Rattle.standard.specs.Photon.{photonRounds, matrixOf, bitsOfMatrix, photonPermutation}
-use Rattle.standard.specs.Spongent.{spongentPermutation}
 use Rattle.standard.specs.Sponge.{permutation}
 use Rattle.standard.specs.Families.{Variant, isSponge, order, stateIn}
 use Rattle.standard.specs.Variants.{variant, known}
-use Rattle.standard.proofs.Tests.{one-to-five}
-use Rattle.standard.proofs.Tab.{small-window}
 use Rattle.standard.proofs.BitLaws.{length-unpack}
-use Rattle.standard.proofs.PhotonLaws.{photonRounds-state}
-use Rattle.standard.proofs.MatrixLaws.{matrixOf-square, matrixOf-small}
 use Rattle.standard.proofs.Variants.{Bounds, bounds, WholeBytes, layouts, is-sponge}
-use Rattle.photon.specs.Parameters.{photonOf}
-use Rattle.photon.proofs.ParametersOf.{photon-variant, sound}
-use Rattle.spongent.specs.Parameters.{spongentOf}
-use Rattle.spongent.proofs.ParametersOf.{family-of, bits-of}
 use Rattle.standard.specs.Layout.{blockRoom, stateRoom, packedState}
 use Rattle.chain.specs.Holding.{blockIn, Holds, HoldsBlock}
 use Rattle.chain.specs.TakenBack.{permutedState, unstep}
 use Rattle.chain.proofs.TakenBack.{permuted-length}
-use Rattle.chain.proofs.MatrixImage.{matrix-front}
 use Rattle.bytes.proofs.LayoutLaws.{state-back, taken-bytes}
-
--- ---- the two families
-
--- a cell of PHOTON has 4 or 8 bits, and the cells are the state
-cell-widths : (v : ℕ) → 1 ≤ v → v ≤ 5 → (photonOf v .s ≡ 4) ⊎ (photonOf v .s ≡ 8)
-unfolding photonOf variant
-cell-widths = one-to-five (λ v. (photonOf v .s ≡ 4) ⊎ (photonOf v .s ≡ 8)) (inl refl) (inl refl) (inl refl) (inl refl) (inr refl)
-
-state-cells : (v : ℕ) → 1 ≤ v → v ≤ 5 → photonOf v .d * photonOf v .d * photonOf v .s ≤ variant v .t
-unfolding photonOf variant
-state-cells = one-to-five (λ v. photonOf v .d * photonOf v .d * photonOf v .s ≤ variant v .t) (lit≤ tt) (lit≤ tt) (lit≤ tt) (lit≤ tt) (lit≤ tt)
-
--- a matrix of d rows and columns of cells of s bits, as tables give the two
-module _ (v : ℕ) (low : 1 ≤ v) (high : v ≤ 5) (d s : ℕ) (ed : d ≡ photonOf v .d) (es : s ≡ photonOf v .s) where
-  pub cell-width : (s ≡ 4) ⊎ (s ≡ 8)
-  cell-width = rw es (cell-widths v low high)
-
-  pub matrix-ready : (bits : List Bool) (g : Grid) → window d g ≡ matrixOf d s bits → Small (photonOf v .d) (2 ^ photonOf v .s) g
-  matrix-ready bits g e = small-window _ _ g (rw (rw (ed, es) at e) (matrixOf-small (photonOf v .d) (photonOf v .s) bits))
-
-  pub rounds-ready : (bits : List Bool) (w : Direction) (g h : Grid) → window d g ≡ matrixOf d s bits
-      → window (photonOf v .d) h ≡ photonRounds (photonOf v) w (window (photonOf v .d) g) → Small d (2 ^ s) h
-  rounds-ready bits w g h eg eh =
-      rw (ed, es)
-      (small-window _ _ h (rw (eh, rw (ed, es) at eg)
-      (photonRounds-state (photonOf v) (sound v low high) w (matrixOf (photonOf v .d) (photonOf v .s) bits)
-      (record { square = matrixOf-square (photonOf v .d) (photonOf v .s) bits; small = matrixOf-small (photonOf v .d) (photonOf v .s) bits }) .small)))
-
-  pub photon-state : (bytes r : List ℕ) (w : Direction) (g h : Grid) → window d g ≡ matrixOf d s (bitsIn high-first bytes)
-      → window (photonOf v .d) h ≡ photonRounds (photonOf v) w (window (photonOf v .d) g) → r ≡ pack high-first stateRoom (bitsOfMatrix s (window d h))
-      → r ≡ packedState (variant v) (permutedState (variant v) w (stateIn (variant v) bytes))
-  unfolding permutedState permutation photonPermutation stateIn unpack
-  photon-state bytes r w g h eg eh er =
-      let front = matrix-front (photonOf v .d) (photonOf v .s) (variant v .t) (bitsIn high-first bytes) (state-cells v low high) in
-      rw (rw (ed, es) at er, eh, rw (ed, es) at eg, ← front, photon-variant v low high)
-
--- ---- SPONGENT
-
-module _ (v : ℕ) (low : 6 ≤ v) (high : v ≤ 10) where
-  pub spongent-ready : (bytes : List ℕ) → Holds v bytes
-      → bytes ≡ pack low-first stateRoom (unpack low-first (spongentOf v .t) bytes)
-  unfolding stateIn
-  spongent-ready bytes e = rw (family-of v low high, bits-of v low high) at e
-
-  pub spongent-state : (bytes r : List ℕ) (w : Direction)
-      → r ≡ pack low-first stateRoom (spongentPermutation (spongentOf v) w (unpack low-first (spongentOf v .t) bytes))
-      → r ≡ packedState (variant v) (permutedState (variant v) w (stateIn (variant v) bytes))
-  unfolding permutedState permutation stateIn
-  spongent-state bytes r w e = rw (family-of v low high, bits-of v low high) e
-
--- ---- by number
 
 module _ (v : ℕ) (k : known v ≡ true) where
   b : Bounds (variant v)

@@ -1,4 +1,5 @@
 -- The definitions that the contracts of this crate cite.
+pub mod Families
 pub mod Holding
 pub mod Blocks
 pub mod Messages

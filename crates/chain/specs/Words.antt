@@ -4,22 +4,17 @@ use mathlib.Core.Path.{_≡_}
 use mathlib.Core.Bool.{Bool}
 use mathlib.Core.List.{List}
 use Prim.Native.Nat.{ℕ, _≤_}
-use lib.ListN.{length}
-use Rattle.standard.specs.Bits.{low-first, unpack}
-use Rattle.standard.specs.Photon.{bitsOfMatrix}
 use Rattle.standard.specs.Spongent.{nibbles}
 use Rattle.standard.specs.Families.{photon, spongent, Family, sponge, lesamnta, Variant}
-use Rattle.photon_tables.specs.Columns.{matrixOfWords, placeOf}
-use Rattle.photon_tables.specs.Tables.{Entries, Pairs}
-use Rattle.photon.specs.Parameters.{photonOf}
-use Rattle.spongent.specs.Words.{bytesIn, LookUps}
-use Rattle.lesamnta.specs.LookUps as boxes
-use Rattle.lesamnta.specs.States.{stateOfFour}
+use Rattle.photon.specs.Words.{stateOfColumns, TableFor}
+use Rattle.spongent.specs.Words.{stateOfBytes, WordTable}
+use Rattle.lesamnta.specs.CipherTables.{CipherTable}
+use Rattle.lesamnta.specs.Words.{stateOfFour}
 
 -- by family: PHOTON's matrix has a column in each word, SPONGENT's bytes stand in order, eight to a word, and Lesamnta-LW's words are its own
 abbrev pub stateOfWords : Family → List ℕ → List Bool
-stateOfWords (sponge (photon p) r′) words = bitsOfMatrix (p .s) (matrixOfWords (placeOf p) p words)
-stateOfWords (sponge (spongent p) r′) words = unpack low-first (p .t) (bytesIn words)
+stateOfWords (sponge (photon p) r′) words = stateOfColumns p words
+stateOfWords (sponge (spongent p) r′) words = stateOfBytes p words
 stateOfWords lesamnta words = stateOfFour words
 
 -- the state of a variant that words hold
@@ -28,7 +23,6 @@ stateInWords H words = stateOfWords (H .family) words
 
 -- the table that the block step of the variant v looks up
 pub record TableOf (v : ℕ) (table : List ℕ) : Type 0 where
-  pub pairs : v ≤ 4 → Pairs (photonOf v) table
-  pub shares : v ≡ 5 → (length table ≡ 1552) × Entries 1552 (photonOf 5) table
-  pub spread : 6 ≤ v → v ≤ 10 → (length table ≡ 2048) × LookUps nibbles table
-  pub boxes : v ≡ 11 → (length table ≡ 320) × boxes.CipherTable 64 table
+  pub photon : v ≤ 5 → TableFor v table
+  pub spread : 6 ≤ v → v ≤ 10 → WordTable nibbles table
+  pub boxes : v ≡ 11 → CipherTable 64 table

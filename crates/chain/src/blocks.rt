@@ -13,7 +13,7 @@ ghost use Rattle.chain.specs.Blocks.{bitsAfter, blockFrom, noneHeld, aft
 ghost use Rattle.chain.specs.Words.{stateInWords, TableOf};
 use crate::sizes;
 use crate::sizes::BLOCK_BYTES;
-use crate::words;
+use crate::state;
 
 // Bits of a message that wait for a block: the first nibbles of the bytes.
 pub struct Held {
@@ -115,11 +115,11 @@ fn step_at(
         ≡ step (variant v) (stateInWords (variant v) (now (w .entry))) (blockFrom held (now (piece .entry) ++ last ∷ []) first q) ⌝ }
 {
     if is_inside(held.nibbles, piece.len(), first, q) {
-        words::step_words(v, w, piece, first - held.nibbles, table);
+        state::step_words(v, w, piece, first - held.nibbles, table);
         return;
     }
     let block = block_at(held, piece, last, first, q);
-    words::step_words(v, w, &block, 0, table);
+    state::step_words(v, w, &block, 0, table);
 }
 
 // The first `count` blocks run through the state of the words.

@@ -13,7 +13,7 @@ ghost use Rattle.chain.specs.TakenBack.{permutedState};
 ghost use Rattle.chain.specs.Images.{isImage, imageStatus, permutedImage};
 use crate::sizes;
 use crate::sizes::STATE_BYTES;
-use crate::step;
+use crate::state;
 use standard::Direction;
 use answers::Refusal;
 use answers::Status;
@@ -46,7 +46,7 @@ fn permute_state(v: u8, image: &mut [u8], way: Direction)
     ensures { λ _. ⌜ now (image .exit) ≡ imageOf (variant v) (permutedState (variant v) way (stateIn (variant v) (now (image .entry)))) ⌝ }
 {
     let s = at_front(image);
-    let r = step::permuted(v, s, way);
+    let r = state::permuted(v, s, way);
     bytes::copies::copy_front(&r, sizes::image_bytes(v), image);
 }
 

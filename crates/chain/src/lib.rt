@@ -1,14 +1,14 @@
-// The variants on bytes: sizes, images, blocks, the block step and the squeezed digest; and the permutation on an image that a caller lends.
+// The chain of every variant on bytes: sizes, states, rows of blocks, padding, messages and the squeezed digest; and the permutation on an image that a
+// caller lends.
 pub mod blocks;
-pub mod padding;
 pub mod images;
-mod matrix;
-pub mod outcome;
 pub mod message;
+pub mod outcome;
+pub mod padding;
+pub mod plain;
 pub mod sizes;
 pub mod squeeze;
-pub mod step;
-pub mod words;
+pub mod state;
 
 pub use images::permute;
 pub use images::unpermute;

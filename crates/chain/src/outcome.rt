@@ -17,7 +17,7 @@ use crate::blocks;
 use crate::blocks::Held;
 use crate::sizes::STATE_BYTES;
 use crate::squeeze;
-use crate::words;
+use crate::state;
 use standard::Wanted;
 
 // Of a sponge, with its table at hand.
@@ -36,11 +36,11 @@ fn outcome_with(
     ensures { λ r. ⌜ r ≡ outcome (variant v) wanted
         (afterBlocks (variant v) (stateIn (variant v) s) held (now (piece .entry) ++ last ∷ []) count) ⌝ }
 {
-    let mut w = words::words_of(v, s);
+    let mut w = state::words_of(v, s);
     blocks::run_words(v, &mut w, held, piece, last, count, table);
     match wanted {
         Wanted::Digest => squeeze::squeezed(v, &mut w, table),
-        Wanted::EndState => words::bytes_of(v, &w),
+        Wanted::EndState => state::bytes_of(v, &w),
     }
 }
 
@@ -60,7 +60,7 @@ fn with_photon4(
     ensures { λ r. ⌜ r ≡ outcome (variant v) wanted
         (afterBlocks (variant v) (stateIn (variant v) s) held (now (piece .entry) ++ last ∷ []) count) ⌝ }
 {
-    let mut table = [0u64; 1040];
+    let mut table = [0u64; photon::words::PAIR_WORDS];
     photon::words::fill_pairs(v as usize, &mut table);
     outcome_with(v, s, held, piece, last, count, wanted, &table)
 }
@@ -95,7 +95,7 @@ fn with_spongent(
     ensures { λ r. ⌜ r ≡ outcome (variant v) wanted
         (afterBlocks (variant v) (stateIn (variant v) s) held (now (piece .entry) ++ last ∷ []) count) ⌝ }
 {
-    let mut table = [0u64; 2048];
+    let mut table = [0u64; spongent::words::TABLE_WORDS];
     spongent::words::fill_table(&mut table);
     outcome_with(v, s, held, piece, last, count, wanted, &table)
 }
@@ -112,11 +112,11 @@ fn with_lesamnta(
     ensures { λ r. ⌜ r ≡ packedState (variant 11)
         (afterBlocks (variant 11) (stateIn (variant 11) s) held (now (piece .entry) ++ last ∷ []) count) ⌝ }
 {
-    let mut table = [0u64; lesamnta::TABLE_WORDS];
-    lesamnta::fill_table(&mut table);
-    let mut w = words::words_of(11, s);
+    let mut table = [0u64; lesamnta::words::TABLE_WORDS];
+    lesamnta::words::fill_table(&mut table);
+    let mut w = state::words_of(11, s);
     blocks::run_words(11, &mut w, held, piece, last, count, &table);
-    words::bytes_of(11, &w)
+    state::bytes_of(11, &w)
 }
 
 // The state after the first `count` blocks, or the digest that it gives.
@@ -153,7 +153,7 @@ pub fn digest_of(v: u8, s: [u8; STATE_BYTES]) -> [u8; STATE_BYTES]
     outcome_after(v, s, Held::none(), b"", 0, 0, Wanted::Digest)
 }
 
-// The permutation of a sponge by look-ups: the step of a block of zeros. It promises what `step::permuted` does by the standard's steps.
+// The permutation of a sponge by look-ups: the step of a block of zeros. It promises what `state::permuted` does by the standard's steps.
 pub fn permuted_by_words(v: u8, s: [u8; STATE_BYTES]) -> [u8; STATE_BYTES]
     requires { ⌜ (known v ≡ true) × (isSponge (variant v) ≡ true) ⌝ }
     ensures { λ r. ⌜ r ≡ packedState (variant v) (permutedState (variant v) Forward (stateIn (variant v) s)) ⌝ }

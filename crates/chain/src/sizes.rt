@@ -3,12 +3,10 @@ ghost use mathlib.Core.Path.{_≡_};
 ghost use mathlib.Core.Bool.{true};
 ghost use Prim.Native.Nat.{_+_, _*_, _/_, _≤_};
 ghost use Rattle.standard.specs.Families.{isSponge, imageSize};
-ghost use Rattle.standard.specs.Chain.{blockCount};
 ghost use Rattle.standard.specs.Variants.{variant, known};
 ghost use Rattle.standard.specs.ForCode.{outputBits};
-ghost use Rattle.answers.specs.Outputs.{maxBits};
 ghost use Rattle.standard.specs.Layout.{stateRoom};
-ghost use Rattle.chain.specs.Padding.{dataBlocks};
+ghost use Rattle.chain.specs.Families.{familyOf};
 
 // Room for the state of every variant, for a block and for a digest.
 pub const STATE_BYTES: usize = 36;
@@ -60,8 +58,29 @@ pub fn is_sponge(v: u8) -> bool
     v <= 10
 }
 
+// The families. What depends on them is in `state`.
+pub enum Family {
+    Photon,
+    Spongent,
+    Lesamnta,
+}
+
+pub fn family_of(v: u8) -> Family
+    requires { ⌜ known v ≡ true ⌝ }
+    ensures { λ r. ⌜ r ≡ familyOf (variant v .family) ⌝ }
+{
+    if v <= 5 {
+        return Family::Photon;
+    }
+    if v <= 10 {
+        return Family::Spongent;
+    }
+    Family::Lesamnta
+}
+
 fn sizes_of(v: u8) -> Sizes
-    ensures { λ r. ⌜ (r .state ≡ variant v .t) × (r .block ≡ variant v .r) × (r .output ≡ outputBits (variant v)) × (r .digest ≡ variant v .n) ⌝ }
+    ensures { λ r. ⌜ (r .state ≡ variant v .t) × (r .block ≡ variant v .r)
+        × (r .output ≡ outputBits (variant v)) × (r .digest ≡ variant v .n) ⌝ }
     ensures { λ r. ⌜ r .state ≤ 8 * stateRoom ⌝ }
 {
     if 11 < v {
@@ -106,7 +125,7 @@ pub fn digest_bytes(v: u8) -> usize
     sizes_of(v).digest as usize / 8
 }
 
-// The half bytes that an output block gives.
+// The nibbles that an output block gives.
 pub fn output_nibbles(v: u8) -> usize
     ensures { λ r. ⌜ r ≡ outputBits (variant v) / 4 ⌝ }
 {

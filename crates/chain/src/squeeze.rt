@@ -18,7 +18,7 @@ ghost use Rattle.chain.specs.Words.{stateInWords, TableOf};
 use crate::sizes;
 use crate::sizes::BLOCK_BYTES;
 use crate::sizes::STATE_BYTES;
-use crate::words;
+use crate::state;
 
 // The first q half bytes of s behind the first p half bytes.
 fn put_front(out: &mut [u8], p: usize, s: &[u8], q: usize)
@@ -48,12 +48,12 @@ pub fn squeezed(v: u8, w: &mut [u64; 8], table: &[u64]) -> [u8; STATE_BYTES]
     let mut out = [0u8; STATE_BYTES];
     let mut p: usize = 0;
     while p + q < n {
-        let s = words::front_of(v, w);
+        let s = state::front_of(v, w);
         put_front(&mut out, p, &s, q);
-        words::step_words(v, w, &none, 0, table);
+        state::step_words(v, w, &none, 0, table);
         p += q;
     }
-    let s = words::front_of(v, w);
+    let s = state::front_of(v, w);
     put_front(&mut out, p, &s, n - p);
     out
 }

@@ -29,7 +29,7 @@ use chain::message::Ending;
 use chain::outcome;
 use chain::padding;
 use chain::sizes;
-use chain::step;
+use chain::state;
 
 fn fresh(v: u8) -> Hasher
     requires { ⌜ known v ≡ true ⌝ }
@@ -39,7 +39,7 @@ fn fresh(v: u8) -> Hasher
         total: 0,
         variant: v,
         stage: 0,
-        state: step::start(v),
+        state: state::start(v),
         held: [0u8; BLOCK_BYTES],
     }
 }

@@ -21,7 +21,7 @@ use chain::message::Ending;
 use chain::outcome;
 use chain::padding;
 use chain::sizes;
-use chain::step;
+use chain::state;
 use standard::Wanted;
 
 // What is wanted of a message's end state, at the front of bytes that have room for either. The message is the first `bits` bits of `front` and the
@@ -34,7 +34,7 @@ fn end_of(v: u8, front: &[u8], last: u8, bits: usize, wanted: Wanted) -> [u8; ST
         ≡ resultOf (variant v) wanted (endState (variant v) (messageIn (now (front .entry)) last bits)) ⌝ }
 {
     let count = padding::data_blocks(v, bits);
-    let start = step::start(v);
+    let start = state::start(v);
     if sizes::is_sponge(v) {
         return outcome::outcome_after(v, start, Held::none(), front, last, count, wanted);
     }

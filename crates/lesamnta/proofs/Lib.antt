@@ -1,4 +1,4 @@
-pub mod LookUpLaws
+pub mod CipherTableLaws
 pub mod RoundLaws
 pub mod WordLaws
 pub mod StepLaws

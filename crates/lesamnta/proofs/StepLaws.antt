@@ -3,19 +3,22 @@
 use mathlib.Core.Path.{_≡_, refl, sym, ap, ap₂, _∙_}
 use mathlib.Core.Bool.{Bool}
 use mathlib.Core.List.{List, [], _∷_, _++_, flatMap, append-assoc}
-use Prim.Native.Nat.{ℕ, _+_, _*_, _^_, _≤_, _<_}
+use Prim.Native.Nat.{ℕ, _+_, _*_, _/_, _%_, _^_, _≤_, _<_}
 use native.Mathlib.Omega.{arith}
 use lib.ListN.{length, getD, take, drop, length-append, length-drop}
 use lib.Seq.{take-at, take-all, drop-at, drop-drop, length-take-le}
-use Rattle.standard.specs.Bits.{high-first, bitsOf, valueOf}
+use Rattle.standard.specs.Bits.{high-first, bitsOf, valueOf, bitsIn}
+use Rattle.standard.specs.Grid.{tab}
 use Rattle.standard.specs.Rounds.{rounds}
 use Rattle.standard.specs.declared.Direction.{Direction}
 use Rattle.standard.specs.declared.Direction.the-variants.{Forward}
 use Rattle.standard.specs.Lesamnta.{fourWords, bitsOfWords, mixing, roundKeys, cipherConstants, cipher, lesamntaStep}
+use Rattle.standard.specs.Chain.{step}
+use Rattle.standard.specs.Variants.{variant}
 use Rattle.standard.proofs.BitLaws.{length-bitsOf, valueOf-lt}
 use Rattle.standard.proofs.CutLaws.{take-drop-take}
-use Rattle.standard.proofs.LesamntaLaws.{Four, words-bits}
-use Rattle.lesamnta.specs.States.{stateOfFour}
+use Rattle.standard.proofs.LesamntaLaws.{Four, words-bits, bits-length}
+use Rattle.lesamnta.specs.Words.{stateOfFour}
 use Rattle.lesamnta.proofs.WordLaws.{two-words}
 
 -- the halves of a state in words
@@ -76,6 +79,24 @@ module _ (bits : List Bool) (at a b : ℕ) (room : 8 * at + 128 ≤ length bits)
       ap (bitsOfWords 64)
       (er
       ∙ ap₂ (λ (k x : List ℕ). rounds mixing Forward (roundKeys cipherConstants k) x) (ek ∙ ap (fourWords 32) (sym (first-half w))) (step-words w small))
+
+-- of a block from the nibble m on
+pub block-room : (m size : ℕ) → 4 * m + variant 11 .r ≤ 8 * size → m / 2 + 16 ≤ size
+unfolding variant
+block-room m size room = omega arith
+
+pub block-stepped : (bytes : List ℕ) (m : ℕ) → (variant 11 .r % 8 ≡ 0 → m % 2 ≡ 0) → (w y : List ℕ)
+    → stateOfFour y ≡ lesamntaStep (stateOfFour w) (take 128 (drop (8 * (m / 2)) (bitsIn high-first bytes)))
+    → stateOfFour y ≡ step (variant 11) (stateOfFour w) (take (variant 11 .r) (drop (4 * m) (bitsIn high-first bytes)))
+unfolding step variant
+block-stepped bytes m even w y e =
+    let place : 8 * (m / 2) ≡ 4 * m = omega (arith, even refl) in
+    e ∙ ap (λ (n : ℕ). lesamntaStep (stateOfFour w) (take 128 (drop n (bitsIn high-first bytes)))) place
+
+-- words hold as many bits as the state has
+pub state-length : (w : List ℕ) → length (stateOfFour w) ≡ variant 11 .t
+unfolding stateOfFour variant
+state-length w = bits-length 64 (tab 4 (λ i. getD w i 0))
 
 -- the cipher, in either direction
 pub cipher-is : (d : Direction) (key state : List Bool) (k x r : List ℕ) → k ≡ fourWords 32 key → x ≡ fourWords 64 state → r ≡ rounds mixing d (roundKeys cipherConstants k) x

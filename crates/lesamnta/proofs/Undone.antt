@@ -3,17 +3,16 @@
 use mathlib.Core.Path.{_≡_, sym, ap, _∙_}
 use mathlib.Core.Bool.{Bool, false}
 use mathlib.Core.List.{List, _++_, append-nil}
-use Prim.Native.Nat.{ℕ, _-_, _<_}
+use Prim.Native.Nat.{ℕ, _-_}
 use native.Mathlib.Omega.{arith}
-use lib.ListN.{length, getD, replicate}
+use lib.ListN.{length, replicate}
 use Rattle.standard.specs.Bits.{high-first, bitsIn, filled, pack}
 use Rattle.standard.specs.Rounds.{opposite}
-use Rattle.standard.specs.declared.Direction.{Direction}
 use Rattle.standard.specs.Lesamnta.{cipher}
 use Rattle.standard.proofs.BitLaws.{length-bitsIn, bitsIn-pack, pack-bitsIn, filled-short}
 use Rattle.standard.proofs.LesamntaLaws.{cipher-length, cipher-undo}
 use Rattle.lesamnta.specs.Promises.{CipheredBack}
-use Rattle.lesamnta.specs.Words.{ciphered}
+use Rattle.lesamnta.specs.Cipher.{ciphered}
 
 -- bits that are as many as are asked for
 whole : (n : ℕ) (bs : List Bool) → length bs ≡ n → filled n bs ≡ bs

@@ -1,5 +1,5 @@
 -- The definitions that the contracts of this crate cite, beside those of the standard.
-pub mod LookUps
-pub mod States
+pub mod Cipher
+pub mod CipherTables
 pub mod Words
 pub mod Promises

@@ -5,7 +5,7 @@ use Prim.Native.Nat.{ℕ, _<_}
 use lib.ListN.{length, getD}
 use Rattle.standard.specs.Rounds.{opposite}
 use Rattle.standard.specs.declared.Direction.{Direction}
-use Rattle.lesamnta.specs.Words.{ciphered}
+use Rattle.lesamnta.specs.Cipher.{ciphered}
 
 -- Document 02, Q-7: under every key, what one of the two calls makes of 32 bytes the other takes back.
 abbrev pub CipheredBack : Type 0

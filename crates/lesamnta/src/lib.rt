@@ -1,306 +1,41 @@
-// Lesamnta-LW (6.2): its block cipher, the cipher's inverse under a key, and the step of its chain, by look-ups.
+// Lesamnta-LW (6.2), the variant 11: its block cipher, and the cipher's inverse under a key, by value. `words` has the
+// rounds by look-ups and the block step, for hashing.
 ghost use mathlib.Core.Path.{_≡_};
-ghost use mathlib.Core.List.{_++_};
-ghost use Prim.Native.Nat.{_+_, _*_, _/_, _^_, _≤_, _<_};
-ghost use lib.ListN.{length, take, drop, replicate};
-ghost use Rattle.standard.specs.Bits.{high-first, bitsOf, valueOf, bitsIn, pack};
-ghost use Rattle.standard.specs.Rounds.{rounds};
+ghost use Prim.Native.Nat.{_≤_};
+ghost use lib.ListN.{length, take};
+ghost use Rattle.standard.specs.Bits.{high-first, bitsIn, pack};
 ghost use Rattle.standard.specs.declared.Direction.the-variants.{Forward, Backward};
-ghost use Rattle.standard.specs.Lesamnta.{bytesOf, wordOf, fourWords, bitsOfWords, wordQ, bytesR, wordG, mixing, scheduled, roundKeys, cipherConstants, cipher, lesamntaStep};
-ghost use Rattle.lesamnta.specs.LookUps.{BoxTable, ConstantTable, CipherTable};
-ghost use Rattle.lesamnta.specs.Words.{ciphered};
-ghost use Rattle.lesamnta.specs.States.{stateOfFour};
+ghost use Rattle.standard.specs.Lesamnta.{cipher};
+ghost use Rattle.lesamnta.specs.Cipher.{ciphered};
 
-mod tables; // tables.rt: S-box and MixColumns in one, and the constants
-
-use tables::BOXES;
-use tables::CONSTANTS;
-
-// The words of the table that the rounds look up: 256 for bytes, and a constant for each of 64 rounds.
-pub const TABLE_WORDS: usize = 320;
-
-// ---- the table
-
-fn wide(x: u32) -> u64
-    ensures { λ r. ⌜ (r ≡ x) × (r < 2 ^ 32) ⌝ }
-{
-    x as u64
-}
-
-// An entry twice in a word, so that a turn by whole bytes is a shift.
-fn put_boxes(out: &mut [u64], boxes: &[u32; 256])
-    requires { ⌜ (length (now out) ≡ 320) × BoxTable (now boxes) ⌝ }
-    ensures { λ _. ⌜ (length (now (out .exit)) ≡ 320) × CipherTable 0 (now (out .exit)) ⌝ }
-{
-    let mut i: usize = 0;
-    while i < 256 {
-        out[i] = wide(boxes[i]) * 0x100000001;
-        i += 1;
-    }
-}
-
-fn put_constants(out: &mut [u64], constants: &[u32; 64])
-    requires { ⌜ (length (now out) ≡ 320) × CipherTable 0 (now out) × ConstantTable (now constants) ⌝ }
-    ensures { λ _. ⌜ (length (now (out .exit)) ≡ 320) × CipherTable 64 (now (out .exit)) ⌝ }
-{
-    let mut r: usize = 0;
-    while r < 64 {
-        out[256 + r] = wide(constants[r]);
-        r += 1;
-    }
-}
-
-// The table for the rounds. A caller makes it once for a message.
-pub fn fill_table(out: &mut [u64])
-    requires { ⌜ length (now out) ≡ 320 ⌝ }
-    ensures { λ _. ⌜ (length (now (out .exit)) ≡ 320) × CipherTable 64 (now (out .exit)) ⌝ }
-{
-    put_boxes(out, &BOXES);
-    put_constants(out, &CONSTANTS);
-}
-
-// ---- the round function
-
-// Q, of the lower half of a word: what each of its four bytes gives.
-pub fn word_q(x: u64, table: &[u64]) -> u64
-    requires { ⌜ (length (now table) ≡ 320) × CipherTable 64 (now table) ⌝ }
-    ensures { λ r. ⌜ (r ≡ wordQ x) × (r < 2 ^ 32) ⌝ }
-{
-    let first = table[((x >> 24) % 256) as usize];
-    let second = table[((x >> 16) % 256) as usize] >> 8;
-    let third = table[((x >> 8) % 256) as usize] >> 16;
-    let fourth = table[(x % 256) as usize] >> 24;
-    (first ^ second ^ third ^ fourth) % 0x100000000
-}
-
-// R, of two words of 32 bits: their upper halves change places.
-fn joined(a: u64, b: u64) -> u64
-    requires { ⌜ (a < 2 ^ 32) × (b < 2 ^ 32) ⌝ }
-    ensures { λ r. ⌜ r ≡ wordOf (bytesR (bytesOf 4 a ++ bytesOf 4 b)) ⌝ }
-{
-    let upper = b - b % 0x10000 + a % 0x10000;
-    let lower = a - a % 0x10000 + b % 0x10000;
-    upper * 0x100000000 + lower
-}
-
-pub fn word_g(y: u64, key: u64, table: &[u64]) -> u64
-    requires { ⌜ (length (now table) ≡ 320) × CipherTable 64 (now table) ⌝ }
-    ensures { λ r. ⌜ r ≡ wordG y key ⌝ }
-{
-    joined(word_q((y >> 32) ^ key, table), word_q(y, table))
-}
-
-// ---- a round
-
-// A round of the cipher with its round key.
-fn mixed(x: [u64; 4], key: u64, table: &[u64]) -> [u64; 4]
-    requires { ⌜ (length (now table) ≡ 320) × CipherTable 64 (now table) ⌝ }
-    ensures { λ r. ⌜ r ≡ mixing Forward x key ⌝ }
-{
-    [x[3] ^ word_g(x[2], key, table), x[0], x[1], x[2]]
-}
-
-// That round taken back.
-fn unmixed(x: [u64; 4], key: u64, table: &[u64]) -> [u64; 4]
-    requires { ⌜ (length (now table) ≡ 320) × CipherTable 64 (now table) ⌝ }
-    ensures { λ r. ⌜ r ≡ mixing Backward x key ⌝ }
-{
-    [x[1], x[2], x[3], x[0] ^ word_g(x[3], key, table)]
-}
-
-// The key state after a round with its constant.
-fn scheduled(key: [u64; 4], constant: u64, table: &[u64]) -> [u64; 4]
-    requires { ⌜ (length (now table) ≡ 320) × CipherTable 64 (now table) ⌝ }
-    ensures { λ r. ⌜ r ≡ scheduled key constant ⌝ }
-{
-    [
-        key[3] ^ word_q(constant ^ key[2], table),
-        key[0],
-        key[1],
-        key[2],
-    ]
-}
-
-// ---- the rounds
-
-// All rounds, each with its round key as the schedule comes to it.
-fn enciphered(x: [u64; 4], key: [u64; 4], table: &[u64]) -> [u64; 4]
-    requires { ⌜ (length (now table) ≡ 320) × CipherTable 64 (now table) ⌝ }
-    ensures { λ r. ⌜ r ≡ rounds mixing Forward (roundKeys cipherConstants key) x ⌝ }
-{
-    let mut words = x;
-    let mut schedule = key;
-    let mut r: usize = 0;
-    while r < 64 {
-        let next_words = mixed(words, schedule[0], table);
-        let next_schedule = scheduled(schedule, table[256 + r], table);
-        words = next_words;
-        schedule = next_schedule;
-        r += 1;
-    }
-    words
-}
-
-// The round keys, which the inverse needs from the last on.
-fn round_keys(key: [u64; 4], table: &[u64]) -> [u64; 64]
-    requires { ⌜ (length (now table) ≡ 320) × CipherTable 64 (now table) ⌝ }
-    ensures { λ r. ⌜ r ≡ roundKeys cipherConstants key ⌝ }
-{
-    let mut out = [0u64; 64];
-    let mut schedule = key;
-    let mut r: usize = 0;
-    while r < 64 {
-        out[r] = schedule[0];
-        let next_schedule = scheduled(schedule, table[256 + r], table);
-        schedule = next_schedule;
-        r += 1;
-    }
-    out
-}
-
-// All rounds taken back, the last first.
-fn deciphered(x: [u64; 4], keys: [u64; 64], table: &[u64]) -> [u64; 4]
-    requires { ⌜ (length (now table) ≡ 320) × CipherTable 64 (now table) ⌝ }
-    ensures { λ r. ⌜ r ≡ rounds mixing Backward keys x ⌝ }
-{
-    let mut words = x;
-    let mut i: usize = 0;
-    while i < 64 {
-        let before = unmixed(words, keys[63 - i], table);
-        words = before;
-        i += 1;
-    }
-    words
-}
-
-// ---- words and bytes
-
-fn byte(x: u8) -> u64
-    ensures { λ r. ⌜ (r ≡ x) × (r < 256) ⌝ }
-{
-    x as u64
-}
-
-// The word of four bytes, the first the highest.
-fn half_at(bytes: &[u8], at: usize) -> u64
-    requires { ⌜ at + 4 ≤ length (now bytes) ⌝ }
-    ensures { λ r. ⌜ (r ≡ valueOf high-first (take 32 (drop (8 * at) (bitsIn high-first (now (bytes .entry)))))) × (r < 2 ^ 32) ⌝ }
-{
-    let first = byte(bytes[at]);
-    let second = byte(bytes[at + 1]);
-    let third = byte(bytes[at + 2]);
-    let fourth = byte(bytes[at + 3]);
-    ((first * 256 + second) * 256 + third) * 256 + fourth
-}
-
-// The word of eight bytes.
-fn word_at(bytes: &[u8], at: usize) -> u64
-    requires { ⌜ at + 8 ≤ length (now bytes) ⌝ }
-    ensures { λ r. ⌜ r ≡ valueOf high-first (take 64 (drop (8 * at) (bitsIn high-first (now (bytes .entry))))) ⌝ }
-{
-    half_at(bytes, at) * 0x100000000 + half_at(bytes, at + 4)
-}
-
-// Two words as four of half the size.
-fn halves(a: u64, b: u64) -> [u64; 4]
-    ensures { λ r. ⌜ r ≡ fourWords 32 (bitsOf high-first 64 a ++ bitsOf high-first 64 b) ⌝ }
-{
-    [a >> 32, a % 0x100000000, b >> 32, b % 0x100000000]
-}
-
-// The words of the state at the front of bytes.
-fn state_words(bytes: &[u8]) -> [u64; 4]
-    requires { ⌜ 32 ≤ length (now bytes) ⌝ }
-    ensures { λ r. ⌜ r ≡ fourWords 64 (bitsIn high-first (now (bytes .entry))) ⌝ }
-{
-    [
-        word_at(bytes, 0),
-        word_at(bytes, 8),
-        word_at(bytes, 16),
-        word_at(bytes, 24),
-    ]
-}
-
-// The bytes of a state over the front of others.
-fn put_state(out: &mut [u8], x: [u64; 4])
-    requires { ⌜ 32 ≤ length (now out) ⌝ }
-    ensures { λ _. ⌜ now (out .exit) ≡ pack high-first 32 (bitsOfWords 64 x) ++ drop 32 (now (out .entry)) ⌝ }
-{
-    let mut i: usize = 0;
-    while i < 32 {
-        out[i] = ((x[i / 8] >> (56 - 8 * (i % 8))) % 256) as u8;
-        i += 1;
-    }
-}
-
-// Eight words that hold the state at the front of bytes.
-pub fn words_of(bytes: &[u8]) -> [u64; 8]
-    requires { ⌜ 32 ≤ length (now bytes) ⌝ }
-    ensures { λ r. ⌜ stateOfFour r ≡ take 256 (bitsIn high-first (now (bytes .entry))) ⌝ }
-{
-    let x = state_words(bytes);
-    [x[0], x[1], x[2], x[3], 0, 0, 0, 0]
-}
-
-// The state of eight words in bytes, with zeros behind it.
-pub fn image(w: [u64; 8]) -> [u8; 36]
-    ensures { λ r. ⌜ r ≡ pack high-first 36 (stateOfFour w) ⌝ }
-{
-    let mut out = [0u8; 36];
-    put_state(&mut out, [w[0], w[1], w[2], w[3]]);
-    out
-}
-
-// ---- the chain's step
-
-// The state after a block, 16 bytes from `at` on: the state's first half is the key, the block and the second half what is enciphered.
-pub fn stepped(w: [u64; 8], bytes: &[u8], at: usize, table: &[u64]) -> [u64; 8]
-    requires { ⌜ at + 16 ≤ length (now bytes) ⌝ }
-    requires { ⌜ (length (now table) ≡ 320) × CipherTable 64 (now table) ⌝ }
-    ensures { λ r. ⌜ stateOfFour r ≡ lesamntaStep (stateOfFour w) (take 128 (drop (8 * at) (bitsIn high-first (now (bytes .entry))))) ⌝ }
-{
-    let key = halves(w[0], w[1]);
-    let x = enciphered(
-        [word_at(bytes, at), word_at(bytes, at + 8), w[2], w[3]],
-        key,
-        table,
-    );
-    [x[0], x[1], x[2], x[3], 0, 0, 0, 0]
-}
-
-// ---- the cipher
-
-// The words of the key at the front of bytes.
-fn key_words(key: &[u8]) -> [u64; 4]
-    requires { ⌜ 16 ≤ length (now key) ⌝ }
-    ensures { λ r. ⌜ r ≡ fourWords 32 (bitsIn high-first (now (key .entry))) ⌝ }
-{
-    halves(word_at(key, 0), word_at(key, 8))
-}
+mod tables; // S-box and MixColumns in one, and the constants
+pub mod words;
 
 // A state enciphered under a key. Every key and every state will do.
 pub fn encrypt(key: [u8; 16], state: [u8; 32]) -> [u8; 32]
     ensures { λ r. ⌜ r ≡ ciphered Forward key state ⌝ }
 {
-    let mut table = [0u64; TABLE_WORDS];
-    fill_table(&mut table);
-    let x = enciphered(state_words(&state), key_words(&key), &table);
+    let mut table = [0u64; words::TABLE_WORDS];
+    words::fill_table(&mut table);
+    let x = words::enciphered(words::state_words(&state), words::key_words(&key), &table);
     let mut out = [0u8; 32];
-    put_state(&mut out, x);
+    words::put_state(&mut out, x);
     out
 }
 
 // What was enciphered under the key at the front of bytes to the state at the front of others.
 pub fn decrypt_front(key: &[u8], state: &[u8]) -> [u8; 32]
     requires { ⌜ (16 ≤ length (now key)) × (32 ≤ length (now state)) ⌝ }
-    ensures { λ r. ⌜ r ≡ pack high-first 32 (cipher Backward (take 128 (bitsIn high-first (now (key .entry)))) (take 256 (bitsIn high-first (now (state .entry))))) ⌝ }
+    ensures { λ r. ⌜ r
+        ≡ pack high-first 32 (cipher Backward (take 128 (bitsIn high-first (now (key .entry))))
+        (take 256 (bitsIn high-first (now (state .entry))))) ⌝ }
 {
-    let mut table = [0u64; TABLE_WORDS];
-    fill_table(&mut table);
-    let keys = round_keys(key_words(key), &table);
-    let x = deciphered(state_words(state), keys, &table);
+    let mut table = [0u64; words::TABLE_WORDS];
+    words::fill_table(&mut table);
+    let keys = words::round_keys(words::key_words(key), &table);
+    let x = words::deciphered(words::state_words(state), keys, &table);
     let mut out = [0u8; 32];
-    put_state(&mut out, x);
+    words::put_state(&mut out, x);
     out
 }
 

@@ -9,3 +9,9 @@ pub mod FilledFrom
 pub mod WordPlaces
 pub mod WordRounds
 pub mod PairTables
+pub mod CellsOfBytes
+pub mod CellsIntoWords
+pub mod MatrixImage
+pub mod MatrixStates
+pub mod ImageRows
+pub mod WordSteps

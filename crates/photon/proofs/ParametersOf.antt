@@ -1,7 +1,6 @@
 -- The parameters by a variant's number are those of the table of variants, they are sound, and the code's tables hold them.
 -- Assumes nothing.
 use mathlib.Core.Path.{_≡_, refl}
-use mathlib.Core.Bool.{Bool, cond}
 use mathlib.Core.List.{List, [], _∷_, map}
 use Prim.Native.Nat.{ℕ, _+_, _-_, _≤_}
 use native.Mathlib.Omega.{arith}
@@ -60,11 +59,11 @@ ic-of = one-to-five (λ v. cells (photonOf v .d) (getD (map (λ p. cells 8 (p .i
 
 -- ---- the S-box of the variants before the fifth, and its inverse
 
-pub present-of : (v : ℕ) → 1 ≤ v → v ≤ 4 → (back : Bool) → cond back (photonOf v .unbox) (photonOf v .box) ≡ cond back unpresent present
+pub present-of : (v : ℕ) → 1 ≤ v → v ≤ 4 → (photonOf v .box ≡ present) × (photonOf v .unbox ≡ unpresent)
 unfolding photonOf variant
-present-of v l u back =
-    one-to-five (λ k. k ≤ 4 → cond back (photonOf k .unbox) (photonOf k .box) ≡ cond back unpresent present)
-    (λ h. refl) (λ h. refl) (λ h. refl) (λ h. refl) (λ h. absurd (omega arith)) v l (omega arith) u
+present-of v l u =
+    one-to-five (λ k. k ≤ 4 → (photonOf k .box ≡ present) × (photonOf k .unbox ≡ unpresent))
+    (λ h. (refl, refl)) (λ h. (refl, refl)) (λ h. (refl, refl)) (λ h. (refl, refl)) (λ h. absurd (omega arith)) v l (omega arith) u
 
 -- ---- the numbers of each call of the mixing
 

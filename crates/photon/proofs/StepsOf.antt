@@ -1,10 +1,10 @@
 -- The steps of a variant as the code makes them, with its size, tables and coefficients looked up; and what each asks of the state.
 -- Assumes nothing.
 use mathlib.Core.Path.{_≡_, refl, _∙_}
-use mathlib.Core.Bool.{Bool, cond}
 use mathlib.Core.List.{List, [], reverse}
 use Prim.Native.Nat.{ℕ, _-_, _^_, _≤_, _<_}
 use native.Mathlib.Omega.{arith}
+use Rattle.standard.specs.declared.Direction.{Direction}
 use Rattle.standard.specs.ForCode.{Modulus, cells, window, Square, Small}
 use Rattle.standard.specs.Grid.{Grid, at}
 use Rattle.standard.specs.Photon.{PhotonParameters, inFirst, addConstants, subCells, shiftRows, mixColumns}
@@ -12,6 +12,7 @@ use lib.Bits.{bitXor}
 use lib.Pow.{pow-mono}
 use Rattle.standard.proofs.Tab.{getD-tab, getD-reverse, at-window, window-is, window-square, window-small, small-window}
 use Rattle.standard.proofs.PhotonLaws.{Sound}
+use Rattle.photon.specs.Parameters.{shiftFactor}
 use Rattle.photon.specs.Rows.{lanes, Mixing, NoneFrom}
 use lib.ListN.{getD, length}
 
@@ -41,9 +42,9 @@ module _ (p : PhotonParameters) (h : Fits p) (g r : Grid) where
       window-is (p .d) r _ (λ i j hi hj. rw (at-window (p .d) g i j hi hj) (f i j (omega (arith, h .most)) (omega (arith, h .most)) ∙ e (at g i j)))
 
 module _ {n d : ℕ} (e : n ≡ d) (g r : Grid) where
-  pub shift-at : (back : Bool) → window n r ≡ shiftRows n (cond back (n - 1) 1) (window n g)
-      → window d r ≡ shiftRows d (cond back (d - 1) 1) (window d g)
-  shift-at back f = rw (← e) f
+  pub shift-at : (w : Direction) → window n r ≡ shiftRows n (shiftFactor n w) (window n g)
+      → window d r ≡ shiftRows d (shiftFactor d w) (window d g)
+  shift-at w f = rw (← e) f
 
   pub flip-at : window n r ≡ reverse (window n g) → window d r ≡ reverse (window d g)
   flip-at f = rw (← e) f

@@ -1,7 +1,9 @@
 -- For the code: the parameters of PHOTON by a variant's number.
 -- Assumes nothing.
-use mathlib.Core.List.{[]}
-use Prim.Native.Nat.{ℕ}
+use mathlib.Core.List.{List, []}
+use Prim.Native.Nat.{ℕ, _-_}
+use Rattle.standard.specs.declared.Direction.{Direction}
+use Rattle.standard.specs.declared.Direction.the-variants.{Forward, Backward}
 use Rattle.standard.specs.Photon.{PhotonParameters}
 use Rattle.standard.specs.Families.{photon, spongent, Family, sponge, lesamnta}
 use Rattle.standard.specs.Variants.{variant}
@@ -18,3 +20,20 @@ photonIn lesamnta = noParameters
 -- the parameters of the variant v, 1 to 5
 unfoldable pub photonOf : ℕ → PhotonParameters
 photonOf v = photonIn (variant v .family)
+
+-- ---- what a direction takes of them
+
+-- 5.2.4.3: the S-box, or its inverse
+abbrev pub boxOf : PhotonParameters → Direction → List ℕ
+boxOf p Forward = p .box
+boxOf p Backward = p .unbox
+
+-- 5.2.4.4: the factor of ShiftRows
+abbrev pub shiftFactor : ℕ → Direction → ℕ
+shiftFactor d Forward = 1
+shiftFactor d Backward = d - 1
+
+-- and by how many places row i of d cells rotates left
+abbrev pub rotation : ℕ → Direction → ℕ → ℕ
+rotation d Forward i = i
+rotation d Backward i = d - i

@@ -1,4 +1,4 @@
--- For the code: rows of eight cells, each held in one number of eight bytes, the first cell lowest.
+-- For the code: rows of eight cells, each held in one number of eight bytes, the first cell lowest; and the cells of a matrix in a row.
 -- Assumes nothing.
 use mathlib.Core.Path.{_≡_}
 use mathlib.Core.Bool.{cond}
@@ -7,7 +7,7 @@ use Prim.Native.Nat.{ℕ, zero, suc, _+_, _/_, _%_, _^_, _≤_, _<_}
 use lib.Bits.{bitXor}
 use lib.Dec.{eqb}
 use lib.ListN.{getD}
-use Rattle.standard.specs.Grid.{tab}
+use Rattle.standard.specs.Grid.{Grid, tab, at}
 use Rattle.standard.specs.ForCode.{Modulus}
 
 -- cell j of a row
@@ -43,3 +43,7 @@ pub record NoneFrom (d z : ℕ) : Type 0 where
 -- the first d cells of the d rows from row n on are below top
 pub record SmallRows (d top : ℕ) (rows : List ℕ) (n : ℕ) : Type 0 where
   pub cell : (i j : ℕ) → i < d → j < d → lane j (getD rows (n + i) 0) < top
+
+-- the n-th cell of a matrix of d rows and columns, row by row
+abbrev pub nth : ℕ → Grid → ℕ → ℕ
+nth d g n = at g (n / d) (n % d)

@@ -30,6 +30,7 @@ from f (x ∷ xs) i t (suc k) h =
 pub entries-of : (n : ℕ) (p : PhotonParameters) (table : List ℕ) → length table ≡ n → T (ruled (entryOf p) 0 table) → Entries n p table
 entries-of n p table e t =
     record {
+      size = e;
       entry = λ k h.
           subst (λ (m : ℕ). getD table k 0 ≡ entryOf p m) (zero-add k) (from (entryOf p) table 0 t k (subst (λ (m : ℕ). k < m) (sym e) h));
     }

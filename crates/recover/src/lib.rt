@@ -28,8 +28,9 @@ use chain::message;
 use chain::message::Ending;
 use chain::outcome;
 use chain::padding;
+use chain::plain;
 use chain::sizes;
-use chain::step;
+use chain::state;
 
 // The bytes of a block.
 pub fn block_bytes(v: u8) -> usize
@@ -60,7 +61,7 @@ fn run_back(
     for i in place + 1..n {
         let j = place + n - i;
         let block = blocks::block_at(none, front, last, j * q, q);
-        let before = step::unstepped(v, s, block);
+        let before = plain::unstepped(v, s, block);
         s = before;
     }
     s
@@ -88,7 +89,7 @@ fn cipher_difference(s: [u8; STATE_BYTES], end: [u8; STATE_BYTES]) -> [u8; STATE
     let x = lesamnta::decrypt_front(&s, &end);
     let enciphered = images::at_front(&x);
     let half = second_half(s);
-    step::xored(enciphered, &half)
+    plain::xored(enciphered, &half)
 }
 
 // What lies between the states on both sides of the place. For a sponge it is the state before the block, and the one that the permutation has to take
@@ -108,14 +109,14 @@ fn difference(
     requires { ⌜ Holds v end ⌝ }
     ensures { λ r. ⌜ r ≡ packedState (variant v) (difference (variant v) (messageIn (now (front .entry)) last bits) place (stateIn (variant v) end)) ⌝ }
 {
-    let start = step::start(v);
+    let start = state::start(v);
     let before = outcome::run_blocks(v, start, Held::none(), front, last, place);
     if !sizes::is_sponge(v) {
         return cipher_difference(before, end);
     }
     let after = run_back(v, front, last, bits, place, end);
-    let wanted = step::permuted(v, after, Direction::Backward);
-    step::xored(before, &wanted)
+    let wanted = state::permuted(v, after, Direction::Backward);
+    plain::xored(before, &wanted)
 }
 
 // The block that leads to the state of an image, written over the front of the output: refusal 8 if none does.

@@ -9,6 +9,7 @@ pub mod Image
 pub mod Places
 pub mod Shifts
 pub mod WordLaws
+pub mod WordStates
 pub mod SpreadLaws
 pub mod LanePlaces
 pub mod LookUpRound

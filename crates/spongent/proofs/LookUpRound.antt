@@ -19,8 +19,8 @@ use Rattle.standard.proofs.SpongentLaws.{length-sBoxLayer, length-cAddition}
 use Rattle.standard.proofs.Reversal.{reversal-lt}
 use Rattle.standard.proofs.Tests.{lt-or-le, bound-below}
 use Rattle.bytes.proofs.Mapped.{mapped, length-mapped}
-use Rattle.spongent.specs.Pairs.{pairOf}
-use Rattle.spongent.specs.Words.{bytesIn, pairIn, boxed, spreadWord, lanesInto}
+use Rattle.spongent.specs.Pairs.{planePair}
+use Rattle.spongent.specs.Words.{bytesIn, pairIn, sBoxByte, spreadWord, lanesInto}
 use Rattle.spongent.proofs.Layers.{byteBy, byte-nibbles, mapped-bits, bytes-cAddition, first-bits}
 use Rattle.spongent.proofs.Places.{pair-lt, moved-bits, zeros-at}
 use Rattle.spongent.proofs.Shifts.{shifted-down, shifted-past, shifted-before}
@@ -38,13 +38,13 @@ mapped-before f (suc n) (x ∷ s) (suc k) h l = mapped-before f n s k (le-of-suc
 
 -- the pair m of n bytes that are looked up
 abbrev pub lookedUp : List ℕ → ℕ → List ℕ → ℕ → ℕ
-lookedUp box n s m = pairOf (m / n) (boxed box (getD s (m % n) 0))
+lookedUp box n s m = planePair (m / n) (sBoxByte box (getD s (m % n) 0))
 
 module _ (n : ℕ) (least : 0 < n) (most : n ≤ 36) (box : List ℕ) (small : (x : ℕ) → x < 16 → getD box x 0 < 16) where
   -- words r whose pairs are what the look-ups of the bytes s give hold the bits of s, replaced and moved
   pub look-up-round : (s r : List ℕ) → length s ≡ 36 → ((i : ℕ) → getD s i 0 < 256) → ((m : ℕ) → m < 4 * n → pairIn r m ≡ lookedUp box n s m)
       → take (8 * n) (bitsIn low-first (bytesIn r)) ≡ pLayer (8 * n) (8 * n / 4) (sBoxLayer box (take (8 * n) (bitsIn low-first s)))
-  unfolding boxed
+  unfolding sBoxByte
   look-up-round s r ls bs h =
       let t : ℕ = 8 * n in
       let en : t / 8 ≡ n = omega arith in
@@ -59,7 +59,7 @@ module _ (n : ℕ) (least : 0 < n) (most : n ≤ 36) (box : List ℕ) (small : (
       let hi : i < n = mod-lt j {m = n} least in
       rw en
       (pairs-in-bytes r j (omega arith) ∙ h j (omega arith)
-      ∙ ap (pairOf (j / n)) (byte-nibbles box small (getD s i 0) (bs i) ∙ sym (mapped-before (byteBy box) n s i hi (omega arith)))))
+      ∙ ap (planePair (j / n)) (byte-nibbles box small (getD s i 0) (bs i) ∙ sym (mapped-before (byteBy box) n s i hi (omega arith)))))
       ∙ ap (pLayer t (t / 4)) (first-bits t (bitsIn low-first s′) x (drop t L) lx (mapped-bits box n s))
 
 -- ---- a word at a time
@@ -97,14 +97,14 @@ module _ (box : List ℕ) (n : ℕ) (least : 0 < n) (most : n ≤ 36) (w : List 
         let x : ℕ = pairIn out (b * n + i) in
         put (b * n + i) ∙ ap (λ (p : ℕ). lanesInto lanes p n (b * n + i) 4 x) e
         ∙ lanes-pair lanes (8 * j) c n inside
-        (λ d l. rw (lane-is d l) (row-lt (given box (getD w j 0) d) (λ k. pair-lt d (boxed box (getD w j 0 / 2 ^ (8 * k) % 256))) c)) b i x hb hi
+        (λ d l. rw (lane-is d l) (row-lt (given box (getD w j 0) d) (λ k. pair-lt d (sBoxByte box (getD w j 0 / 2 ^ (8 * k) % 256))) c)) b i x hb hi
 
     -- what the word j gives to the pair i of plane b: nothing before its first byte
     nothing-before : (b i : ℕ) → i < 8 * j → lane lanes b * 2 ^ (2 * (8 * j)) / 2 ^ (2 * i) % 4 ≡ 0
     nothing-before b i h = shifted-before (lane lanes b) 2 (2 * (8 * j)) (2 * i) (omega arith)
 
     -- its own bytes
-    own : (b i : ℕ) → b < 4 → i < n → 8 * j ≤ i → i < 8 * (j + 1) → lane lanes b * 2 ^ (2 * (8 * j)) / 2 ^ (2 * i) % 4 ≡ pairOf b (boxed box (getD (bytesIn w) i 0))
+    own : (b i : ℕ) → b < 4 → i < n → 8 * j ≤ i → i < 8 * (j + 1) → lane lanes b * 2 ^ (2 * (8 * j)) / 2 ^ (2 * i) % 4 ≡ planePair b (sBoxByte box (getD (bytesIn w) i 0))
     own b i hb hi l u =
         let k : ℕ = i - 8 * j in
         let ek : 2 * i - 2 * (8 * j) ≡ 2 * k = omega arith in
@@ -112,8 +112,8 @@ module _ (box : List ℕ) (n : ℕ) (least : 0 < n) (most : n ≤ 36) (w : List 
         let er : k ≡ i % 8 = omega arith in
         ap (λ (y : ℕ). y % 4) (shifted-down (lane lanes b) (2 * (8 * j)) (2 * i) (omega arith))
         ∙ ap₂ (λ (y p : ℕ). y / 2 ^ p % 4) (lane-is b hb) ek
-        ∙ row-at (given box (getD w j 0) b) (λ m. pair-lt b (boxed box (getD w j 0 / 2 ^ (8 * m) % 256))) c k (enough k (omega arith) (omega arith))
-        ∙ ap (λ (y : ℕ). pairOf b (boxed box y)) (ap₂ (λ (p q : ℕ). getD w p 0 / 2 ^ (8 * q) % 256) eq er ∙ sym (bytesIn-at w i (omega arith)))
+        ∙ row-at (given box (getD w j 0) b) (λ m. pair-lt b (sBoxByte box (getD w j 0 / 2 ^ (8 * m) % 256))) c k (enough k (omega arith) (omega arith))
+        ∙ ap (λ (y : ℕ). planePair b (sBoxByte box y)) (ap₂ (λ (p q : ℕ). getD w p 0 / 2 ^ (8 * q) % 256) eq er ∙ sym (bytesIn-at w i (omega arith)))
 
     -- and nothing behind them
     nothing-behind : (b i : ℕ) → b < 4 → 8 * (j + 1) ≤ i → lane lanes b * 2 ^ (2 * (8 * j)) / 2 ^ (2 * i) % 4 ≡ 0
@@ -121,7 +121,7 @@ module _ (box : List ℕ) (n : ℕ) (least : 0 < n) (most : n ≤ 36) (w : List 
         let f : ℕ → ℕ = given box (getD w j 0) b in
         ap (λ (y : ℕ). y % 4)
         (shifted-past (lane lanes b) (2 * c) (2 * (8 * j)) (2 * i)
-        (rw (lane-is b hb) (row-lt f (λ k. pair-lt b (boxed box (getD w j 0 / 2 ^ (8 * k) % 256))) c)) (omega (arith, narrow)))
+        (rw (lane-is b hb) (row-lt f (λ k. pair-lt b (sBoxByte box (getD w j 0 / 2 ^ (8 * k) % 256))) c)) (omega (arith, narrow)))
 
     pub looked-more : Looked box n w j out → Looked box n w (j + 1) out′
     looked-more done m h =

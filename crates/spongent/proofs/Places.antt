@@ -15,12 +15,12 @@ use Rattle.standard.specs.Spongent.{pLayer}
 use Rattle.standard.proofs.BitLaws.{bitsIn-digit, bit-digit, length-bitsIn, bitsIn-drop, bitsIn-zeros}
 use Rattle.standard.proofs.SpongentLaws.{length-pLayer, pLayer-plane}
 use Rattle.standard.proofs.Tests.{zero-to-three}
-use Rattle.spongent.specs.Pairs.{Joined, pairAt, pairOf}
+use Rattle.spongent.specs.Pairs.{Joined, pairAt, planePair}
 
 -- ---- pairs and their places
 
-pub pair-lt : (b x : ℕ) → pairOf b x < 4
-unfolding pairOf
+pub pair-lt : (b x : ℕ) → planePair b x < 4
+unfolding planePair
 pair-lt b x = omega arith
 
 pub pairAt-lt : (s : List ℕ) (j : ℕ) → pairAt s j < 4
@@ -46,8 +46,8 @@ joined-at pairs r j h =
 
 -- v has the bits of w at the places b and b + 4
 pair-is : (b v w : ℕ) → w < 4 → (lo hi : ℕ) → lo < 2 ^ b → v ≡ (hi * 2 + w % 2) * 2 ^ b + lo → (below above : ℕ) → below < 2 ^ (b + 4)
-    → v ≡ (above * 2 + w / 2) * 2 ^ (b + 4) + below → pairOf b v ≡ w
-unfolding pairOf
+    → v ≡ (above * 2 + w / 2) * 2 ^ (b + 4) + below → planePair b v ≡ w
+unfolding planePair
 pair-is b v w hw lo hi hl e below above hb e4 =
     rw (bit-is b lo hi (w % 2) (omega arith) hl e, bit-is (b + 4) below above (w / 2) (omega arith) hb e4) (omega arith)
   where
@@ -57,7 +57,7 @@ pair-is b v w hw lo hi hl e below above hb e4 =
 -- a byte of bits that stand as the planes take them
 module _ (w x y z : ℕ) (hw : w < 4) (hx : x < 4) (hy : y < 4) (hz : z < 4) (v : ℕ)
     (e : v ≡ w % 2 + x % 2 * 2 + y % 2 * 4 + z % 2 * 8 + w / 2 * 16 + x / 2 * 32 + y / 2 * 64 + z / 2 * 128) where
-  pub gathered-pairs : (pairOf 0 v ≡ w) × ((pairOf 1 v ≡ x) × ((pairOf 2 v ≡ y) × (pairOf 3 v ≡ z)))
+  pub gathered-pairs : (planePair 0 v ≡ w) × ((planePair 1 v ≡ x) × ((planePair 2 v ≡ y) × (planePair 3 v ≡ z)))
   gathered-pairs =
       let a0 : ℕ = w % 2 in
       let a1 : ℕ = a0 + x % 2 * 2 in
@@ -86,8 +86,8 @@ module _ (w x y z : ℕ) (hw : w < 4) (hx : x < 4) (hy : y < 4) (hz : z < 4) (v 
 -- the pairs of byte i are those at place i of the planes
 abbrev pub Gathered : ℕ → List ℕ → ℕ → ℕ → Type 0
 Gathered n pairs i x =
-    (pairOf 0 x ≡ getD pairs i 0)
-    × ((pairOf 1 x ≡ getD pairs (n + i) 0) × ((pairOf 2 x ≡ getD pairs (2 * n + i) 0) × (pairOf 3 x ≡ getD pairs (3 * n + i) 0)))
+    (planePair 0 x ≡ getD pairs i 0)
+    × ((planePair 1 x ≡ getD pairs (n + i) 0) × ((planePair 2 x ≡ getD pairs (2 * n + i) 0) × (planePair 3 x ≡ getD pairs (3 * n + i) 0)))
 
 plane-lt : (j n : ℕ) → j < 4 * n → j / n < 4
 plane-lt j n h = div-lt-iff-lt-mul {k = n} {x = j} {y = 4} (omega arith) .1 h
@@ -122,17 +122,17 @@ pairAt-digit r k =
     let ew : 2 * (k / 2 % 4) + k % 2 ≡ k % 8 = omega arith in
     rw (low-of-four _ (k % 2) (omega arith), shr-shr, ei, ew)
 
-pairOf-digit : (b x e : ℕ) → e < 2 → pairOf b x / 2 ^ e % 2 ≡ x / 2 ^ (4 * e + b) % 2
-unfolding pairOf
-pairOf-digit b x zero h = let z : 4 * 0 + b ≡ b = omega arith in omega (arith, ap (λ (l : ℕ). x / 2 ^ l % 2) z)
-pairOf-digit b x (suc zero) h = let z : 4 * 1 + b ≡ b + 4 = omega arith in omega (arith, ap (λ (l : ℕ). x / 2 ^ l % 2) z)
-pairOf-digit b x (suc (suc e)) h = absurd (omega arith)
+planePair-digit : (b x e : ℕ) → e < 2 → planePair b x / 2 ^ e % 2 ≡ x / 2 ^ (4 * e + b) % 2
+unfolding planePair
+planePair-digit b x zero h = let z : 4 * 0 + b ≡ b = omega arith in omega (arith, ap (λ (l : ℕ). x / 2 ^ l % 2) z)
+planePair-digit b x (suc zero) h = let z : 4 * 1 + b ≡ b + 4 = omega arith in omega (arith, ap (λ (l : ℕ). x / 2 ^ l % 2) z)
+planePair-digit b x (suc (suc e)) h = absurd (omega arith)
 
 -- ---- the state
 
 -- r is s moved, n bytes of each
 abbrev pub Moved : ℕ → List ℕ → List ℕ → Type 0
-Moved n s r = (j : ℕ) → j < 4 * n → pairAt r j ≡ pairOf (j / n) (getD s (j % n) 0)
+Moved n s r = (j : ℕ) → j < 4 * n → pairAt r j ≡ planePair (j / n) (getD s (j % n) 0)
 
 same-digit : (a b : Bool) → digit a ≡ digit b → a ≡ b
 same-digit a b e = rw (← bit-digit a, e, bit-digit)
@@ -150,7 +150,7 @@ module _ (t : ℕ) (least : 8 ≤ t) (most : t ≤ 288) (whole : t % 8 ≡ 0) (s
       let ei : k % (t / 4) ≡ j % n * 2 + k % 2 = rw q (mod-mul k {m = n} {c = 2} (omega arith) (omega arith)) in
       let ip : j % n ≡ p / 8 = omega arith in
       let wp : 4 * (k % 2) + j / n ≡ p % 8 = omega arith in
-      rw (← pairAt-digit r k, h j hj, pairOf-digit (j / n) (getD s (j % n) 0) (k % 2) (omega arith), ip, wp)
+      rw (← pairAt-digit r k, h j hj, planePair-digit (j / n) (getD s (j % n) 0) (k % 2) (omega arith), ip, wp)
 
   pub moved-bits : Moved (t / 8) s r → take t (bitsIn low-first r) ≡ pLayer t (t / 4) (take t (bitsIn low-first s))
   moved-bits h =

@@ -10,8 +10,8 @@ use lib.Arith.{digits-lt}
 use lib.Pow.{shl-lt, pow-mono, pow-add, high, low}
 use lib.Bits.{bitXor, xor-comm, xor-shifted}
 use Rattle.standard.proofs.Tests.{zero-to-three}
-use Rattle.spongent.specs.Pairs.{pairOf}
-use Rattle.spongent.specs.Words.{boxed, spreadOf, lookUp, spreadWord}
+use Rattle.spongent.specs.Pairs.{planePair}
+use Rattle.spongent.specs.Words.{sBoxByte, spreadOf, lookUp, spreadWord}
 use Rattle.spongent.proofs.Places.{pair-lt}
 use Rattle.spongent.proofs.Shifts.{masked, xored}
 
@@ -61,23 +61,23 @@ four-lanes : (x y z u : ℕ) → x < 65536 → y < 65536 → z < 65536 → u < 6
 four-lanes x y z u hx hy hz hu P ex ey ez eu =
     zero-to-three (λ b. lane (x + y * 2 ^ 16 + z * 2 ^ 32 + u * 2 ^ 48) b ≡ P b) (omega arith) (omega arith) (omega arith) (omega arith)
 
-pub look-up-lane : (box : List ℕ) (k x b : ℕ) → k < 8 → b < 4 → lane (lookUp box k x) b ≡ pairOf b (boxed box x) * 2 ^ (2 * k)
+pub look-up-lane : (box : List ℕ) (k x b : ℕ) → k < 8 → b < 4 → lane (lookUp box k x) b ≡ planePair b (sBoxByte box x) * 2 ^ (2 * k)
 unfolding lookUp spreadOf
 look-up-lane box k x b hk hb =
-    let y : ℕ = boxed box x in
+    let y : ℕ = sBoxByte box x in
     let f : ℕ = 2 ^ (2 * k) in
-    ap (λ (l : ℕ). lane l b) (lanes-times (pairOf 0 y) (pairOf 1 y) (pairOf 2 y) (pairOf 3 y) f)
-    ∙ four-lanes (pairOf 0 y * f) (pairOf 1 y * f) (pairOf 2 y * f) (pairOf 3 y * f) (fits 0) (fits 1) (fits 2) (fits 3)
-    (λ (c : ℕ). pairOf c y * f) refl refl refl refl b hb
+    ap (λ (l : ℕ). lane l b) (lanes-times (planePair 0 y) (planePair 1 y) (planePair 2 y) (planePair 3 y) f)
+    ∙ four-lanes (planePair 0 y * f) (planePair 1 y * f) (planePair 2 y * f) (planePair 3 y * f) (fits 0) (fits 1) (fits 2) (fits 3)
+    (λ (c : ℕ). planePair c y * f) refl refl refl refl b hb
   where
-    fits : (c : ℕ) → pairOf c (boxed box x) * 2 ^ (2 * k) < 65536
-    fits c = lt-of-lt-of-le (shl-lt 2 (2 * k) (pair-lt c (boxed box x))) (pow-mono {i = 2 + 2 * k} {j = 16} (omega arith))
+    fits : (c : ℕ) → planePair c (sBoxByte box x) * 2 ^ (2 * k) < 65536
+    fits c = lt-of-lt-of-le (shl-lt 2 (2 * k) (pair-lt c (sBoxByte box x))) (pow-mono {i = 2 + 2 * k} {j = 16} (omega arith))
 
 -- ---- the lanes of the sum
 
 -- what the byte k of a word gives to plane b
 abbrev pub given : List ℕ → ℕ → ℕ → ℕ → ℕ
-given box w b k = pairOf b (boxed box (w / 2 ^ (8 * k) % 256))
+given box w b k = planePair b (sBoxByte box (w / 2 ^ (8 * k) % 256))
 
 pub spread-lane : (box : List ℕ) (w b n : ℕ) → b < 4 → n ≤ 8 → lane (spreadWord box n w) b ≡ row (given box w b) n
 unfolding spreadWord row
@@ -88,4 +88,4 @@ spread-lane box w b (suc n) hb hn =
     xored (spreadWord box n w) (lookUp box n (w / 2 ^ (8 * n) % 256)) (16 * b) 16
     ∙ ap₂ bitXor (spread-lane box w b n hb (omega arith)) (look-up-lane box n (w / 2 ^ (8 * n) % 256) b hn hb)
     ∙ xor-comm r (p * 2 ^ (2 * n))
-    ∙ xor-shifted p (2 * n) r (row-lt (given box w b) (λ k. pair-lt b (boxed box (w / 2 ^ (8 * k) % 256))) n)
+    ∙ xor-shifted p (2 * n) r (row-lt (given box w b) (λ k. pair-lt b (sBoxByte box (w / 2 ^ (8 * k) % 256))) n)

@@ -123,6 +123,14 @@ module _ (w : List ℕ) (i v : ℕ) (lw : length w ≡ 8) (hi : i < 36) (hv : v 
           (λ (n : k ≡ i → ⊥). other k h n ∙ sym (getD-set-other (bytesIn w) i k new 0 n))
           (same-or-not k i)
 
+-- byte k of the first word
+pub byte-in-first : (w : List ℕ) (k v y : ℕ) → length w ≡ 8 → k < 8 → v < 256 → y ≡ v * 2 ^ (8 * k)
+    → bytesIn (xoredWord w 0 y) ≡ set (bytesIn w) k (bitXor (getD (bytesIn w) k 0) v)
+byte-in-first w k v y lw hk hv ey =
+    let first : 0 ≡ k / 8 = omega arith in
+    let place : k ≡ k % 8 = omega arith in
+    ap₂ (λ (q z : ℕ). bytesIn (xoredWord w q z)) first (ey ∙ ap (λ (j : ℕ). v * 2 ^ (8 * j)) place) ∙ byte-xored w k v lw (omega arith) hv
+
 -- ---- all bytes, one after the other
 
 no-byte : (k : ℕ) → k < 36 → getD (bytesIn (replicate 8 0)) k 0 ≡ 0

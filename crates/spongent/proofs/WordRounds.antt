@@ -2,7 +2,7 @@
 -- Assumes nothing.
 use mathlib.Core.Path.{_≡_, refl}
 use mathlib.Core.List.{List}
-use Prim.Native.Nat.{ℕ, _+_, _-_, _*_, _≤_, _<_}
+use Prim.Native.Nat.{ℕ, _+_, _*_, _≤_, _<_}
 use native.Mathlib.Omega.{arith}
 use lib.ListN.{length}
 use Rattle.standard.specs.Bits.{low-first, unpack}
@@ -12,7 +12,7 @@ use Rattle.standard.specs.Counters.{reversal, nextReversed, steppedCounter, ste
 use Rattle.standard.specs.Variants.{variant}
 use Rattle.standard.proofs.CounterRounds.{SoundCounter}
 use Rattle.spongent.specs.Parameters.{spongentOf, tapsOf}
-use Rattle.spongent.specs.Words.{bytesIn, Permuted}
+use Rattle.spongent.specs.Words.{bytesIn, stateOfBytes, Permuted}
 use Rattle.spongent.proofs.ParametersOf.{Sizes, sizes-of, sound-of, tabled}
 use Rattle.spongent.proofs.Carried.{Carried, carried-first, carried-next, Left, left-first, left-next, left-none}
 
@@ -84,5 +84,6 @@ module _ {v n R b c : ℕ} (z : Row v n R b c) (w : List ℕ) where
         carried = carried-next (spongentOf v) sizes sound Forward k counter r counter′ r′ (rw (z .width, z .taps) ec) (rw (z .width, z .taps) er) (u .carried);
       }
 
-  pub ahead-none : (now : List ℕ) (k counter r : ℕ) → k ≡ R → Ahead v w now k counter r → Permuted v (bytesIn w) (bytesIn now)
+  pub ahead-none : (now : List ℕ) (k counter r : ℕ) → k ≡ R → Ahead v w now k counter r → Permuted v w now
+  unfolding stateOfBytes
   ahead-none now k counter r e u = left-none (spongentOf v) sizes sound Forward _ _ k (rw (z .count) e) (u .left)

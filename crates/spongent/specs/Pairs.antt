@@ -1,5 +1,6 @@
--- For the code: pairs of bits, in which the code moves bits. pLayer takes bit b of each nibble, one nibble after the other, to plane b, a quarter of the state, and the four planes
--- lie one behind the other. A byte has two nibbles, so it gives a pair of bits to each plane.
+-- For the code: pairs of bits, in which the code moves bits. pLayer takes bit b of each nibble, one nibble after the
+-- other, to plane b, a quarter of the state, and the four planes lie one after the other. A byte has two nibbles, so it
+-- gives a pair of bits to each plane.
 -- Assumes nothing.
 use mathlib.Core.Path.{_≡_}
 use mathlib.Core.List.{List}
@@ -11,8 +12,8 @@ unfoldable pub pairAt : List ℕ → ℕ → ℕ
 pairAt s j = getD s (j / 4) 0 / 2 ^ (2 * (j % 4)) % 4
 
 -- what a byte gives to plane b: its bits b and b + 4
-unfoldable pub pairOf : ℕ → ℕ → ℕ
-pairOf b x = x / 2 ^ b % 2 + x / 2 ^ (b + 4) % 2 * 2
+unfoldable pub planePair : ℕ → ℕ → ℕ
+planePair b x = x / 2 ^ b % 2 + x / 2 ^ (b + 4) % 2 * 2
 
 -- the pairs of byte k are those from 4 * k on
 abbrev pub Joined : List ℕ → ℕ → ℕ → Type 0

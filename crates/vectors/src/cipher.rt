@@ -82,7 +82,7 @@ fn step(value: [u8; 32], block: &[u8]) -> [u8; 32]
 
 // The blocks of the message "abc": its bytes with the 1 bit behind them, and its length.
 fn steps() {
-    let start = chain::step::start(11);
+    let start = chain::state::start(11);
     let mut value = [0u8; 32];
     bytes::copies::copy_front(&start, 32, &mut value);
     let next = step(

@@ -4,7 +4,7 @@
 ghost use mathlib.Core.Path.{_≡_};
 ghost use lib.ListN.{length};
 ghost use Rattle.standard.specs.declared.Direction.the-variants.{Forward, Backward};
-ghost use Rattle.lesamnta.specs.Words.{ciphered};
+ghost use Rattle.lesamnta.specs.Cipher.{ciphered};
 ghost use Rattle.answers.specs.Refusals.{answer};
 ghost use Rattle.chain.specs.Images.{imageStatus, permutedImage};
 ghost use Rattle.standard.specs.Messages.{bytes, partial};

@@ -11,7 +11,7 @@ use Rattle.standard.specs.Bits.{high-first, bitsIn, pack}
 use Rattle.standard.specs.declared.Direction.the-variants.{Backward}
 use Rattle.standard.specs.Lesamnta.{cipher}
 use Rattle.standard.proofs.BitLaws.{length-bitsIn}
-use Rattle.lesamnta.specs.Words.{ciphered}
+use Rattle.lesamnta.specs.Cipher.{ciphered}
 use Rattle.lesamnta.proofs.decrypt.Statement.{statement}
 use Rattle.lesamnta.proofs.decrypt.Tie as tie
 

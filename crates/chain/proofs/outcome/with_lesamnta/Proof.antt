@@ -15,7 +15,7 @@ run-words-requires : tie.Need-run-words-requires
 run-words-requires c κs =
     let t = c .before .before .before .before .fill-table .ensures in
     let s = c .before .before .before .before .before .before .before in
-    ((refl, s .pre .0, s .pre .1), record { pairs = λ h. absurd (omega arith); shares = λ e. absurd (omega arith); spread = λ h g. absurd (omega arith); boxes = λ e. t })
+    ((refl, s .pre .0, s .pre .1), record { photon = λ h. absurd (omega arith); spread = λ h g. absurd (omega arith); boxes = λ e. t })
 
 returns : tie.Need-returns
 returns c =

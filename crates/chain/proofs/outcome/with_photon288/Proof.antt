@@ -11,7 +11,7 @@ unfolding variant
 outcome-with-requires c κs =
     let pre = c .before .before .before .pre in (
       (refl, refl, pre .0, pre .1),
-      record { pairs = λ h. absurd (omega arith); shares = λ e. (omega arith, c .before .entries-288 .ensures); spread = λ h g. absurd (omega arith); boxes = λ e. absurd (omega arith) },
+      record { photon = λ h. record { pairs = λ l. absurd (omega arith); shares = λ e. c .before .entries-288 .ensures }; spread = λ h g. absurd (omega arith); boxes = λ e. absurd (omega arith) },
     )
 
 pub with-photon288-spec : {M : Type 1} → statement M

@@ -10,7 +10,7 @@ outcome-with-requires c κs =
     let start = c .before .before .before .before .before in
     let pre = start .pre in (
       (known-true (start .args .v) (pre .0) (omega (arith, pre .1)), sponge-true (start .args .v) (pre .0) (omega (arith, pre .1)), pre .2, pre .3),
-      record { pairs = λ h. c .before .before .fill-pairs .ensures; shares = λ e. absurd (omega (arith, pre .1)); spread = λ h g. absurd (omega (arith, pre .1)); boxes = λ e. absurd (omega (arith, pre .1)) },
+      record { photon = λ h. record { pairs = λ l. c .before .before .fill-pairs .ensures; shares = λ e. absurd (omega (arith, pre .1)) }; spread = λ h g. absurd (omega (arith, pre .1)); boxes = λ e. absurd (omega (arith, pre .1)) },
     )
 
 pub with-photon4-spec : {M : Type 1} → statement M

@@ -11,7 +11,7 @@ outcome-with-requires c κs =
     let pre = start .pre in
     let t = c .before .before .fill-table .ensures in (
       (known-true (start .args .v) (omega (arith, pre .0)) (omega (arith, pre .1)), sponge-true (start .args .v) (omega (arith, pre .0)) (pre .1), pre .2, pre .3),
-      record { pairs = λ h. absurd (omega (arith, pre .0)); shares = λ e. absurd (omega (arith, pre .0)); spread = λ h g. t; boxes = λ e. absurd (omega (arith, pre .1)) },
+      record { photon = λ h. absurd (omega (arith, pre .0)); spread = λ h g. t; boxes = λ e. absurd (omega (arith, pre .1)) },
     )
 
 pub with-spongent-spec : {M : Type 1} → statement M

@@ -7,8 +7,7 @@ use lib.ListN.{length, take}
 use Rattle.standard.specs.Bits.{high-first, bitsIn, pack, unpack}
 use Rattle.standard.proofs.BitLaws.{length-pack}
 use Rattle.standard.specs.Layout.{stateRoom}
-use Rattle.chain.proofs.CellsIntoWords.{cell-in-lt}
-use Rattle.chain.proofs.CellsOfBytes.{half-is}
+use Rattle.bytes.proofs.CellLaws.{cell-in-lt, nibble-is}
 use Rattle.chain.proofs.SqueezeLaws.{front-size, front-kept, front-next}
 use Rattle.chain.proofs.squeeze.put_front.Statement.{statement}
 use Rattle.chain.proofs.squeeze.put_front.Tie as tie
@@ -26,7 +25,7 @@ put-nibble-requires c κs =
     let s = c .before .before .before .before .before .before .before in
     let a = s .args in
     let size = front-size (a .out .now) (a .s .now) (l .inv .1) (s .pre .0 .1) (a .p) (l .i) (omega arith) (l .out) (l .inv .2) in
-    let cell = half-is (a .s .now) (λ i. omega (arith, known i)) (l .i) (omega arith) in (
+    let cell = nibble-is (a .s .now) (λ i. omega (arith, known i)) (l .i) (omega arith) in (
       (omega (arith, size), omega (arith, c .nibble-of .ensures, cell, cell-in-lt 4 (a .s .now) (l .i))),
       front-kept (a .out .now) (a .s .now) (l .inv .1) (s .pre .0 .1) (a .p) (l .i) (omega arith) (l .out) (l .inv .2)
           ∙ ap (λ (n : ℕ). pack high-first n (unpack high-first (4 * (a .p + l .i)) (l .out))) (sym size),
@@ -39,7 +38,7 @@ loop-again c =
     let known = b .before .before .before .before .before .shared-slice-known .given in
     let s = b .before .before .before .before .before .before .before in
     let a = s .args in
-    let cell = half-is (a .s .now) (λ i. omega (arith, known i)) (l .i) (omega arith) in (
+    let cell = nibble-is (a .s .now) (λ i. omega (arith, known i)) (l .i) (omega arith) in (
       omega arith,
       l .inv .1,
       front-next (a .out .now) (a .s .now) (l .inv .1) (s .pre .0 .1) (a .p) (l .i) (omega arith) (l .out) (l .inv .2) (omega arith) _ _

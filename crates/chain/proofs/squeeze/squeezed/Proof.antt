@@ -5,7 +5,7 @@ use native.Mathlib.Omega.{arith}
 use Rattle.standard.specs.Variants.{variant}
 use Rattle.standard.proofs.Variants.{bounds}
 use Rattle.chain.specs.Words.{stateInWords}
-use Rattle.chain.proofs.WordSteps.{words-length}
+use Rattle.chain.proofs.FamilyLaws.{words-length}
 use Rattle.chain.proofs.SqueezeLaws.{Squeezing, squeezing-start, squeezing-room, squeezing-more, squeezing-last, squeezing-end}
 use Rattle.chain.proofs.squeeze.squeezed.Statement.{statement}
 use Rattle.chain.proofs.squeeze.squeezed.Tie as tie

@@ -28,5 +28,5 @@ returns c =
 pub round8-spec : {M : Type 1} → statement M
 round8-spec =
     tie.close (tie.spec Inv-loop μ-loop (λ c. omega arith) (λ c. (omega arith, shared-none (c .before .args .w .now) (c .before .args .c)))
-    (λ c κs. (c .before .before .before .loop .inv .1 .len, omega arith, c .before .before .before .before .before .pre .0 .1))
+    (λ c κs. (c .before .before .before .loop .inv .1 .len, omega arith, c .before .before .before .before .before .pre .1 .size))
     (λ c. omega arith) (λ c. omega arith) loop-again returns)

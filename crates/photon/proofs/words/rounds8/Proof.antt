@@ -37,12 +37,12 @@ returns c =
     let twelve : l .r ≡ 12 = omega arith in (
       l .inv .1,
       rounded-all 5 (lit≤ tt) (lit≤ tt) _ (l .w) (s .args .w .now) _ (entry-constant 1552 (photonOf 5) (s .args .table .now) (s .pre .1) 0 (omega arith) (omega arith))
-          (first-added (photonOf 5) (sound 5 (lit≤ tt) (lit≤ tt)) (placeOf (photonOf 5)) (rising-places 5 (lit≤ tt) (lit≤ tt)) (s .args .w .now) _ (omega (arith, s .pre .0 .0)))
+          (first-added (photonOf 5) (sound 5 (lit≤ tt) (lit≤ tt)) (placeOf (photonOf 5)) (rising-places 5 (lit≤ tt) (lit≤ tt)) (s .args .w .now) _ (omega (arith, s .pre .0)))
           (rw twelve at (l .inv .2)),
     )
 
 pub rounds8-spec : {M : Type 1} → statement M
 rounds8-spec =
-    tie.close (tie.spec Inv-loop μ-loop (λ c. omega arith) (λ c. omega arith) (λ c. omega arith)
-    (λ c. (omega arith, simp length-set (c .before .before .before .pre .0 .0), rounded-none 5 (lit≤ tt) (lit≤ tt) _)) (λ c. omega arith) (λ c. omega arith) (λ c. omega arith)
-    (λ c κs. let s = c .before .before .before .before .before .before .before in ((c .before .before .before .loop .inv .1, s .pre .0 .1), s .pre .1)) (λ c. omega arith) loop-again returns)
+    tie.close (tie.spec Inv-loop μ-loop (λ c. omega arith) (λ c. omega (arith, c .before .before .before .pre .1 .size)) (λ c. omega arith)
+    (λ c. (omega arith, simp length-set (c .before .before .before .pre .0), rounded-none 5 (lit≤ tt) (lit≤ tt) _)) (λ c. omega arith) (λ c. omega arith) (λ c. omega (arith, c .before .before .before .before .before .before .before .pre .1 .size))
+    (λ c κs. let s = c .before .before .before .before .before .before .before in (c .before .before .before .loop .inv .1, s .pre .1)) (λ c. omega arith) loop-again returns)

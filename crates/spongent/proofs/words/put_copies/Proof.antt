@@ -24,7 +24,7 @@ returns : tie.Need-returns Inv-loop μ-loop
 returns c =
     let l = c .before .loop in
     let e : l .i ≡ 2048 = omega arith in
-    (l .inv .1 .size, copied-all (l .out) (rw e at (l .inv .1)))
+    copied-all (l .out) (rw e at (l .inv .1))
 
 pub put-copies-spec : {M : Type 1} → statement M
 put-copies-spec =

@@ -30,7 +30,7 @@ loop-again c =
     let k : ℕ = l .k in
     let x : ℕ = w / 2 ^ (8 * k) % 256 in (
       omega arith,
-      ap₂ bitXor (l .inv .1) (ap (λ (b : ℕ). getD (s .args .table .now) (256 * k + b) 0) (c .before .byte-of .ensures) ∙ s .pre .1 .1 .entry k x (omega arith) (omega arith))
+      ap₂ bitXor (l .inv .1) (ap (λ (b : ℕ). getD (s .args .table .now) (256 * k + b) 0) (c .before .byte-of .ensures) ∙ s .pre .1 .entry k x (omega arith) (omega arith))
           ∙ ap (λ (m : ℕ). spreadWord nibbles m w) (sym (add-one k)),
     )
 

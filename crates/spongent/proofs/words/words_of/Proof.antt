@@ -7,14 +7,15 @@ use native.Mathlib.Omega.{arith}
 use lib.ListN.{length, getD, length-set}
 use Rattle.bytes.proofs.Upto.{upto-none}
 use Rattle.spongent.proofs.WordLaws.{Filled, filled-more, filled-all, length-bytesIn}
+use Rattle.spongent.proofs.WordStates.{state-read}
 use Rattle.spongent.proofs.words.words_of.Statement.{statement}
 use Rattle.spongent.proofs.words.words_of.Tie as tie
 
 abbrev Inv-loop : tie.InvT-loop
-Inv-loop s bytes out₀ i₀ out i = (i ≤ 36) × (length out ≡ 8) × Filled bytes i out
+Inv-loop v s bytes out₀ i₀ out i = (i ≤ 36) × (length out ≡ 8) × Filled bytes i out
 
 abbrev μ-loop : tie.MeasureT-loop
-μ-loop s bytes out₀ i₀ out i = 36 - i
+μ-loop v s bytes out₀ i₀ out i = 36 - i
 
 loop-holds : tie.Need-loop-holds Inv-loop μ-loop
 loop-holds c = (omega arith, refl, upto-none _ (length-bytesIn _))
@@ -31,9 +32,10 @@ loop-again c =
 returns : tie.Need-returns Inv-loop μ-loop
 returns c =
     let l = c .before .loop in
-    let a = c .before .before in
+    let sliced = c .before .before in
+    let s = sliced .before in
     let e : l .i ≡ 36 = omega arith in
-    filled-all (a .before .args .s .now) (l .out) (a .bytes .given .0) (rw e at (l .inv .2))
+    state-read (s .args .v) (s .pre .0) (s .pre .1) (s .args .s .now) (l .out) (filled-all (s .args .s .now) (l .out) (sliced .bytes .given .0) (rw e at (l .inv .2)))
 
 pub words-of-spec : {M : Type 1} → statement M
 words-of-spec =
