@@ -5,8 +5,8 @@
  *
  *     bit_trace FILE
  *
- * The file has a character 0 or 1 for each switch. Others, such as line ends,
- * are passed over.
+ * The file has a character 0 or 1 for each switch. Other characters, such as
+ * line ends, are skipped.
  *
  * That one changed switch always shows in the end state is proved: a bit lies
  * in one block.
@@ -20,12 +20,12 @@
 
 enum {
     PIECE_BYTES = 8,
-    MOST_BYTES = 4096 /* what this program takes of a trace */
+    MAX_BYTES = 4096 /* of a trace, for this program */
 };
 
 /* Each byte has eight switches, the first of them in its high bit. */
 struct trace {
-    uint8_t bytes[MOST_BYTES];
+    uint8_t bytes[MAX_BYTES];
     size_t bits;
 };
 
@@ -47,7 +47,7 @@ static int read_trace(FILE *file, struct trace *trace)
     while ((c = getc(file)) != EOF) {
         if (c != '0' && c != '1')
             continue;
-        if (trace->bits == 8 * MOST_BYTES)
+        if (trace->bits == 8 * MAX_BYTES)
             return complain("the trace is longer than this program takes");
         if (c == '1')
             trace->bytes[trace->bits / 8] |= (uint8_t)(0x80 >> trace->bits % 8);
@@ -59,8 +59,8 @@ static int read_trace(FILE *file, struct trace *trace)
 }
 
 /*
- * The end state of a trace. Its last byte comes alone, with the number of its
- * bits that count. They lie at its high end, where PHOTON wants them; for
+ * The end state of a trace. Its last byte comes alone, with the number of bits
+ * that it contributes. They lie at its high end, as PHOTON wants them; for
  * SPONGENT they are moved to the low end.
  */
 static uint32_t end_state(uint32_t variant, const struct trace *trace, uint8_t *image, size_t image_bytes)
@@ -81,10 +81,10 @@ static uint32_t end_state(uint32_t variant, const struct trace *trace, uint8_t *
     return answer == WICKSLATE_DONE ? wickslate_end_state(&h, image, image_bytes) : answer;
 }
 
-/* Keeps the end state of the trace, changes its last switch, and looks again. */
+/* Keeps the end state of the trace, changes its last switch, and compares. */
 static int compare(const char *name, uint32_t variant, size_t image_bytes, struct trace trace)
 {
-    uint8_t kept[WICKSLATE_MOST_IMAGE_BYTES] = {0}, image[WICKSLATE_MOST_IMAGE_BYTES] = {0};
+    uint8_t kept[WICKSLATE_MAX_IMAGE_BYTES] = {0}, image[WICKSLATE_MAX_IMAGE_BYTES] = {0};
     uint32_t answer = end_state(variant, &trace, kept, image_bytes);
     if (answer != WICKSLATE_DONE)
         return refused(name, answer);
@@ -98,7 +98,7 @@ static int compare(const char *name, uint32_t variant, size_t image_bytes, struc
     if (answer != WICKSLATE_DONE)
         return refused(name, answer);
     printf("%s: the last switch changed: %s end state\n", name,
-           memcmp(image, kept, image_bytes) == 0 ? "the same" : "another");
+           memcmp(image, kept, image_bytes) == 0 ? "the same" : "a different");
     return 0;
 }
 

@@ -20,8 +20,8 @@ enum {
     IMAGE_BYTES = WICKSLATE_PHOTON_256_IMAGE_BYTES,
     BLOCK_BYTES = WICKSLATE_PHOTON_256_BLOCK_BYTES,
     PIECE_BYTES = 64,
-    MOST_BYTES = 4096, /* what this program takes of a file */
-    PLACE = 12         /* the block that it spoils */
+    MAX_BYTES = 4096, /* of a file, for this program */
+    PLACE = 12        /* the block that it spoils */
 };
 
 static int complain(const char *what)
@@ -76,14 +76,14 @@ static int keep_end_state(FILE *file, uint8_t kept[IMAGE_BYTES])
 static int is_kept(const uint8_t *message, size_t length, const uint8_t kept[IMAGE_BYTES])
 {
     uint8_t image[IMAGE_BYTES] = {0};
-    uint32_t answer = wickslate_whole(VARIANT, message, length, WICKSLATE_END_STATE, image, sizeof image);
+    uint32_t answer = wickslate_hash(VARIANT, message, length, WICKSLATE_END_STATE, image, sizeof image);
     return answer == WICKSLATE_DONE && memcmp(image, kept, IMAGE_BYTES) == 0;
 }
 
 /* Reads the file again, spoils a block of it, and mends it. */
 static int mend_block(FILE *file, const uint8_t kept[IMAGE_BYTES])
 {
-    static uint8_t message[MOST_BYTES + 1];
+    static uint8_t message[MAX_BYTES + 1];
     uint8_t block[BLOCK_BYTES] = {0};
     uint8_t *spoilt = message + PLACE * BLOCK_BYTES;
     uint32_t answer;
@@ -92,7 +92,7 @@ static int mend_block(FILE *file, const uint8_t kept[IMAGE_BYTES])
     length = fread(message, 1, sizeof message, file);
     if (ferror(file))
         return complain("the file cannot be read");
-    if (length > MOST_BYTES)
+    if (length > MAX_BYTES)
         return complain("the file is longer than this program takes");
     if (length < (PLACE + 1) * BLOCK_BYTES)
         return complain("the file has no such block");
@@ -100,7 +100,7 @@ static int mend_block(FILE *file, const uint8_t kept[IMAGE_BYTES])
     for (size_t k = 0; k < BLOCK_BYTES; k++)
         spoilt[k] ^= 0xff;
     if (!is_kept(message, length, kept))
-        printf("block %d spoilt: another end state\n", (int)PLACE);
+        printf("block %d spoilt: a different end state\n", (int)PLACE);
 
     answer = wickslate_recover(VARIANT, message, length, PLACE, kept, IMAGE_BYTES, block, sizeof block);
     if (answer != WICKSLATE_DONE)

@@ -28,7 +28,7 @@ const VARIANT: u32 = 4;
 const IMAGE_BYTES: usize = 32;
 const BLOCK_BYTES: usize = 4;
 
-/// What [`wickslate::whole`] is asked for.
+/// What [`wickslate::hash`] is asked for.
 const END_STATE: u32 = 1;
 
 /// The block that is spoilt.
@@ -69,13 +69,13 @@ fn end_state_of_file(path: &Path) -> Result<[u8; IMAGE_BYTES], Box<dyn Error>> {
 /// The end state of a message in one call.
 fn end_state(message: &[u8]) -> Result<[u8; IMAGE_BYTES], String> {
     let mut image = [0; IMAGE_BYTES];
-    let answer = wickslate::whole(VARIANT, message, END_STATE, &mut image);
-    done("whole", answer)?;
+    let answer = wickslate::hash(VARIANT, message, END_STATE, &mut image);
+    done("hash", answer)?;
     Ok(image)
 }
 
 /// The block at a place of a message that ended in this state. What the
-/// message has there does not count.
+/// message has there has no effect.
 fn lost_block(message: &[u8], place: usize, image: &[u8]) -> Result<[u8; BLOCK_BYTES], String> {
     let mut block = [0; BLOCK_BYTES];
     let answer = wickslate::recover(VARIANT, message, place, image, &mut block);
@@ -93,7 +93,7 @@ fn run(path: &Path) -> Result<(), Box<dyn Error>> {
     let spoilt = spoilt.ok_or("the file has no such block")?;
     spoilt.iter_mut().for_each(|byte| *byte ^= 0xff);
     if end_state(&message)? != kept {
-        println!("block {PLACE} spoilt: another end state");
+        println!("block {PLACE} spoilt: a different end state");
     }
 
     let block = lost_block(&message, PLACE, &kept)?;

@@ -28,7 +28,7 @@ number, and the digest of the axis's table, as ./digest prints it:
    258 spongent-88 b9729716115fee55b0a082
 
 Lines may stand in any order; in the manifest the axes rise. Empty lines and lines
-that begin with # are passed over. If any line is bad, all bad ones are told by
+that begin with # are skipped. If any line is bad, all bad ones are told by
 their numbers and nothing is written; nor is it for a text without an axis. From
 what print prints, write makes the same manifest again.
 
@@ -37,7 +37,7 @@ file cannot be read or written; 2, wrong arguments.
 ";
 
 const RECORD_BYTES: usize = 35;
-const MOST_RECORDS: usize = 512;
+const MAX_RECORDS: usize = 512;
 
 /// The name and the digest bytes of variants 1 to 11.
 const VARIANTS: [(&str, usize); 11] = [
@@ -122,9 +122,9 @@ fn take(records: &mut Records, line: &[u8], number: usize) -> Result<(), String>
         return Err(format!("axis {axis} is on line {earlier} already"));
     }
     records.insert(axis, (number, record));
-    // Told once, and not again for every axis behind it.
-    if records.len() == MOST_RECORDS + 1 {
-        return Err(format!("more than {MOST_RECORDS} axes"));
+    // Told once, and not again for every axis after it.
+    if records.len() == MAX_RECORDS + 1 {
+        return Err(format!("more than {MAX_RECORDS} axes"));
     }
     Ok(())
 }
@@ -173,16 +173,16 @@ fn read_text(path: &Path) -> io::Result<Vec<u8>> {
 
 /// The bytes of a manifest; of one that is too long, a byte too many.
 fn read_list(path: &Path) -> io::Result<Vec<u8>> {
-    let most = (MOST_RECORDS * RECORD_BYTES) as u64;
+    let max = (MAX_RECORDS * RECORD_BYTES) as u64;
     let mut list = Vec::new();
-    File::open(path)?.take(most + 1).read_to_end(&mut list)?;
+    File::open(path)?.take(max + 1).read_to_end(&mut list)?;
     Ok(list)
 }
 
-/// Gives a file these bytes. They are written to another one beside it, which
+/// Gives a file these bytes. They are written to a new one beside it, which
 /// then takes its place, so that a failure leaves the file as it was.
 fn replace(path: &Path, bytes: &[u8]) -> io::Result<()> {
-    // Where a link to a file is named, that file is meant.
+    // If a link to a file is named, that file is meant.
     let path = fs::canonicalize(path).unwrap_or_else(|_| path.to_path_buf());
     if path.exists() && !path.is_file() {
         return Err(io::Error::other("not a file"));
@@ -248,7 +248,7 @@ fn main() -> ExitCode {
     match told {
         Ok(()) => ExitCode::SUCCESS,
         Err(complaints) => {
-            // Where nobody listens the status still tells.
+            // If nobody listens, the status still tells.
             let _ = io::stderr().write_all(complaints.as_bytes());
             ExitCode::from(status)
         }

@@ -8,7 +8,7 @@
  * Each line of the file has 24 bytes: `Bar 12, 5.80 m, 0.3 m/s`.
  *
  * What is hashed is the number of entries, the list, and the segments. So a
- * list that cuts the same bytes otherwise has another message: this is proved,
+ * list that cuts the same bytes otherwise has a different message: this is proved,
  * and that the end state of this one differs is seen here. Of a changed byte
  * that lies in one block, as each does in this variant, it is proved too.
  *
@@ -23,11 +23,11 @@ enum {
     VARIANT = WICKSLATE_PHOTON_256,
     IMAGE_BYTES = WICKSLATE_PHOTON_256_IMAGE_BYTES,
     LINE_BYTES = 24,
-    HEIGHT = 8, /* where a line has its height, and how long that is */
+    HEIGHT = 8, /* the offset of the height in a line, and its length */
     HEIGHT_BYTES = 8,
     SPEED = 16,
     SPEED_BYTES = 7,
-    MOST_LINES = 100 /* what this program takes of a file */
+    MAX_LINES = 100 /* of a file, for this program */
 };
 
 static int complain(const char *what)
@@ -70,7 +70,7 @@ static size_t make_list(uint8_t *list, size_t lines)
 static uint32_t over_list(const uint8_t *list, size_t list_length, const uint8_t *bars, size_t length,
                           uint8_t image[IMAGE_BYTES])
 {
-    return wickslate_digest_list(VARIANT, list, list_length, bars, length, WICKSLATE_END_STATE, image, IMAGE_BYTES);
+    return wickslate_hash_list(VARIANT, list, list_length, bars, length, WICKSLATE_END_STATE, image, IMAGE_BYTES);
 }
 
 /* Takes the segments in turn. Gives the first refusal, if any. */
@@ -112,14 +112,14 @@ static int tell(const char *what, uint32_t answer, const uint8_t image[IMAGE_BYT
 {
     if (answer != WICKSLATE_DONE)
         return refused(what, answer);
-    printf("%s: %s end state\n", what, memcmp(image, kept, IMAGE_BYTES) == 0 ? "the same" : "another");
+    printf("%s: %s end state\n", what, memcmp(image, kept, IMAGE_BYTES) == 0 ? "the same" : "a different");
     return 0;
 }
 
-/* Keeps the end state of the bars, changes them and the list, and looks again. */
+/* Keeps the end state of the bars, changes them and the list, and compares. */
 static int compare(uint8_t *bars, size_t length)
 {
-    uint8_t list[2 * MOST_LINES * WICKSLATE_ENTRY_BYTES] = {0};
+    uint8_t list[2 * MAX_LINES * WICKSLATE_ENTRY_BYTES] = {0};
     uint8_t kept[IMAGE_BYTES] = {0}, image[IMAGE_BYTES] = {0};
     size_t list_length = make_list(list, length / LINE_BYTES);
     uint32_t answer = over_list(list, list_length, bars, length, kept);
@@ -150,7 +150,7 @@ static int compare(uint8_t *bars, size_t length)
 
 int main(int argc, char **argv)
 {
-    uint8_t bars[MOST_LINES * LINE_BYTES + 1] = {0};
+    uint8_t bars[MAX_LINES * LINE_BYTES + 1] = {0};
     size_t length;
     FILE *file;
     int failed;

@@ -1,4 +1,5 @@
-# The common part of the scripts around a proved program, which set root, the folder of the tree, and name, the program's, and read this file.
+# The common part of the scripts around a proved program, which set root, the folder of the tree, and name, the
+# program's, and read this file.
 
 program=$root/target/bin/$name
 
@@ -10,7 +11,7 @@ fail() {
     exit "$status"
 }
 
-# Tells whether descriptor 0 is open. A pipe or a file that is opened takes its place where it is not.
+# Tells whether descriptor 0 is open. If it is not, a pipe or a file that is opened takes its place.
 has_input() {
     { : 3<&0; } 2>/dev/null
 }
@@ -20,9 +21,10 @@ is_current() {
     [[ -x $program && -f $checked && -z $(find "$root/crates" "$root/crates.txt" -newer "$checked" -print -quit) ]]
 }
 
-# Proves and builds the program where it is not current. The stamp is as old as the beginning of the proof, so that a source which changes meanwhile is
-# proved next time. Scripts that are called at once prove one after the other, for rt works in one folder: of three that ran together one was seen to fail
-# after it had proved again what was proved. Where there is no flock they are not held apart.
+# Proves and builds the program if it is not current. The stamp is as old as the beginning of the proof, so that a
+# source which changes meanwhile is proved next time. Scripts that are called at once prove one after the other, for rt
+# works in one folder: of three that ran together one was seen to fail after it had proved again what was proved.
+# Without flock they are not held apart.
 prepare() {
     local checked=$root/target/$name.checked log stamp turn
     if is_current; then

@@ -9,7 +9,7 @@ use wickslate_reference::manifest;
 use wickslate_reference::running::{self, Running};
 use wickslate_reference::segments::{self, Refusal};
 
-use crate::lent::{filled_behind, only_read, Bytes, Value};
+use crate::lent::{filled_tail, only_read, Bytes, Value};
 use crate::wickslate::{self, Answer, Cursor, Hasher};
 
 /// The answer of a refusal that names an entry.
@@ -30,7 +30,7 @@ pub fn fields(h: &Hasher) -> Running {
 
 /// A running hash with these fields.
 pub fn hasher(fields: &Running) -> Hasher {
-    filled_behind(Hasher {
+    filled_tail(Hasher {
         variant: fields.variant,
         stage: fields.stage,
         total: fields.total,
@@ -46,7 +46,7 @@ fn expect_hasher(
     (refusal, expected): (u8, Running),
     call: impl FnOnce(&mut Hasher) -> Answer,
 ) -> (u32, Hasher) {
-    let before = filled_behind(before);
+    let before = filled_tail(before);
     let mut lent = Value::new(before);
     let Answer(answer) = call(lent.lend());
     let after = lent.take_back();
@@ -55,7 +55,7 @@ fn expect_hasher(
     if answer != 0 {
         assert_eq!(after, before, "refusal {answer} changed the running hash");
     }
-    (answer, filled_behind(after))
+    (answer, filled_tail(after))
 }
 
 /// Makes a call that lends an output holding `before`, and expects this of
@@ -98,7 +98,7 @@ pub fn update(h: Hasher, piece: &[u8]) -> (u32, Hasher) {
     })
 }
 
-/// Takes a piece of whose last byte so many bits count.
+/// Takes a piece whose last byte contributes `bits` bits.
 pub fn update_bits(h: Hasher, piece: &[u8], bits: u32) -> (u32, Hasher) {
     let expected = fields(&h).update_bits(piece, bits);
     only_read(&[piece], || {
@@ -118,13 +118,9 @@ pub fn read(h: Hasher, end_state: bool, before: &[u8]) -> (u32, Vec<u8>) {
         true => wickslate::end_state,
         false => wickslate::digest,
     };
-    let lent = Value::new(filled_behind(h));
+    let lent = Value::new(filled_tail(h));
     let answer = expect_bytes(before, expected, |out| call(lent.get(), out));
-    assert_eq!(
-        lent.take_back(),
-        filled_behind(h),
-        "reading changes nothing"
-    );
+    assert_eq!(lent.take_back(), filled_tail(h), "reading changes nothing");
     answer
 }
 
@@ -137,20 +133,20 @@ fn with_result(before: &[u8], result: Result<Vec<u8>, u8>) -> (u32, Vec<u8>) {
 }
 
 /// A whole message, into an output holding `before`.
-pub fn whole(variant: u32, message: &[u8], wanted: u32, before: &[u8]) -> (u32, Vec<u8>) {
+pub fn hash(variant: u32, message: &[u8], wanted: u32, before: &[u8]) -> (u32, Vec<u8>) {
     let result = match wanted {
         0 => reference::digest(variant, message),
         _ => reference::end_state(variant, message),
     };
     only_read(&[message], || {
         expect_bytes(before, with_result(before, result), |out| {
-            wickslate::whole(variant, message, wanted, out)
+            wickslate::hash(variant, message, wanted, out)
         })
     })
 }
 
-/// The same for a message of whose last byte so many bits count.
-pub fn whole_bits(
+/// The same for a message whose last byte contributes `bits` bits.
+pub fn hash_bits(
     variant: u32,
     message: &[u8],
     bits: u32,
@@ -163,7 +159,7 @@ pub fn whole_bits(
     };
     only_read(&[message], || {
         expect_bytes(before, with_result(before, result), |out| {
-            wickslate::whole_bits(variant, message, bits, wanted, out)
+            wickslate::hash_bits(variant, message, bits, wanted, out)
         })
     })
 }
@@ -214,7 +210,7 @@ pub fn recover(
     })
 }
 
-/// The same for a message of whose last byte so many bits count.
+/// The same for a message whose last byte contributes `bits` bits.
 pub fn recover_bits(
     variant: u32,
     message: &[u8],
@@ -290,7 +286,7 @@ pub fn check_entry(list: &[u8], buffer: &[u8], k: usize) -> u32 {
 }
 
 /// The result over a list of segments, into an output holding `before`.
-pub fn digest_list(
+pub fn hash_list(
     variant: u32,
     list: &[u8],
     buffer: &[u8],
@@ -301,14 +297,14 @@ pub fn digest_list(
     let result = segments::digest_list(variant, list, buffer, wanted != 0, &mut out);
     only_read(&[list, buffer], || {
         expect_bytes(before, (answer(result), out), |out| {
-            wickslate::digest_list(variant, list, buffer, wanted, out)
+            wickslate::hash_list(variant, list, buffer, wanted, out)
         })
     })
 }
 
 /// Whether a manifest is sound.
-pub fn check_manifest(list: &[u8]) -> u32 {
-    let Answer(given) = only_read(&[list], || wickslate::check_manifest(list));
-    assert_eq!(given, manifest::check(list).err().unwrap_or(0).into());
+pub fn check_manifest(bytes: &[u8]) -> u32 {
+    let Answer(given) = only_read(&[bytes], || wickslate::check_manifest(bytes));
+    assert_eq!(given, manifest::check(bytes).err().unwrap_or(0).into());
     given
 }

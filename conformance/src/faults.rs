@@ -33,7 +33,7 @@ pub struct Call {
     pub h: Hasher,
     /// Also a piece, and the buffer of a list.
     pub message: &'static [u8],
-    /// How many bits of its last byte count, where that is said.
+    /// The number of bits that its last byte contributes, if a call says it.
     pub bits: u32,
     /// That of the lost block.
     pub place: usize,
@@ -81,7 +81,7 @@ impl Call {
         }
     }
 
-    /// The same about a message of whose last byte so many bits count.
+    /// The same about a message whose last byte contributes `bits` bits.
     pub fn with_bits(self, bits: u32) -> Call {
         let end = end_state_bits(self.number, self.message, bits);
         Call {
@@ -172,8 +172,8 @@ fn still_open() -> Vec<Fault<'static>> {
     vec![fault(3, |call| call.h.stage = 0)]
 }
 
-/// Numbers that are none, one of which looks like 3 in its low byte, and one
-/// that has no byte.
+/// Numbers that are no bit numbers, one of which has 3 as its low byte, and one
+/// that comes with no byte.
 fn bad_bit_number() -> Vec<Fault<'static>> {
     let mut faults: Vec<_> = [0, 9, 256 + 3, u32::MAX]
         .map(|bits| fault(15, move |call| call.bits = bits))
@@ -182,8 +182,8 @@ fn bad_bit_number() -> Vec<Fault<'static>> {
     faults
 }
 
-/// Running hashes that ended a bit behind a byte, a bit before one, and a bit
-/// before the limit, where every piece is too long as well.
+/// Running hashes that ended a bit after a byte, a bit before one, and a bit
+/// before the limit, when every piece is too long as well.
 fn ended_inside(variant: &Variant) -> [Hasher; 3] {
     let mut random = Random::of_test("ended inside");
     [8 * 11 + 1, 8 * 11 + 7, BIT_LIMIT as u32 - 1]
@@ -252,8 +252,7 @@ fn not_sponge() -> Vec<Fault<'static>> {
     vec![fault(17, |call| call.number = lesamnta_lw().number)]
 }
 
-/// The first place of several, and the last but one, where only the last will
-/// do.
+/// The first place of several, and the last but one, if only the last will do.
 fn not_last(variant: &Variant) -> Vec<Fault<'_>> {
     if variant.is_sponge() {
         return Vec::new();
@@ -304,8 +303,8 @@ fn bad_manifest(variant: &Variant) -> Vec<Fault<'_>> {
         fault(12, |call| call.manifest.truncate(2 * RECORD_BYTES - 1)),
         fault(12, |call| call.manifest.push(0)),
         fault(12, |call| {
-            let behind = AXIS + 2..AXIS + RECORD_LIMIT as u16 + 1;
-            call.manifest.extend(filled_manifest(variant, behind));
+            let after = AXIS + 2..AXIS + RECORD_LIMIT as u16 + 1;
+            call.manifest.extend(filled_manifest(variant, after));
         }),
     ]
 }
@@ -374,14 +373,14 @@ pub fn of_read(variant: &Variant, wanted: u32) -> Vec<Fault<'_>> {
     row([malformed(variant), still_open(), short])
 }
 
-/// The faults of `whole`.
-pub fn of_whole(variant: &Variant, wanted: u32) -> Vec<Fault<'_>> {
+/// The faults of `hash`.
+pub fn of_hash(variant: &Variant, wanted: u32) -> Vec<Fault<'_>> {
     let short = too_short(result_bytes(variant, wanted));
     row([unknown_variant(variant), too_long(), short])
 }
 
-/// The faults of `whole_bits`.
-pub fn of_whole_bits(variant: &Variant, wanted: u32) -> Vec<Fault<'_>> {
+/// The faults of `hash_bits`.
+pub fn of_hash_bits(variant: &Variant, wanted: u32) -> Vec<Fault<'_>> {
     let short = too_short(result_bytes(variant, wanted));
     let unknown = unknown_variant(variant);
     row([unknown, bad_bit_number(), too_long(), short])
@@ -429,8 +428,8 @@ pub fn of_check_entry() -> Vec<Fault<'static>> {
     row([bad_list(), no_such_entry(), misordered(), past_end()])
 }
 
-/// The faults of `digest_list`.
-pub fn of_digest_list(variant: &Variant, wanted: u32) -> Vec<Fault<'_>> {
+/// The faults of `hash_list`.
+pub fn of_hash_list(variant: &Variant, wanted: u32) -> Vec<Fault<'_>> {
     row([
         unknown_variant(variant),
         bad_list(),

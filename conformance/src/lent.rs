@@ -87,7 +87,7 @@ pub fn only_read<T>(inputs: &[&[u8]], call: impl FnOnce() -> T) -> T {
     answer
 }
 
-/// The running hash with a known byte wherever it has no field.
-pub fn filled_behind(h: Hasher) -> Hasher {
+/// The running hash with a known byte in the bytes after its fields.
+pub fn filled_tail(h: Hasher) -> Hasher {
     h.filled(GUARD)
 }

@@ -1,9 +1,9 @@
 //! The archive of the proved library, held against the Rust version built
 //! apart: [`wickslate`] calls the archive, [`compare`] makes the same call on
-//! both sides and looks at every lent byte, [`stack`] makes it on a stack of
+//! both sides and compares every lent byte, [`stack`] makes it on a stack of
 //! its own, [`programs`] runs the programs, [`header`] reads the C header,
 //! [`random`], [`make`] and [`faults`] give the tests their inputs, [`chains`] are
-//! digests of digests, [`speed`] times both sides by turns, [`rows`] are what a
+//! digests of digests, [`speed`] times both sides in alternation, [`rows`] are what a
 //! measurement prints.
 
 #![warn(missing_docs)]

@@ -10,7 +10,7 @@ use wickslate_reference::running::{Running, HELD_BYTES};
 use wickslate_reference::{digest, Family, Variant, BIT_LIMIT, VARIANTS};
 
 use crate::compare::hasher;
-use crate::lent::filled_behind;
+use crate::lent::filled_tail;
 use crate::random::Random;
 use crate::wickslate::Hasher;
 
@@ -49,7 +49,7 @@ pub type Entry = (u32, u32);
 
 /// A running hash as it is before the first start.
 pub fn none() -> Hasher {
-    filled_behind(Hasher::default())
+    filled_tail(Hasher::default())
 }
 
 /// Any one of the variants.
@@ -72,8 +72,8 @@ pub fn lesamnta_lw() -> &'static Variant {
     &VARIANTS[10]
 }
 
-/// The places of a message of so many bits at which a block can be found again:
-/// all of a sponge, and of Lesamnta-LW the last.
+/// The places of a message of `bits` bits at which a block can be found again:
+/// all for a sponge, and for Lesamnta-LW the last.
 pub fn places(variant: &Variant, bits: usize) -> Range<usize> {
     let count = block_count(variant, bits);
     match variant.is_sponge() {
@@ -101,12 +101,12 @@ pub fn result_bytes(variant: &Variant, wanted: u32) -> usize {
     }
 }
 
-/// The bits of a message of some bytes, of the last of which so many count.
+/// The number of bits of a message whose last byte contributes `bits` bits.
 pub fn bits_of(message: &[u8], bits: u32) -> usize {
     8 * (message.len() - 1) + bits as usize
 }
 
-/// The bits of a last byte that count.
+/// The bits that a last byte contributes.
 pub fn counting(family: Family, bits: u32) -> u8 {
     match family {
         Family::Photon | Family::LesamntaLw => 0xff << (8 - bits),
@@ -115,7 +115,7 @@ pub fn counting(family: Family, bits: u32) -> u8 {
 }
 
 /// Lengths of messages that end a byte before a block does, with it, and a
-/// byte behind it, for blocks 1 to 9 and some more behind.
+/// byte after it, for blocks 1 to 9 and some later ones.
 pub fn block_edges(variant: &Variant) -> Vec<usize> {
     let ends = [1, 2, 3, 4, 5, 6, 7, 8, 9, 63, 64, 65, 127, 128, 129];
     let end = |blocks: usize| blocks * variant.block_bits / 8;
@@ -209,12 +209,12 @@ pub fn list_message(entries: &[Entry], buffer: &[u8]) -> Vec<u8> {
         .collect()
 }
 
-/// Up to so many entries that name segments of a buffer, in order. Many
-/// touch, and some are empty.
-pub fn entries(random: &mut Random, most: usize, buffer_bytes: usize) -> Vec<Entry> {
+/// Up to `max` entries that name segments of a buffer, in order. Many touch,
+/// and some are empty.
+pub fn entries(random: &mut Random, max: usize, buffer_bytes: usize) -> Vec<Entry> {
     let mut free = 0;
     let mut entries = Vec::new();
-    for _ in 0..random.below(most + 1) {
+    for _ in 0..random.below(max + 1) {
         let gap = random.pick(&[0, 0, 1, 3]).min(buffer_bytes - free);
         let left = buffer_bytes - free - gap;
         let length = random.pick(&[0, 1, 2, 5, 11]).min(left);
@@ -224,7 +224,7 @@ pub fn entries(random: &mut Random, most: usize, buffer_bytes: usize) -> Vec<Ent
     entries
 }
 
-/// A record of a manifest, with zeros behind the digest.
+/// A record of a manifest, with zeros after the digest.
 pub fn record(axis: u16, variant: u8, digest: &[u8]) -> Vec<u8> {
     let mut record = [&axis.to_be_bytes()[..], &[variant], digest].concat();
     record.resize(RECORD_BYTES, 0);
@@ -247,11 +247,11 @@ pub fn table(axis: u16, contents: &[u8]) -> Vec<u8> {
     [&header(axis, contents.len() as u32), contents].concat()
 }
 
-/// A manifest of sound records for some axes, and what their tables should be.
-/// Many axes have a number beside that of another.
-pub fn manifest(random: &mut Random, most: usize) -> (Vec<u8>, Vec<(u16, Vec<u8>)>) {
+/// A manifest of sound records for up to `max` axes, and what their tables
+/// should be. Many axes have a number next to that of a different one.
+pub fn manifest(random: &mut Random, max: usize) -> (Vec<u8>, Vec<(u16, Vec<u8>)>) {
     let mut tables = BTreeMap::new();
-    for _ in 0..random.below(most + 1) {
+    for _ in 0..random.below(max + 1) {
         let near = random.below(600) as u16;
         let any = u16::from_be_bytes(random.array());
         let axis = random.pick(&[0, 1, 255, 256, 257, 65_535, near, near, any, any]);

@@ -49,7 +49,7 @@ pub fn fed(command: Command, pieces: Vec<Vec<u8>>) -> Output {
     output
 }
 
-/// The most memory that a program which still runs has had so far, in KiB.
+/// The maximum memory that a program which still runs has had so far, in KiB.
 pub fn peak(child: &Child) -> usize {
     let path = format!("/proc/{}/status", child.id());
     let status = fs::read_to_string(path).expect("a program that runs");

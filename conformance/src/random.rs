@@ -20,7 +20,7 @@ impl Random {
         }
     }
 
-    /// So many bytes.
+    /// The given number of bytes.
     pub fn bytes(&mut self, count: usize) -> Vec<u8> {
         self.generator.bytes(count)
     }
@@ -35,7 +35,7 @@ impl Random {
         (u64::from_le_bytes(self.array()) % bound as u64) as usize
     }
 
-    /// True once in so many times.
+    /// True once in `times` times, on average.
     pub fn once_in(&mut self, times: usize) -> bool {
         self.below(times) == 0
     }
@@ -45,15 +45,15 @@ impl Random {
         values[self.below(values.len())]
     }
 
-    /// Cuts a message into pieces of fewer than `most` bytes, some of them
+    /// Cuts a message into pieces of fewer than `bound` bytes, some of them
     /// empty.
-    pub fn cut<'a>(&mut self, message: &'a [u8], most: usize) -> Vec<&'a [u8]> {
+    pub fn cut<'a>(&mut self, message: &'a [u8], bound: usize) -> Vec<&'a [u8]> {
         let mut pieces = Vec::new();
         let mut rest = message;
         while !rest.is_empty() {
-            let (piece, behind) = rest.split_at(self.below(most).min(rest.len()));
+            let (piece, after) = rest.split_at(self.below(bound).min(rest.len()));
             pieces.push(piece);
-            rest = behind;
+            rest = after;
         }
         pieces
     }

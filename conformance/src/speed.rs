@@ -1,5 +1,5 @@
 //! Times of the archive beside those of the Rust version: the same work on both
-//! sides, by turns, and the best of several repetitions of each. Times are the
+//! sides, in alternation, and the best of several repetitions of each. Times are the
 //! processor's for this thread, so that other work on the machine counts less.
 
 use std::ffi::{c_int, c_long};
@@ -9,10 +9,10 @@ use wickslate_reference::{digest, running, Variant};
 
 use crate::wickslate::{self, Hasher};
 
-/// A repetition goes on for so long, so that a clock's step does not show.
+/// The least time of a repetition, so that a clock's step does not show.
 const LEAST: Duration = Duration::from_millis(2);
 
-/// How much is repeated: so many times at the least, and for so long, so that
+/// How much is repeated: a least number of times and a least time, so that
 /// short work is repeated more often.
 #[derive(Clone, Copy)]
 pub struct Effort {
@@ -44,11 +44,11 @@ pub fn message(bytes: usize) -> Vec<u8> {
 
 /// A message in one call of the archive: its digest.
 pub fn hash(variant: &Variant, message: &[u8], out: &mut [u8]) {
-    assert!(wickslate::whole(variant.number, message, 0, out).is_done());
+    assert!(wickslate::hash(variant.number, message, 0, out).is_done());
 }
 
 /// A message in one call.
-pub fn of_whole(variant: &Variant, message: &[u8], effort: Effort) -> Speed {
+pub fn of_one_call(variant: &Variant, message: &[u8], effort: Effort) -> Speed {
     speed(
         variant,
         message,
@@ -58,7 +58,7 @@ pub fn of_whole(variant: &Variant, message: &[u8], effort: Effort) -> Speed {
     )
 }
 
-/// A message in pieces of so many bytes, on both sides through a running hash.
+/// A message in pieces of `bytes` bytes, on both sides through a running hash.
 pub fn of_pieces(variant: &Variant, message: &[u8], bytes: usize, effort: Effort) -> Speed {
     speed(
         variant,
@@ -105,7 +105,7 @@ fn speed(
     }
 }
 
-/// The least time of each call, in nanoseconds, with the calls by turns.
+/// The least time of each call, in nanoseconds, with the calls in alternation.
 pub fn best<const N: usize>(mut calls: [&mut dyn FnMut(); N], effort: Effort) -> [f64; N] {
     let begun = processor_time();
     let mut least = [f64::INFINITY; N];

@@ -28,7 +28,7 @@ impl Answer {
 }
 
 /// The running hash as the archive lays it out, with a name for the bytes that
-/// belong to no field, so that all 60 can be set and looked at.
+/// belong to no field, so that all 60 can be set and compared.
 #[repr(C)]
 #[derive(Clone, Copy, Debug, PartialEq, Eq)]
 pub struct Hasher {
@@ -38,12 +38,12 @@ pub struct Hasher {
     pub variant: u8,
     /// 0 open, 1 closed.
     pub stage: u8,
-    /// The state's image, and zeros.
+    /// The state's image, then zeros.
     pub state: [u8; 36],
-    /// The bits that fill no block yet, and zeros.
+    /// The bits that fill no block yet, then zeros.
     pub held: [u8; 16],
-    /// No field.
-    pub behind: [u8; 2],
+    /// The two bytes after the fields, which mean nothing.
+    pub tail: [u8; 2],
 }
 
 impl Default for Hasher {
@@ -55,16 +55,16 @@ impl Default for Hasher {
             stage: 0,
             state: [0; 36],
             held: [0; 16],
-            behind: [0; 2],
+            tail: [0; 2],
         }
     }
 }
 
 impl Hasher {
-    /// The same fields, with this byte wherever there is none.
+    /// The same fields, with this byte in the tail.
     pub fn filled(self, byte: u8) -> Hasher {
         Hasher {
-            behind: [byte; 2],
+            tail: [byte; 2],
             ..self
         }
     }
@@ -77,7 +77,7 @@ const _: () = {
     assert!(offset_of!(Hasher, stage) == 5);
     assert!(offset_of!(Hasher, state) == 6);
     assert!(offset_of!(Hasher, held) == 42);
-    assert!(offset_of!(Hasher, behind) == 58);
+    assert!(offset_of!(Hasher, tail) == 58);
 };
 
 /// A segment list and the number of its next entry, as the archive lays them
@@ -126,7 +126,7 @@ mod archive {
         pub fn wickslate_finish(h: *mut Hasher) -> Answer;
         pub fn wickslate_digest(h: *const Hasher, out: *mut u8, bytes: usize) -> Answer;
         pub fn wickslate_end_state(h: *const Hasher, out: *mut u8, bytes: usize) -> Answer;
-        pub fn wickslate_whole(
+        pub fn wickslate_hash(
             variant: u32,
             message: *const u8,
             message_bytes: usize,
@@ -134,7 +134,7 @@ mod archive {
             out: *mut u8,
             out_bytes: usize,
         ) -> Answer;
-        pub fn wickslate_whole_bits(
+        pub fn wickslate_hash_bits(
             variant: u32,
             message: *const u8,
             message_bytes: usize,
@@ -183,7 +183,7 @@ mod archive {
             buffer_bytes: usize,
             k: usize,
         ) -> Answer;
-        pub fn wickslate_digest_list(
+        pub fn wickslate_hash_list(
             variant: u32,
             list: *const u8,
             list_bytes: usize,
@@ -193,13 +193,13 @@ mod archive {
             out: *mut u8,
             out_bytes: usize,
         ) -> Answer;
-        pub fn wickslate_check_manifest(list: *const u8, list_bytes: usize) -> Answer;
+        pub fn wickslate_check_manifest(manifest: *const u8, manifest_bytes: usize) -> Answer;
     }
 }
 
 // In every call below the addresses come from references and slices, which
-// are never null, are aligned and set, and do not overlap where one can be
-// written. An empty slice has an address too.
+// are never null, are aligned and initialised, and do not overlap if one can
+// be written. An empty slice has an address too.
 
 /// Begins a message: refusal 1.
 pub fn start(h: &mut Hasher, variant: u32) -> Answer {
@@ -213,8 +213,9 @@ pub fn update(h: &mut Hasher, piece: &[u8]) -> Answer {
     unsafe { archive::wickslate_update(h, piece.as_ptr(), piece.len()) }
 }
 
-/// Takes a piece of whose last byte `bits` bits count, the high ones for PHOTON
-/// and Lesamnta-LW and the low ones for SPONGENT: refusals 2, 3, 15, 16, 4.
+/// Takes a piece whose last byte contributes `bits` bits, the high ones for
+/// PHOTON and Lesamnta-LW and the low ones for SPONGENT: refusals 2, 3, 15, 16,
+/// 4.
 pub fn update_bits(h: &mut Hasher, piece: &[u8], bits: u32) -> Answer {
     // SAFETY: see above.
     unsafe { archive::wickslate_update_bits(h, piece.as_ptr(), piece.len(), bits) }
@@ -238,12 +239,12 @@ pub fn end_state(h: &Hasher, out: &mut [u8]) -> Answer {
     unsafe { archive::wickslate_end_state(h, out.as_mut_ptr(), out.len()) }
 }
 
-/// A whole message, its digest or if `wanted` is not 0 its end state:
-/// refusals 1, 4, 5.
-pub fn whole(variant: u32, message: &[u8], wanted: u32, out: &mut [u8]) -> Answer {
+/// Hashes a whole message: its digest or, if `wanted` is not 0, its end state.
+/// Refusals 1, 4, 5.
+pub fn hash(variant: u32, message: &[u8], wanted: u32, out: &mut [u8]) -> Answer {
     // SAFETY: see above.
     unsafe {
-        archive::wickslate_whole(
+        archive::wickslate_hash(
             variant,
             message.as_ptr(),
             message.len(),
@@ -254,12 +255,12 @@ pub fn whole(variant: u32, message: &[u8], wanted: u32, out: &mut [u8]) -> Answe
     }
 }
 
-/// A whole message of whose last byte `bits` bits count, as for
+/// Hashes a whole message whose last byte contributes `bits` bits, as for
 /// [`update_bits`]: refusals 1, 15, 4, 5.
-pub fn whole_bits(variant: u32, message: &[u8], bits: u32, wanted: u32, out: &mut [u8]) -> Answer {
+pub fn hash_bits(variant: u32, message: &[u8], bits: u32, wanted: u32, out: &mut [u8]) -> Answer {
     // SAFETY: see above.
     unsafe {
-        archive::wickslate_whole_bits(
+        archive::wickslate_hash_bits(
             variant,
             message.as_ptr(),
             message.len(),
@@ -314,7 +315,7 @@ pub fn recover(variant: u32, message: &[u8], place: usize, image: &[u8], out: &m
     }
 }
 
-/// The lost block of a message of whose last byte `bits` bits count, as for
+/// The lost block of a message whose last byte contributes `bits` bits, as for
 /// [`update_bits`]: refusals 1, 15, 4, 7, 17, 6, 5, 8.
 pub fn recover_bits(
     variant: u32,
@@ -361,18 +362,12 @@ pub fn check_entry(list: &[u8], buffer: &[u8], k: usize) -> Answer {
     }
 }
 
-/// The digest over a list and its segments, or if `wanted` is not 0 the end
-/// state: refusals 1, 9, 10, 11, 4, 5.
-pub fn digest_list(
-    variant: u32,
-    list: &[u8],
-    buffer: &[u8],
-    wanted: u32,
-    out: &mut [u8],
-) -> Answer {
+/// Hashes a list and its segments: the digest or, if `wanted` is not 0, the end
+/// state. Refusals 1, 9, 10, 11, 4, 5.
+pub fn hash_list(variant: u32, list: &[u8], buffer: &[u8], wanted: u32, out: &mut [u8]) -> Answer {
     // SAFETY: see above.
     unsafe {
-        archive::wickslate_digest_list(
+        archive::wickslate_hash_list(
             variant,
             list.as_ptr(),
             list.len(),
@@ -386,7 +381,7 @@ pub fn digest_list(
 }
 
 /// Whether a manifest is sound: refusals 12, 13, 14.
-pub fn check_manifest(list: &[u8]) -> Answer {
+pub fn check_manifest(manifest: &[u8]) -> Answer {
     // SAFETY: see above.
-    unsafe { archive::wickslate_check_manifest(list.as_ptr(), list.len()) }
+    unsafe { archive::wickslate_check_manifest(manifest.as_ptr(), manifest.len()) }
 }

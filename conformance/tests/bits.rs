@@ -4,7 +4,7 @@
 
 use wickslate_conformance::chains::hexadecimal;
 use wickslate_conformance::compare::{
-    finish, read, recover, recover_bits, start, update, update_bits, whole, whole_bits,
+    finish, hash, hash_bits, read, recover, recover_bits, start, update, update_bits,
 };
 use wickslate_conformance::make::{
     self, bits_of, counting, image, none, result_bytes, sponge, total, variant, well_formed,
@@ -33,8 +33,8 @@ fn begun(variant: &Variant) -> Hasher {
     h
 }
 
-/// The running hash after whole pieces and one of whose last byte so many bits
-/// count.
+/// The running hash after whole pieces and one whose last byte contributes
+/// `bits` bits.
 fn taken(variant: &Variant, pieces: &[&[u8]], last: &[u8], bits: u32) -> Hasher {
     let open = pieces.iter().fold(begun(variant), |h, piece| {
         let (answer, next) = update(h, piece);
@@ -53,16 +53,16 @@ fn expect_whole(variant: &Variant, open: Hasher, message: &[u8], bits: u32) {
     assert_eq!((answer, h.total), (0, open.total));
     for wanted in [0, 1] {
         let given = read(h, wanted != 0, &OUT);
-        let expected = whole_bits(variant.number, message, bits, wanted, &OUT);
+        let expected = hash_bits(variant.number, message, bits, wanted, &OUT);
         assert_eq!((given.0, &given), (0, &expected));
     }
 }
 
 /// Every variant with a message of each length that is asked for, and every
 /// number of bits.
-fn each_ending(random: &mut Random, most: usize, mut call: impl FnMut(&Variant, &[u8], u32)) {
+fn each_ending(random: &mut Random, max: usize, mut call: impl FnMut(&Variant, &[u8], u32)) {
     for variant in &VARIANTS {
-        for bytes in 1..=most {
+        for bytes in 1..=max {
             for bits in 1..=8 {
                 call(variant, &random.bytes(bytes), bits);
             }
@@ -76,7 +76,7 @@ fn whole_messages() {
     each_ending(&mut random, amount(40, 5), |variant, message, bits| {
         for wanted in [0, 1] {
             let out = &OUT[..result_bytes(variant, wanted)];
-            let (answer, _) = whole_bits(variant.number, message, bits, wanted, out);
+            let (answer, _) = hash_bits(variant.number, message, bits, wanted, out);
             assert_eq!(answer, 0);
         }
     });
@@ -111,8 +111,8 @@ fn long_traces() {
         for bits in 1..=8 {
             let bytes = amount(2000, 100) + random.below(100);
             let message = random.bytes(bytes);
-            let most = random.pick(&[9, 70, 900]);
-            let pieces = random.cut(&message, most);
+            let max = random.pick(&[9, 70, 900]);
+            let pieces = random.cut(&message, max);
             let (last, before) = pieces.split_last().expect("a piece");
             expect_whole(variant, taken(variant, before, last, bits), &message, bits);
         }
@@ -120,7 +120,7 @@ fn long_traces() {
 }
 
 /// The bytes that hold the bits of a message that ends inside a byte, the 1
-/// behind them, and zeros.
+/// after them, and zeros.
 fn padded(family: Family, message: &[u8], bits: u32) -> Vec<u8> {
     let (&last, before) = message.split_last().expect("a byte");
     let high = match family {
@@ -163,7 +163,7 @@ fn the_padded_message_in_plain_bytes() {
 #[test]
 fn known_last_blocks() {
     let last = |number: u32, message: &[u8], bits| {
-        let mut image = whole_bits(number, message, bits, 1, &OUT).1;
+        let mut image = hash_bits(number, message, bits, 1, &OUT).1;
         image.truncate(VARIANTS[number as usize - 1].image_bytes());
         assert!(wickslate::unpermute(number, &mut image).is_done());
         image
@@ -185,7 +185,7 @@ fn known_last_blocks() {
     let found = recover_bits(11, &[0xb6, 0x60], 3, 1, &end, &[0; 16]);
     assert_eq!(found, (0, 11_u128.to_be_bytes().into()), "the length");
     let mut empty = vec![0; 11];
-    assert!(wickslate::whole(6, b"", 1, &mut empty).is_done());
+    assert!(wickslate::hash(6, b"", 1, &mut empty).is_done());
     assert!(wickslate::unpermute(6, &mut empty).is_done());
     assert_eq!(empty, spongent(0b1000_0000), "no bit");
 }
@@ -193,12 +193,12 @@ fn known_last_blocks() {
 /// A bit string of each length below 25, the shorter ones the front of the
 /// longer: no two end in the same state.
 #[test]
-fn each_bit_more_is_another_message() {
+fn each_bit_more_is_a_different_message() {
     for variant in &VARIANTS {
-        let mut ends = vec![whole(variant.number, b"", 1, &OUT)];
+        let mut ends = vec![hash(variant.number, b"", 1, &OUT)];
         for bytes in 1..=3 {
             for bits in 1..=8 {
-                ends.push(whole_bits(variant.number, &[0; 3][..bytes], bits, 1, &OUT));
+                ends.push(hash_bits(variant.number, &[0; 3][..bytes], bits, 1, &OUT));
             }
         }
         for (k, end) in ends.iter().enumerate() {
@@ -215,8 +215,8 @@ fn eight_bits_are_all_of_them() {
         for bytes in 1..=amount(20, 5) {
             let message = random.bytes(bytes);
             for wanted in [0, 1] {
-                let with = whole_bits(number, &message, 8, wanted, &OUT);
-                assert_eq!(with, whole(number, &message, wanted, &OUT));
+                let with = hash_bits(number, &message, 8, wanted, &OUT);
+                assert_eq!(with, hash(number, &message, wanted, &OUT));
             }
             let h = well_formed(&mut random, variant, 0, 8 * bytes as u32);
             assert_eq!(update_bits(h, &message, 8), update(h, &message));
@@ -229,7 +229,7 @@ fn eight_bits_are_all_of_them() {
     }
 }
 
-/// Every byte that has the same bits where they count.
+/// Every byte that has the same bits among those that count.
 fn alike(family: Family, byte: u8, bits: u32) -> Vec<u8> {
     let counts = counting(family, bits);
     let alike: Vec<u8> = (0..=255)
@@ -249,8 +249,8 @@ fn bits_that_do_not_count_change_nothing() {
         let place = block_count(variant, bits_of(message, bits)) - 1;
         let all = |message: &[u8]| {
             (
-                whole_bits(number, message, bits, 0, &OUT),
-                whole_bits(number, message, bits, 1, &OUT),
+                hash_bits(number, message, bits, 0, &OUT),
+                hash_bits(number, message, bits, 1, &OUT),
                 update_bits(begun(variant), message, bits),
                 recover_bits(number, message, bits, place, &end, &OUT),
             )
@@ -301,13 +301,13 @@ fn with_other_block(
 /// The image of the end state, read from a running hash that took the message
 /// in random pieces.
 fn end_state(random: &mut Random, variant: &Variant, message: &[u8], bits: u32) -> Vec<u8> {
-    let most = random.pick(&[2, 5, 40]);
-    let pieces = random.cut(message, most);
+    let max = random.pick(&[2, 5, 40]);
+    let pieces = random.cut(message, max);
     let (last, before) = pieces.split_last().expect("a piece");
     let (_, h) = finish(taken(variant, before, last, bits));
     let out = vec![0x5e; variant.image_bytes()];
     let given = read(h, true, &out);
-    assert_eq!(given, whole_bits(variant.number, message, bits, 1, &out));
+    assert_eq!(given, hash_bits(variant.number, message, bits, 1, &out));
     given.1
 }
 
@@ -332,7 +332,7 @@ fn one_changed_block_shows() {
 fn one_changed_bit_shows_if_it_counts() {
     let mut random = Random::of_test("one_changed_bit_shows_if_it_counts");
     each_ending(&mut random, amount(6, 2), |variant, message, bits| {
-        let end = |message: &[u8]| whole_bits(variant.number, message, bits, 1, &OUT);
+        let end = |message: &[u8]| hash_bits(variant.number, message, bits, 1, &OUT);
         let (kept, counts) = (end(message), places(variant.family, message, bits));
         for place in (0..8 * message.len()).map(|k| (k / 8, 0x80 >> (k % 8))) {
             let mut other = message.to_vec();
@@ -367,8 +367,8 @@ fn each_block_is_found_again() {
         for place in found {
             let own = own_block(variant, message, bits, place);
             let mut forgotten = message.to_vec();
-            let behind = all.iter().skip(place * variant.block_bits);
-            for &(byte, bit) in behind.take(variant.block_bits) {
+            let after = all.iter().skip(place * variant.block_bits);
+            for &(byte, bit) in after.take(variant.block_bits) {
                 forgotten[byte] &= !bit;
             }
             for known in [message, &forgotten] {
@@ -417,8 +417,8 @@ fn states_that_no_block_leads_to() {
     }
 }
 
-/// Behind a piece that ends inside a byte none can follow, not even an empty
-/// one, but the message can end there; behind a whole byte all can.
+/// After a piece that ends inside a byte none can follow, not even an empty
+/// one, but the message can end there; after a whole byte all can.
 #[test]
 fn no_piece_follows_inside_a_byte() {
     let mut random = Random::of_test("no_piece_follows_inside_a_byte");
@@ -439,7 +439,7 @@ fn no_piece_follows_inside_a_byte() {
     });
 }
 
-/// In every call, before all that is checked behind the bit number.
+/// In every call, before all that is checked after the bit number.
 #[test]
 fn numbers_of_bits_that_no_byte_has() {
     let mut random = Random::of_test("numbers_of_bits_that_no_byte_has");
@@ -455,11 +455,11 @@ fn numbers_of_bits_that_no_byte_has() {
             let bad = |otherwise| if sound { otherwise } else { 15 };
             assert_eq!(update_bits(begun(variant), message, bits).0, bad(0));
             for wanted in [0, 1] {
-                let given = |out| whole_bits(number, message, bits, wanted, out).0;
+                let given = |out| hash_bits(number, message, bits, wanted, out).0;
                 assert_eq!(given(&OUT), bad(0));
                 assert_eq!(given(&[]), bad(5), "and too short");
-                let unknown = whole_bits(0, message, bits, wanted, &OUT).0;
-                assert_eq!(unknown, 1, "behind no variant");
+                let unknown = hash_bits(0, message, bits, wanted, &OUT).0;
+                assert_eq!(unknown, 1, "after no variant");
             }
             let given = |place, end: &[u8]| recover_bits(number, message, bits, place, end, &OUT).0;
             let place = if variant.is_sponge() { 0 } else { 1 };
@@ -474,8 +474,8 @@ fn numbers_of_bits_that_no_byte_has() {
 }
 
 #[test]
-fn pieces_behind_any_total() {
-    let mut random = Random::of_test("pieces_behind_any_total");
+fn pieces_after_any_total() {
+    let mut random = Random::of_test("pieces_after_any_total");
     for _ in 0..amount(3000, 50) {
         let variant = variant(&mut random);
         let total = total(&mut random);
@@ -541,8 +541,8 @@ fn the_bits_stop_at_the_limit() {
 }
 
 /// 134,217,719 and 134,217,720 bits pass the check of their length: what is
-/// refused is the output, or the image at the last place, or the place behind
-/// it. To hash so many takes too long here. One bit more is too long.
+/// refused is the output, or the image at the last place, or the place after
+/// it. To hash them takes too long here. One bit more is too long.
 #[test]
 fn lengths_at_the_limit() {
     let long = vec![0x31; MESSAGE_LIMIT + 1];
@@ -551,7 +551,7 @@ fn lengths_at_the_limit() {
         let number = variant.number;
         for bits in [7, 8] {
             for wanted in [0, 1] {
-                let answer = wickslate::whole_bits(number, longest, bits, wanted, &mut [0; 9]);
+                let answer = wickslate::hash_bits(number, longest, bits, wanted, &mut [0; 9]);
                 assert_eq!(answer, Answer(5), "{}", variant.name);
             }
             let count = block_count(variant, bits_of(longest, bits));
@@ -561,7 +561,7 @@ fn lengths_at_the_limit() {
                 assert_eq!(given.0, refusal, "{}", variant.name);
             }
         }
-        assert_eq!(whole_bits(number, &long, 1, 1, &OUT).0, 4);
+        assert_eq!(hash_bits(number, &long, 1, 1, &OUT).0, 4);
         assert_eq!(recover_bits(number, &long, 1, 0, &[], &OUT).0, 4);
     }
 }
@@ -569,8 +569,8 @@ fn lengths_at_the_limit() {
 /// The sponge that takes the least time for a byte.
 const FAST: &Variant = &VARIANTS[4];
 
-/// The digests of bytes 31, the most that there can be, by how many bits of the
-/// last one count, as the Rust version gave them.
+/// The digests of the longest message of bytes 31, by the number of bits that
+/// the last one contributes, as the Rust version gave them.
 const OF_LONGEST: [(&Variant, u32, &str); 3] = [
     (
         FAST,
@@ -589,7 +589,7 @@ const OF_LONGEST: [(&Variant, u32, &str); 3] = [
     ),
 ];
 
-/// And they are hashed to their end, whole and in two pieces, behind which
+/// And they are hashed to their end, whole and in two pieces, after which
 /// nothing passes. Under valgrind it would take minutes, and is left out.
 #[test]
 fn messages_at_the_limit() {
@@ -601,7 +601,7 @@ fn messages_at_the_limit() {
             assert_eq!(hexadecimal(&given), expected);
         }
         let mut out = vec![0; variant.digest_bytes()];
-        assert!(wickslate::whole_bits(number, &message, bits, 0, &mut out).is_done());
+        assert!(wickslate::hash_bits(number, &message, bits, 0, &mut out).is_done());
         assert_eq!(hexadecimal(&out), expected);
 
         let mut h = Hasher::default();

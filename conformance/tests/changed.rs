@@ -2,7 +2,7 @@
 //! values of two bytes, and any bits of a block, whichever way each message is
 //! cut. Nothing of the kind is promised of Lesamnta-LW.
 
-use wickslate_conformance::compare::{digest_list, finish, read, start, update, whole};
+use wickslate_conformance::compare::{finish, hash, hash_list, read, start, update};
 use wickslate_conformance::make::{self, list, list_message, none, Entry};
 use wickslate_conformance::random::Random;
 use wickslate_conformance::settings::amount;
@@ -66,7 +66,7 @@ fn with_value(random: &mut Random, variant: &Variant) -> Option<(Vec<u8>, usize)
     Some((random.bytes(bytes), offset))
 }
 
-/// The message with another value of two bytes at the offset.
+/// The message with a different value of two bytes at the offset.
 fn with_other_value(random: &mut Random, message: &[u8], offset: usize) -> Vec<u8> {
     let difference = 1 + random.below(0xffff) as u16;
     let mut other = message.to_vec();
@@ -79,23 +79,23 @@ fn with_other_value(random: &mut Random, message: &[u8], offset: usize) -> Vec<u
 /// The image of the end state, read from a running hash that took the message
 /// in random pieces. It has to be that of the whole message.
 fn end_state(random: &mut Random, variant: &Variant, message: &[u8]) -> Vec<u8> {
-    let most = random.pick(&[2, 5, 40]);
+    let bound = random.pick(&[2, 5, 40]);
     let (answer, mut h) = start(none(), variant.number);
     assert_eq!(answer, 0);
-    for piece in random.cut(message, most) {
+    for piece in random.cut(message, bound) {
         let (answer, taken) = update(h, piece);
         assert_eq!(answer, 0);
         h = taken;
     }
     let out = vec![0x5e; variant.image_bytes()];
     let given = read(finish(h).1, true, &out);
-    assert_eq!(given, whole(variant.number, message, 1, &out));
+    assert_eq!(given, hash(variant.number, message, 1, &out));
     given.1
 }
 
 #[test]
-fn another_value_in_one_block() {
-    let mut random = Random::of_test("another_value_in_one_block");
+fn a_different_value_in_one_block() {
+    let mut random = Random::of_test("a_different_value_in_one_block");
     for _ in 0..amount(40, 2) {
         for variant in sponges() {
             let Some((message, offset)) = with_value(&mut random, variant) else {
@@ -152,9 +152,9 @@ fn states_part_with_the_block_that_differs() {
         for (taken, bytes) in (1..).zip(message.iter().zip(&other)) {
             both[0] = update(both[0], &[*bytes.0]).1;
             both[1] = update(both[1], &[*bytes.1]).1;
-            let behind = 8 * taken / variant.block_bits > place;
+            let after = 8 * taken / variant.block_bits > place;
             let [first, second] = both.map(|h: Hasher| h.state);
-            assert_eq!(first != second, behind, "{} {taken}", variant.name);
+            assert_eq!(first != second, after, "{} {taken}", variant.name);
         }
         assert_ne!(finish(both[0]).1.state, finish(both[1]).1.state);
     }
@@ -178,8 +178,8 @@ fn with_bytes(buffer: &[u8], places: &[usize], bytes: &[u8]) -> Vec<u8> {
 /// Two buffers under one list, whose messages differ in a value that lies in
 /// one block. What no entry names makes no difference.
 #[test]
-fn another_value_under_the_same_list() {
-    let mut random = Random::of_test("another_value_under_the_same_list");
+fn a_different_value_under_the_same_list() {
+    let mut random = Random::of_test("a_different_value_under_the_same_list");
     for _ in 0..amount(40, 2) {
         for variant in sponges() {
             let entries = make::entries(&mut random, 30, 100);
@@ -200,9 +200,9 @@ fn another_value_under_the_same_list() {
             let other = with_bytes(&beside, &places, &changed[front..]);
 
             let out = [0x5e; 36];
-            let end = |buffer: &[u8]| digest_list(variant.number, &list, buffer, 1, &out);
+            let end = |buffer: &[u8]| hash_list(variant.number, &list, buffer, 1, &out);
             let given = end(&buffer);
-            assert_eq!(given, whole(variant.number, &message, 1, &out));
+            assert_eq!(given, hash(variant.number, &message, 1, &out));
             assert_eq!(given, end(&beside), "what no entry names");
             assert_ne!(given, end(&other), "{} {offset}", variant.name);
             assert_eq!(given.0, 0);
@@ -226,7 +226,7 @@ fn an_empty_segment_elsewhere() {
             let [one, two] = [&first, &second].map(|entries| list_message(entries, &buffer));
             if changed_blocks(variant, &one, &two).len() == 1 {
                 let end = |entries: &[Entry]| {
-                    digest_list(variant.number, &list(entries), &buffer, 1, &[0x5e; 36])
+                    hash_list(variant.number, &list(entries), &buffer, 1, &[0x5e; 36])
                 };
                 assert_ne!(end(&first), end(&second), "{} {empty}", variant.name);
                 in_one_block += 1;
@@ -237,7 +237,7 @@ fn an_empty_segment_elsewhere() {
 }
 
 /// The border between two touching segments stands elsewhere, and all else is
-/// as it was. More than one block is another then: that the messages differ is
+/// as it was. More than one block is different then: that the messages differ is
 /// proved, and that the end states do is seen here.
 #[test]
 fn a_border_that_is_moved() {
@@ -256,7 +256,7 @@ fn a_border_that_is_moved() {
             assert_eq!(one[2 + 24..], two[2 + 24..], "the joined segments");
             assert!(changed_blocks(variant, &one, &two).len() > 1);
             let end = |entries: &[Entry]| {
-                digest_list(variant.number, &list(entries), &buffer, 1, &[0x5e; 36])
+                hash_list(variant.number, &list(entries), &buffer, 1, &[0x5e; 36])
             };
             assert_ne!(end(&first), end(&second), "{}", variant.name);
         }

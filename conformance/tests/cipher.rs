@@ -3,7 +3,7 @@
 //! pieces cut anywhere, every number of held bits, and the lost block.
 
 use wickslate_conformance::compare::{
-    cipher, finish, read, recover, recover_bits, start, update, update_bits, whole, whole_bits,
+    cipher, finish, hash, hash_bits, read, recover, recover_bits, start, update, update_bits,
 };
 use wickslate_conformance::make::{bits_of, image, lesamnta_lw, none, places, well_formed};
 use wickslate_conformance::random::Random;
@@ -120,12 +120,12 @@ fn annex_b_3_by_hand() {
     ];
     assert_eq!(value, expected);
     for wanted in [0, 1] {
-        let given = whole(NUMBER, b"abc", wanted, &[0; 32]);
+        let given = hash(NUMBER, b"abc", wanted, &[0; 32]);
         assert_eq!(given, (0, expected.into()));
     }
 }
 
-/// A message of so many random bits: its bytes and, unless there are none, the
+/// A message of `bits` random bits: its bytes and, unless there are none, the
 /// bit number.
 fn message_of(random: &mut Random, bits: usize) -> (Vec<u8>, u32) {
     let message = random.bytes(bits.div_ceil(8));
@@ -133,11 +133,11 @@ fn message_of(random: &mut Random, bits: usize) -> (Vec<u8>, u32) {
     (message, number)
 }
 
-/// The result of so many bits in one call.
+/// The result of a message in one call, with a bit number if it has a byte.
 fn of_bits(message: &[u8], bits: u32, wanted: u32) -> Vec<u8> {
     let (answer, out) = match message.is_empty() {
-        true => whole(NUMBER, message, wanted, &OUT),
-        false => whole_bits(NUMBER, message, bits, wanted, &OUT),
+        true => hash(NUMBER, message, wanted, &OUT),
+        false => hash_bits(NUMBER, message, bits, wanted, &OUT),
     };
     assert_eq!((answer, &out[32..]), (0, &OUT[32..]));
     out[..32].to_vec()
@@ -214,8 +214,8 @@ fn pieces_cut_anywhere() {
     }
 }
 
-/// A running hash that holds so many bits, whatever they are, goes on and ends:
-/// by two blocks, or by one if it holds none, which are put together here.
+/// A running hash that holds any number of bits, whatever they are, goes on and
+/// ends: by two blocks, or by one if it holds none, which are put together here.
 #[test]
 fn every_number_of_held_bits() {
     let mut random = Random::of_test("every_number_of_held_bits");
@@ -253,7 +253,7 @@ fn every_number_of_held_bits() {
 }
 
 /// The block of a padded message at the last place: the length, and the 1 in
-/// front of it where the message fills its blocks.
+/// front of it if the message fills its blocks.
 fn last_block(bits: usize) -> Vec<u8> {
     let mut block = (bits as u128).to_be_bytes();
     if bits.is_multiple_of(128) {
@@ -304,7 +304,7 @@ fn the_own_block_is_found_with_a_bit_number() {
 
 /// Any block at the last place is found from the state that it leads to, which
 /// is made here by the cipher; a state with a bit turned over in what stood
-/// behind the block is led to by none.
+/// after the block is led to by none.
 #[test]
 fn any_block_at_the_last_place() {
     let mut random = Random::of_test("any_block_at_the_last_place");
@@ -318,9 +318,9 @@ fn any_block_at_the_last_place() {
         let given = recover(NUMBER, &message, place, &end, &[0; 16]);
         assert_eq!(given, (0, block.into()));
 
-        let mut behind = second;
-        behind[random.below(16)] ^= 1 << random.below(8);
-        let end = cipher(key, joined(block, behind), false);
+        let mut after = second;
+        after[random.below(16)] ^= 1 << random.below(8);
+        let end = cipher(key, joined(block, after), false);
         let given = recover(NUMBER, &message, place, &end, &OUT);
         assert_eq!(given, (8, OUT.to_vec()));
     }

@@ -1,6 +1,6 @@
 //! Empty slices, whose address is that of no memory at all.
 
-use wickslate_conformance::lent::filled_behind;
+use wickslate_conformance::lent::filled_tail;
 use wickslate_conformance::make::{list, places};
 use wickslate_conformance::wickslate::{self, Hasher};
 use wickslate_reference::{digest, VARIANTS};
@@ -16,7 +16,7 @@ fn an_empty_message_or_piece() {
     for variant in &VARIANTS {
         let expected = digest(variant.number, b"").expect("the empty message");
         let mut out = vec![0; expected.len()];
-        assert!(wickslate::whole(variant.number, &nowhere(), 0, &mut out).is_done());
+        assert!(wickslate::hash(variant.number, &nowhere(), 0, &mut out).is_done());
         assert_eq!(out, expected);
 
         let mut h = Hasher::default();
@@ -37,14 +37,14 @@ fn an_empty_message_or_piece_with_a_bit_number() {
         let image = vec![0; variant.image_bytes()];
         let mut h = Hasher::default();
         assert!(wickslate::start(&mut h, number).is_done());
-        let begun = filled_behind(h);
+        let begun = filled_tail(h);
         for bits in 0..=9 {
             let none = nowhere();
             let mut h = begun;
             assert_eq!(wickslate::update_bits(&mut h, &none, bits).0, 15);
-            assert_eq!(filled_behind(h), begun);
+            assert_eq!(filled_tail(h), begun);
             let (out, block) = (&mut [0; 36], &mut [0; 16]);
-            assert_eq!(wickslate::whole_bits(number, &none, bits, 1, out).0, 15);
+            assert_eq!(wickslate::hash_bits(number, &none, bits, 1, out).0, 15);
             let recover = wickslate::recover_bits(number, &none, bits, 0, &image, block);
             assert_eq!(recover.0, 15);
         }
@@ -60,8 +60,8 @@ fn an_empty_output_or_image() {
         assert!(wickslate::finish(&mut h).is_done());
         assert_eq!(wickslate::digest(&h, &mut nowhere()).0, 5);
         assert_eq!(wickslate::end_state(&h, &mut nowhere()).0, 5);
-        assert_eq!(wickslate::whole(number, b"abc", 1, &mut nowhere()).0, 5);
-        let bits = wickslate::whole_bits(number, b"abc", 3, 1, &mut nowhere());
+        assert_eq!(wickslate::hash(number, b"abc", 1, &mut nowhere()).0, 5);
+        let bits = wickslate::hash_bits(number, b"abc", 3, 1, &mut nowhere());
         assert_eq!(bits.0, 5);
         let refusal = if variant.is_sponge() { 6 } else { 17 };
         assert_eq!(wickslate::permute(number, &mut nowhere()).0, refusal);
@@ -94,12 +94,12 @@ fn an_empty_list_or_buffer() {
         for (count, list) in (0..).zip([nowhere(), list(&[(0, 0)]), list(&[(0, 0), (0, 0)])]) {
             // No segment has a byte.
             let message = [&[0, count][..], &list].concat();
-            assert!(wickslate::digest_list(number, &list, &nowhere(), 0, &mut out).is_done());
+            assert!(wickslate::hash_list(number, &list, &nowhere(), 0, &mut out).is_done());
             assert_eq!(digest(number, &message).as_deref(), Ok(&out[..]));
             out.fill(0);
         }
         for entry in [(0, 1), (1, 0), (1, 1)] {
-            let answer = wickslate::digest_list(number, &list(&[entry]), &nowhere(), 0, &mut out);
+            let answer = wickslate::hash_list(number, &list(&[entry]), &nowhere(), 0, &mut out);
             assert_eq!(answer.0, 11, "at entry 0");
         }
     }

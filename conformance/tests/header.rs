@@ -1,6 +1,6 @@
 //! The C header: it compiles as C99, C11 and C++17, its constants are those of
 //! the Rust version, its functions have the types that are called here, and a
-//! compiler warns of answers that nobody looks at and of nulls.
+//! compiler warns of unused results and of nulls.
 
 use std::fs;
 use std::path::{Path, PathBuf};
@@ -11,7 +11,7 @@ use wickslate_conformance::make::block_bytes;
 use wickslate_reference as reference;
 use wickslate_reference::VARIANTS;
 
-/// Declares every function again: another type would be an error.
+/// Declares every function again: a different type would be an error.
 const PROTOTYPES: &str = "
 #ifdef __cplusplus
 extern \"C\" {
@@ -22,8 +22,8 @@ uint32_t wickslate_update_bits(wickslate_hasher *, const uint8_t *, size_t, uint
 uint32_t wickslate_finish(wickslate_hasher *);
 uint32_t wickslate_digest(const wickslate_hasher *, uint8_t *, size_t);
 uint32_t wickslate_end_state(const wickslate_hasher *, uint8_t *, size_t);
-uint32_t wickslate_whole(uint32_t, const uint8_t *, size_t, uint32_t, uint8_t *, size_t);
-uint32_t wickslate_whole_bits(uint32_t, const uint8_t *, size_t, uint32_t, uint32_t, uint8_t *, size_t);
+uint32_t wickslate_hash(uint32_t, const uint8_t *, size_t, uint32_t, uint8_t *, size_t);
+uint32_t wickslate_hash_bits(uint32_t, const uint8_t *, size_t, uint32_t, uint32_t, uint8_t *, size_t);
 uint32_t wickslate_permute(uint32_t, uint8_t *, size_t);
 uint32_t wickslate_unpermute(uint32_t, uint8_t *, size_t);
 void wickslate_lesamnta_encrypt(const uint8_t[16], uint8_t[32]);
@@ -35,7 +35,7 @@ uint32_t wickslate_recover_bits(uint32_t, const uint8_t *, size_t, uint32_t, siz
 uint32_t wickslate_entry(const uint8_t *, size_t, size_t, uint32_t *, uint32_t *);
 uint32_t wickslate_advance(wickslate_cursor *, uint32_t *, uint32_t *);
 uint32_t wickslate_check_entry(const uint8_t *, size_t, const uint8_t *, size_t, size_t);
-uint32_t wickslate_digest_list(uint32_t, const uint8_t *, size_t, const uint8_t *, size_t,
+uint32_t wickslate_hash_list(uint32_t, const uint8_t *, size_t, const uint8_t *, size_t,
                                uint32_t, uint8_t *, size_t);
 uint32_t wickslate_check_manifest(const uint8_t *, size_t);
 #ifdef __cplusplus
@@ -46,7 +46,7 @@ uint32_t wickslate_check_manifest(const uint8_t *, size_t);
 /// An answer that names entry 511, taken apart.
 const ANSWER: &str = "
 typedef char number[WICKSLATE_NUMBER(0x1ff0a) == WICKSLATE_MISORDERED ? 1 : -1];
-typedef char entry[WICKSLATE_ENTRY(0x1ff0a) == WICKSLATE_MOST_ENTRIES - 1 ? 1 : -1];
+typedef char entry[WICKSLATE_ENTRY(0x1ff0a) == WICKSLATE_MAX_ENTRIES - 1 ? 1 : -1];
 ";
 
 /// Every constant of the header, with the value that it must have.
@@ -82,17 +82,17 @@ fn constants() -> Vec<(String, usize)> {
         constants.push((name.into(), number.into()));
     }
     for (name, value) in [
-        ("MOST_DIGEST_BYTES", 32),
-        ("MOST_IMAGE_BYTES", 36),
-        ("MOST_BLOCK_BYTES", 16),
+        ("MAX_DIGEST_BYTES", 32),
+        ("MAX_IMAGE_BYTES", 36),
+        ("MAX_BLOCK_BYTES", 16),
         ("LESAMNTA_LW_KEY_BYTES", reference::lesamnta::KEY_BYTES),
         ("LESAMNTA_LW_STATE_BYTES", reference::lesamnta::STATE_BYTES),
-        ("MOST_MESSAGE_BYTES", reference::MESSAGE_LIMIT),
-        ("MOST_MESSAGE_BITS", reference::BIT_LIMIT),
+        ("MAX_MESSAGE_BYTES", reference::MESSAGE_LIMIT),
+        ("MAX_MESSAGE_BITS", reference::BIT_LIMIT),
         ("ENTRY_BYTES", 8),
-        ("MOST_ENTRIES", 512),
+        ("MAX_ENTRIES", 512),
         ("RECORD_BYTES", reference::manifest::RECORD_BYTES),
-        ("MOST_RECORDS", reference::manifest::RECORD_LIMIT),
+        ("MAX_RECORDS", reference::manifest::RECORD_LIMIT),
         ("DIGEST", 0),
         ("END_STATE", 1),
         ("OPEN", 0),
@@ -161,9 +161,9 @@ const CALLER: &str = "
 #include <stdio.h>
 #include \"wickslate.h\"
 extern wickslate_hasher h;
-extern const uint8_t *table, *buffer, *list, *trace;
-extern size_t table_length, buffer_length, list_length, received, switches;
-extern uint8_t image[WICKSLATE_MOST_IMAGE_BYTES];
+extern const uint8_t *table, *buffer, *list, *manifest, *trace;
+extern size_t table_length, buffer_length, list_length, manifest_length, received, switches;
+extern uint8_t image[WICKSLATE_MAX_IMAGE_BYTES];
 int give_up(void);
 void keep(const uint8_t *bytes, size_t length);
 void send(const uint8_t *bytes, size_t length);
@@ -190,8 +190,8 @@ fn examples() -> Vec<String> {
 /// The functions that are declared again.
 fn prototypes() -> Vec<&'static str> {
     let name = |line: &'static str| {
-        let (_, behind) = line.split_once(" wickslate_")?;
-        behind.split('(').next()
+        let (_, after) = line.split_once(" wickslate_")?;
+        after.split('(').next()
     };
     PROTOTYPES
         .lines()
@@ -218,8 +218,8 @@ fn every_function_has_an_example_that_compiles() {
 #[test]
 fn the_readme_compiles() {
     let readme = fs::read_to_string(include().join("../README.md")).expect("README.md");
-    let (_, behind) = readme.split_once("```c\n").expect("a program");
-    let (program, _) = behind.split_once("```").expect("its end");
+    let (_, after) = readme.split_once("```c\n").expect("a program");
+    let (program, _) = after.split_once("```").expect("its end");
     expect_compiles("gcc", &["-std=c99"], "readme.c", program);
 }
 
@@ -249,8 +249,8 @@ const CALLS: [(&str, &str); 17] = [
     ("finish", "&h"),
     ("digest", "&h out 9"),
     ("end_state", "&h out 9"),
-    ("whole", "1 in 9 0 out 9"),
-    ("whole_bits", "1 in 9 3 0 out 9"),
+    ("hash", "1 in 9 0 out 9"),
+    ("hash_bits", "1 in 9 3 0 out 9"),
     ("permute", "1 out 9"),
     ("unpermute", "1 out 9"),
     ("recover", "1 in 9 0 in 9 out 9"),
@@ -258,7 +258,7 @@ const CALLS: [(&str, &str); 17] = [
     ("entry", "in 8 0 &number &number"),
     ("advance", "&c &number &number"),
     ("check_entry", "in 8 in 9 0"),
-    ("digest_list", "1 in 8 in 9 0 out 9"),
+    ("hash_list", "1 in 8 in 9 0 out 9"),
     ("check_manifest", "in 9"),
 ];
 
@@ -303,7 +303,7 @@ fn sound_and_null_lines(
     lines
 }
 
-/// The compiler warns at exactly the lines where it should.
+/// The compiler warns at exactly the lines at which it should.
 fn expect_warnings(compiler: &str, file: &str) {
     const HEAD: &str = "#include \"wickslate.h\"
 extern wickslate_hasher h;

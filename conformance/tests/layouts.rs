@@ -17,7 +17,7 @@ use wickslate_reference::{Family, Variant, VARIANTS};
 /// A bit of some bytes: the byte, and the bit's value in it.
 type Bit = (usize, u8);
 
-/// The bits of so many bytes. Blocks and held bits are read from the high bit
+/// The bits of this number of bytes. Blocks and held bits are read from the high bit
 /// of each byte in every family, and a block's bit goes to the same bit of an
 /// image, which for SPONGENT makes it bytes added to bytes.
 fn bits(bytes: usize) -> Vec<Bit> {
@@ -63,8 +63,8 @@ fn image_of(variant: &Variant, h: &Hasher) -> Vec<u8> {
     h.state[..variant.image_bytes()].to_vec()
 }
 
-/// The least bytes that are whole blocks: those of two where one ends within a
-/// byte.
+/// The least number of bytes that are whole blocks: that of two blocks if one
+/// ends within a byte.
 fn whole_bytes(variant: &Variant) -> usize {
     match variant.block_bits % 8 {
         0 => variant.block_bits / 8,
@@ -166,7 +166,7 @@ fn many_blocks_in_one_piece() {
 }
 
 /// The bytes of the last block: the held bits, a one and zeros. Lesamnta-LW has
-/// the length behind them, in a block in which nothing is held.
+/// the length after them, in a block in which nothing is held.
 fn last_blocks(variant: &Variant, h: &Hasher) -> Vec<u8> {
     let held = h.total as usize % variant.block_bits;
     let count = match variant.is_sponge() || held == 0 {

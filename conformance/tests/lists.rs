@@ -1,7 +1,7 @@
 //! Segment lists: sound and damaged ones, and the refusals 1, 9, 7, 10, 11, 4
 //! and 5 alone and against their neighbours.
 
-use wickslate_conformance::compare::{advance, at, check_entry, entry, whole};
+use wickslate_conformance::compare::{advance, at, check_entry, entry, hash};
 use wickslate_conformance::make::{self, list, list_message, result_bytes, variant, UNKNOWN};
 use wickslate_conformance::random::Random;
 use wickslate_conformance::settings::amount;
@@ -10,15 +10,15 @@ use wickslate_conformance::{compare, wickslate};
 use wickslate_reference::{MESSAGE_LIMIT, VARIANTS};
 
 const SIX: &[u8] = b"bridge";
-const MOST_ENTRIES: u32 = 512;
+const MAX_ENTRIES: u32 = 512;
 const OUT: [u8; 36] = [0x5e; 36];
 
 /// The answer over a list.
-fn digest_list(variant: u32, list: &[u8], buffer: &[u8], wanted: u32, out: &[u8]) -> u32 {
-    compare::digest_list(variant, list, buffer, wanted, out).0
+fn hash_list(variant: u32, list: &[u8], buffer: &[u8], wanted: u32, out: &[u8]) -> u32 {
+    compare::hash_list(variant, list, buffer, wanted, out).0
 }
 
-/// Looks at every entry and the one behind the last, and at the whole list.
+/// Compares every entry, the one after the last, and the whole list.
 fn expect_same(random: &mut Random, list: &[u8], buffer: &[u8]) -> u32 {
     for k in 0..=list.len() / 8 {
         check_entry(list, buffer, k);
@@ -26,7 +26,7 @@ fn expect_same(random: &mut Random, list: &[u8], buffer: &[u8]) -> u32 {
     }
     let variant = variant(random);
     let wanted = random.pick(&[0, 1]);
-    digest_list(variant.number, list, buffer, wanted, &OUT)
+    hash_list(variant.number, list, buffer, wanted, &OUT)
 }
 
 #[test]
@@ -73,15 +73,14 @@ fn count_list_and_segments() {
         let entries = make::entries(&mut random, 30, buffer.len());
         let message = list_message(&entries, &buffer);
         for wanted in [0, 1, 77, 256, u32::MAX] {
-            let given =
-                compare::digest_list(variant.number, &list(&entries), &buffer, wanted, &OUT);
-            assert_eq!(given, whole(variant.number, &message, wanted, &OUT));
+            let given = compare::hash_list(variant.number, &list(&entries), &buffer, wanted, &OUT);
+            assert_eq!(given, hash(variant.number, &message, wanted, &OUT));
         }
     }
 }
 
 /// The count has two bytes, the high one first, and the list is the message
-/// where no entry names a byte.
+/// if no entry names a byte.
 #[test]
 fn counts_of_two_bytes() {
     for (count, bytes) in [
@@ -95,8 +94,8 @@ fn counts_of_two_bytes() {
         let list = list(&vec![(6, 0); count]);
         let message = [&bytes[..], &list].concat();
         for variant in &VARIANTS {
-            let given = compare::digest_list(variant.number, &list, SIX, 1, &OUT);
-            assert_eq!(given, whole(variant.number, &message, 1, &OUT));
+            let given = compare::hash_list(variant.number, &list, SIX, 1, &OUT);
+            assert_eq!(given, hash(variant.number, &message, 1, &OUT));
         }
     }
 }
@@ -111,8 +110,8 @@ fn twenty_two_bytes() {
     assert_eq!(list_message(&entries, SIX), message);
     for variant in &VARIANTS {
         for wanted in [0, 1] {
-            let given = compare::digest_list(variant.number, &list(&entries), SIX, wanted, &OUT);
-            assert_eq!(given, whole(variant.number, message, wanted, &OUT));
+            let given = compare::hash_list(variant.number, &list(&entries), SIX, wanted, &OUT);
+            assert_eq!(given, hash(variant.number, message, wanted, &OUT));
         }
     }
 }
@@ -155,7 +154,7 @@ fn damage(random: &mut Random, list: &mut Vec<u8>) {
 
 #[test]
 fn known_lists() {
-    let most = u32::MAX;
+    let max = u32::MAX;
     let calls: [(&[make::Entry], u32); 18] = [
         (&[(0, 2), (3, 2)], 0),
         (&[(0, 2), (1, 2)], at(10, 1)),
@@ -167,7 +166,7 @@ fn known_lists() {
         (&[(7, 0)], at(11, 0)),
         (&[(0, 3), (3, 3)], 0),
         (&[(0, 6), (6, 1)], at(11, 1)),
-        // Empty entries that touch, and one inside another.
+        // Empty entries that touch, and one inside a different one.
         (&[(2, 0), (2, 0)], 0),
         (&[(2, 1), (2, 0)], at(10, 1)),
         // An entry past the end before one out of order, and one that is both.
@@ -176,9 +175,9 @@ fn known_lists() {
         // The high byte comes first.
         (&[(0, 1 << 24), (0, 0)], at(11, 0)),
         (&[(1 << 16, 0), (1 << 8, 0)], at(11, 0)),
-        (&[(most, 1)], at(11, 0)),
-        (&[(1, most)], at(11, 0)),
-        (&[(most, most)], at(11, 0)),
+        (&[(max, 1)], at(11, 0)),
+        (&[(1, max)], at(11, 0)),
+        (&[(max, max)], at(11, 0)),
     ];
     for (entries, answer) in calls {
         let list = list(entries);
@@ -188,7 +187,7 @@ fn known_lists() {
         }
         for variant in &VARIANTS {
             for wanted in [0, 1] {
-                let given = digest_list(variant.number, &list, SIX, wanted, &OUT);
+                let given = hash_list(variant.number, &list, SIX, wanted, &OUT);
                 assert_eq!(given, answer, "{entries:?}");
             }
         }
@@ -197,7 +196,7 @@ fn known_lists() {
 
 #[test]
 fn lists_that_are_none() {
-    let row: Vec<make::Entry> = (0..=MOST_ENTRIES).map(|k| (k, 1)).collect();
+    let row: Vec<make::Entry> = (0..=MAX_ENTRIES).map(|k| (k, 1)).collect();
     let long = list(&row);
     let buffer = vec![0x31; row.len()];
     for bytes in (0..=4104).filter(|bytes| bytes % 8 != 0).chain([4104]) {
@@ -208,18 +207,18 @@ fn lists_that_are_none() {
         assert_eq!(advance(broken, usize::MAX).0, 9, "and past the end");
         assert_eq!(check_entry(broken, &buffer, 0), 9);
         assert_eq!(check_entry(broken, &buffer, 513), 9, "and past the end");
-        assert_eq!(digest_list(4, broken, &buffer, 0, &OUT), 9);
+        assert_eq!(hash_list(4, broken, &buffer, 0, &OUT), 9);
     }
     for count in [0, 1, 511, 512] {
-        let most = &long[..8 * count];
+        let longest = &long[..8 * count];
         for k in [0, 510, 511] {
             let inside = k < count;
-            assert_eq!(entry(most, k).0, if inside { 0 } else { 7 });
-            assert_eq!(advance(most, k).0, if inside { 0 } else { 7 });
-            assert_eq!(check_entry(most, &buffer, k), if inside { 0 } else { 7 });
+            assert_eq!(entry(longest, k).0, if inside { 0 } else { 7 });
+            assert_eq!(advance(longest, k).0, if inside { 0 } else { 7 });
+            assert_eq!(check_entry(longest, &buffer, k), if inside { 0 } else { 7 });
         }
-        assert_eq!(digest_list(4, most, &buffer, 0, &OUT), 0);
-        assert_eq!(digest_list(10, most, &buffer, 1, &OUT), 0);
+        assert_eq!(hash_list(4, longest, &buffer, 0, &OUT), 0);
+        assert_eq!(hash_list(10, longest, &buffer, 1, &OUT), 0);
     }
 }
 
@@ -241,28 +240,28 @@ fn misordered_comes_before_past_the_end() {
     let both = list(&[(0, 3), (2, 90), (1, 1)]);
     assert_eq!(check_entry(&both, SIX, 1), at(10, 1));
     assert_eq!(check_entry(&both, SIX, 2), at(10, 2));
-    assert_eq!(digest_list(1, &both, SIX, 0, &OUT), at(10, 1));
+    assert_eq!(hash_list(1, &both, SIX, 0, &OUT), at(10, 1));
     // An earlier entry past the end comes before a later one out of order.
     let earlier = list(&[(0, 3), (3, 90), (1, 1)]);
     assert_eq!(check_entry(&earlier, SIX, 1), at(11, 1));
     assert_eq!(check_entry(&earlier, SIX, 2), at(10, 2));
-    assert_eq!(digest_list(1, &earlier, SIX, 0, &OUT), at(11, 1));
+    assert_eq!(hash_list(1, &earlier, SIX, 0, &OUT), at(11, 1));
 }
 
 /// Ends that do not fit in four bytes are not cut to four.
 #[test]
 fn sums_past_four_bytes() {
-    let most = u32::MAX;
+    let max = u32::MAX;
     for entries in [
-        [(most, 1), (0, 1)],
-        [(most, 2), (1, 1)],
-        [(most, most), (most, 0)],
-        [(1, most), (0, 0)],
+        [(max, 1), (0, 1)],
+        [(max, 2), (1, 1)],
+        [(max, max), (max, 0)],
+        [(1, max), (0, 0)],
     ] {
         let list = list(&entries);
         assert_eq!(check_entry(&list, SIX, 0), at(11, 0));
         assert_eq!(check_entry(&list, SIX, 1), at(10, 1));
-        assert_eq!(digest_list(2, &list, SIX, 0, &OUT), at(11, 0));
+        assert_eq!(hash_list(2, &list, SIX, 0, &OUT), at(11, 0));
     }
 }
 
@@ -274,7 +273,7 @@ fn unknown_variants_come_first() {
     for number in UNKNOWN {
         for list in [&sound, &sound[..9].to_vec(), &misordered, &past] {
             for out in [&OUT[..], &[]] {
-                assert_eq!(digest_list(number, list, SIX, 0, out), 1);
+                assert_eq!(hash_list(number, list, SIX, 0, out), 1);
             }
         }
     }
@@ -285,18 +284,18 @@ fn unknown_variants_come_first() {
 fn a_list_that_is_none_comes_before_its_entries() {
     let wrong = list(&[(5, 9), (0, 1), (0, 1)]);
     for out in [&OUT[..], &[]] {
-        assert_eq!(digest_list(1, &wrong[..17], SIX, 0, out), 9);
+        assert_eq!(hash_list(1, &wrong[..17], SIX, 0, out), 9);
     }
 }
 
-/// Lists whose message has so many bytes, the count and the list among them: of
-/// one entry, of two with a gap between them, and of 512 that touch.
+/// Lists whose message has this number of bytes, with the count and the list
+/// included: of one entry, of two with a gap between them, and of 512 that touch.
 fn lists_for(message_bytes: usize) -> [Vec<u8>; 3] {
     let left = |entries: u32| message_bytes as u32 - 2 - 8 * entries;
     let half = left(2) / 2;
-    let step = left(MOST_ENTRIES) / MOST_ENTRIES;
-    let mut many: Vec<make::Entry> = (0..MOST_ENTRIES).map(|k| (k * step, step)).collect();
-    many[511].1 += left(MOST_ENTRIES) % MOST_ENTRIES;
+    let step = left(MAX_ENTRIES) / MAX_ENTRIES;
+    let mut many: Vec<make::Entry> = (0..MAX_ENTRIES).map(|k| (k * step, step)).collect();
+    many[511].1 += left(MAX_ENTRIES) % MAX_ENTRIES;
     [
         list(&[(0, left(1))]),
         list(&[(0, half), (half + 1, left(2) - half)]),
@@ -304,16 +303,17 @@ fn lists_for(message_bytes: usize) -> [Vec<u8>; 3] {
     ]
 }
 
-/// A message of one byte more than the limit, count and list among them.
+/// A message of one byte more than the limit, with the count and the list
+/// included.
 #[test]
-fn too_long_comes_behind_the_entries_and_before_the_output() {
+fn too_long_comes_after_the_entries_and_before_the_output() {
     let buffer = vec![0x31; MESSAGE_LIMIT + 1];
     let end = buffer.len() as u32;
     let beyond = list(&[(0, end), (end, 1)]);
     let misordered = list(&[(0, end), (end - 1, 1)]);
     for variant in &VARIANTS {
         for out in [&OUT[..], &[]] {
-            let answer = |list: &[u8]| digest_list(variant.number, list, &buffer, 1, out);
+            let answer = |list: &[u8]| hash_list(variant.number, list, &buffer, 1, out);
             for list in lists_for(MESSAGE_LIMIT + 1) {
                 assert_eq!(answer(&list), 4);
             }
@@ -323,14 +323,14 @@ fn too_long_comes_behind_the_entries_and_before_the_output() {
     }
 }
 
-/// A message of just the limit. As for whole messages: what is refused is the
+/// A message of exactly the limit. As for whole messages: what is refused is the
 /// output.
 #[test]
 fn the_longest_message_is_not_too_long() {
     let buffer = vec![0x31; MESSAGE_LIMIT + 1];
     for variant in &VARIANTS {
         for list in lists_for(MESSAGE_LIMIT) {
-            let answer = wickslate::digest_list(variant.number, &list, &buffer, 0, &mut [0; 9]);
+            let answer = wickslate::hash_list(variant.number, &list, &buffer, 0, &mut [0; 9]);
             assert_eq!(answer.0, 5, "{}", variant.name);
         }
     }
@@ -339,7 +339,7 @@ fn the_longest_message_is_not_too_long() {
 /// And one is hashed to its end, as the same message whole. Under valgrind it
 /// would take a minute, and is left out.
 #[test]
-fn a_message_of_just_the_limit() {
+fn a_message_of_exactly_the_limit() {
     let buffer = vec![0x31; MESSAGE_LIMIT];
     let bytes = MESSAGE_LIMIT as u32 - 2 - 8;
     let message = list_message(&[(0, bytes)], &buffer);
@@ -347,8 +347,8 @@ fn a_message_of_just_the_limit() {
     let list = list(&[(0, bytes)]);
     for _ in 0..amount(1, 0) {
         let [mut given, mut expected] = [[0; 32]; 2];
-        assert!(wickslate::digest_list(5, &list, &buffer, 0, &mut given).is_done());
-        assert!(wickslate::whole(5, &message, 0, &mut expected).is_done());
+        assert!(wickslate::hash_list(5, &list, &buffer, 0, &mut given).is_done());
+        assert!(wickslate::hash(5, &message, 0, &mut expected).is_done());
         assert_eq!(given, expected);
     }
 }
@@ -360,7 +360,7 @@ fn outputs_one_byte_too_short() {
         for wanted in [0, 1] {
             let fits = result_bytes(variant, wanted);
             for bytes in [0, fits - 1, fits, fits + 1] {
-                let answer = digest_list(variant.number, &sound, SIX, wanted, &vec![0x5e; bytes]);
+                let answer = hash_list(variant.number, &sound, SIX, wanted, &vec![0x5e; bytes]);
                 assert_eq!(answer, if bytes < fits { 5 } else { 0 });
             }
         }

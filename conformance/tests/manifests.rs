@@ -20,7 +20,7 @@ fn of_axes(axes: impl IntoIterator<Item = u16>) -> Vec<u8> {
     axes.into_iter().flat_map(sound).collect()
 }
 
-/// The axis of record `k` where numbers between two are left free.
+/// The axis of record `k` if numbers between two are left free.
 fn spaced(k: usize) -> u16 {
     3 * k as u16 + 1
 }
@@ -40,7 +40,7 @@ fn sound_manifests() {
     }
 }
 
-/// A sound one with a byte changed, its end lost or its first record behind the
+/// A sound one with a byte changed, its end lost or its first record after the
 /// others, or any bytes instead.
 #[test]
 fn damaged_manifests() {
@@ -66,7 +66,7 @@ fn damaged_manifests() {
     }
 }
 
-/// Whole records or not, sound or not: 13 and 14 come only where 12 does not.
+/// Whole records or not, sound or not: 13 and 14 come only if 12 does not.
 #[test]
 fn whole_records_come_before_each_record() {
     let full = [0xff; 10];
@@ -143,7 +143,7 @@ fn every_record_rises() {
     };
     assert_eq!(check_manifest(&sound), 0);
     assert_eq!(with_axis(0, 0), 0, "nothing stands before the first");
-    assert_eq!(with_axis(511, 65_535), 0, "nor behind the last");
+    assert_eq!(with_axis(511, 65_535), 0, "nor after the last");
     for k in (1..512).step_by(amount(1, 7)) {
         let (before, here) = (spaced(k - 1), spaced(k));
         for axis in [before, before - 1, 0] {
@@ -200,7 +200,7 @@ fn every_variant_byte() {
     }
 }
 
-/// Each byte behind the axis number, with each bit of it.
+/// Each byte after the axis number, with each bit of it.
 #[test]
 fn every_byte_of_digest_and_filler() {
     for variant in &VARIANTS {
@@ -224,9 +224,9 @@ fn every_byte_of_digest_and_filler() {
 #[test]
 fn every_axis_number() {
     for axis in (1..65_535).step_by(amount(1, 61)) {
-        let (before, behind) = (axis - 1, axis + 1);
-        assert_eq!(check_manifest(&of_axes([before, axis, behind])), 0);
-        for wrong in [[axis, axis], [axis, before], [behind, axis]] {
+        let (before, after) = (axis - 1, axis + 1);
+        assert_eq!(check_manifest(&of_axes([before, axis, after])), 0);
+        for wrong in [[axis, axis], [axis, before], [after, axis]] {
             assert_eq!(check_manifest(&of_axes(wrong)), 14, "{wrong:?}");
         }
     }
@@ -265,7 +265,7 @@ fn rows_of_four_records() {
     }
 }
 
-/// A second record of an axis, the same or another one, put in anywhere.
+/// A second record of an axis, the same or a different one, put in anywhere.
 #[test]
 fn an_axis_comes_once() {
     let sound = of_axes((0..20).map(spaced));
@@ -280,10 +280,10 @@ fn an_axis_comes_once() {
     }
 }
 
-/// Up to so many axes, with any digests.
-fn installation(random: &mut Random, most: usize) -> BTreeMap<u16, Record> {
+/// Up to `max` axes, with any digests.
+fn installation(random: &mut Random, max: usize) -> BTreeMap<u16, Record> {
     let mut axes = BTreeMap::new();
-    for _ in 0..random.below(most + 1) {
+    for _ in 0..random.below(max + 1) {
         let axis = u16::from_be_bytes(random.array());
         let variant = variant(random);
         let digest = random.bytes(variant.digest_bytes());
@@ -302,13 +302,13 @@ fn shuffled(random: &mut Random, list: &[u8]) -> Vec<u8> {
 }
 
 /// The list that is made from the axes passes and holds them; with its records
-/// in another order it does not pass.
+/// in a different order it does not pass.
 #[test]
 fn one_list_for_one_installation() {
     let mut random = Random::of_test("one_list_for_one_installation");
     for _ in 0..amount(300, 30) {
-        let most = random.pick(&[2, 5, 40, 512]);
-        let axes = installation(&mut random, most);
+        let max = random.pick(&[2, 5, 40, 512]);
+        let axes = installation(&mut random, max);
         let list = list_of(&axes);
         assert_eq!(check_manifest(&list), 0);
         assert_eq!(held(&list), Ok(axes));

@@ -2,7 +2,7 @@
 //! bit number is cut to its low byte, and an answer has room for every entry.
 
 use wickslate_conformance::compare::{
-    check_entry, digest_list, permute, recover, recover_bits, start, update_bits, whole, whole_bits,
+    check_entry, hash, hash_bits, hash_list, permute, recover, recover_bits, start, update_bits,
 };
 use wickslate_conformance::make::{block_bytes, list, result_bytes, well_formed, Entry};
 use wickslate_conformance::random::Random;
@@ -34,9 +34,9 @@ fn answers(random: &mut Random, variant: &Variant, number: u32) -> Vec<u32> {
     ];
     for wanted in [0, 1] {
         let out = &OUT[..result_bytes(variant, wanted)];
-        answers.push(whole(number, MESSAGE, wanted, out).0);
-        answers.push(whole_bits(number, MESSAGE, 3, wanted, out).0);
-        answers.push(digest_list(number, &segments, MESSAGE, wanted, out).0);
+        answers.push(hash(number, MESSAGE, wanted, out).0);
+        answers.push(hash_bits(number, MESSAGE, 3, wanted, out).0);
+        answers.push(hash_list(number, &segments, MESSAGE, wanted, out).0);
     }
     answers
 }
@@ -60,9 +60,9 @@ fn a_variant_is_not_cut_to_a_byte() {
 fn a_choice_is_not_cut_to_a_byte() {
     let segments = list(&[(0, 6)]);
     for variant in &VARIANTS {
-        let of_message = |wanted| whole(variant.number, MESSAGE, wanted, &OUT);
-        let of_bits = |wanted| whole_bits(variant.number, MESSAGE, 3, wanted, &OUT);
-        let over_list = |wanted| digest_list(variant.number, &segments, MESSAGE, wanted, &OUT);
+        let of_message = |wanted| hash(variant.number, MESSAGE, wanted, &OUT);
+        let of_bits = |wanted| hash_bits(variant.number, MESSAGE, 3, wanted, &OUT);
+        let over_list = |wanted| hash_list(variant.number, &segments, MESSAGE, wanted, &OUT);
         for wanted in above_a_byte(0) {
             assert_eq!(of_message(wanted), of_message(1));
             assert_eq!(of_bits(wanted), of_bits(1));
@@ -79,8 +79,8 @@ fn answers_to_bits(random: &mut Random, variant: &Variant, bits: u32, given: u32
     let end = end_state_bits(number, MESSAGE, bits).expect("a short message");
     vec![
         update_bits(open, MESSAGE, given).0,
-        whole_bits(number, MESSAGE, given, 0, &OUT).0,
-        whole_bits(number, MESSAGE, given, 1, &OUT).0,
+        hash_bits(number, MESSAGE, given, 0, &OUT).0,
+        hash_bits(number, MESSAGE, given, 1, &OUT).0,
         recover_bits(number, MESSAGE, given, 1, &end, &OUT).0,
     ]
 }
@@ -111,7 +111,7 @@ fn every_entry_can_be_named() {
         let list = list(&entries);
         for answer in [
             check_entry(&list, &buffer, k),
-            digest_list(1, &list, &buffer, 0, &OUT).0,
+            hash_list(1, &list, &buffer, 0, &OUT).0,
         ] {
             let answer = Answer(answer);
             assert_eq!((answer.number(), answer.entry()), (refusal, k as u32));

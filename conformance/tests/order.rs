@@ -70,26 +70,26 @@ fn digest_and_end_state() {
 }
 
 #[test]
-fn whole() {
+fn hash() {
     for variant in &VARIANTS {
         for wanted in [0, 1] {
-            let faults = faults::of_whole(variant, wanted);
+            let faults = faults::of_hash(variant, wanted);
             expect_order(&Call::sound(variant), &faults, |call| {
-                compare::whole(call.number, call.message, wanted, &call.output()).0
+                compare::hash(call.number, call.message, wanted, &call.output()).0
             });
         }
     }
 }
 
 #[test]
-fn whole_bits() {
+fn hash_bits() {
     for variant in &VARIANTS {
         for wanted in [0, 1] {
             let sound = Call::sound(variant).with_bits(3);
-            let faults = faults::of_whole_bits(variant, wanted);
+            let faults = faults::of_hash_bits(variant, wanted);
             expect_order(&sound, &faults, |call| {
                 let (number, message, bits) = (call.number, call.message, call.bits);
-                compare::whole_bits(number, message, bits, wanted, &call.output()).0
+                compare::hash_bits(number, message, bits, wanted, &call.output()).0
             });
         }
     }
@@ -156,12 +156,12 @@ fn check_entry() {
 }
 
 #[test]
-fn digest_list() {
+fn hash_list() {
     for (variant, wanted) in VARIANTS.iter().zip([0, 1].into_iter().cycle()) {
-        let faults = faults::of_digest_list(variant, wanted);
+        let faults = faults::of_hash_list(variant, wanted);
         expect_order(&Call::sound(variant), &faults, |call| {
             let (list, out) = (call.list(), call.output());
-            compare::digest_list(call.number, &list, call.message, wanted, &out).0
+            compare::hash_list(call.number, &list, call.message, wanted, &out).0
         });
     }
 }

@@ -21,8 +21,8 @@ type Call = fn(&mut Random) -> u32;
 
 /// The running hash has five calls, and comes twice.
 const CALLS: [Call; 11] = [
-    whole,
-    whole_bits,
+    hash,
+    hash_bits,
     image,
     cipher,
     running,
@@ -61,10 +61,10 @@ fn any_call(random: &mut Random) -> usize {
     Answer(random.pick(&CALLS)(random)).number().into()
 }
 
-/// A message that is short, most of the time.
+/// A message, short as a rule.
 fn message(random: &mut Random) -> Vec<u8> {
-    let most = random.pick(&[8, 40, 40, 200]);
-    let bytes = random.below(most);
+    let bound = random.pick(&[8, 40, 40, 200]);
+    let bytes = random.below(bound);
     random.bytes(bytes)
 }
 
@@ -85,7 +85,7 @@ fn bit_number(random: &mut Random) -> u32 {
     }
 }
 
-/// An output, now and then too short, for a result of so many bytes.
+/// An output, now and then too short, for a result of `bytes` bytes.
 fn output(random: &mut Random, bytes: usize) -> Vec<u8> {
     let bytes = match random.once_in(6) {
         true => random.below(bytes),
@@ -107,20 +107,20 @@ fn near_image(random: &mut Random, variant: &Variant) -> Vec<u8> {
     image
 }
 
-fn whole(random: &mut Random) -> u32 {
+fn hash(random: &mut Random) -> u32 {
     let variant = make::variant(random);
     let message = message(random);
     let wanted = random.pick(&[0, 0, 1, 2, 256]);
     let out = output(random, make::result_bytes(variant, wanted));
-    compare::whole(number(random, variant), &message, wanted, &out).0
+    compare::hash(number(random, variant), &message, wanted, &out).0
 }
 
-fn whole_bits(random: &mut Random) -> u32 {
+fn hash_bits(random: &mut Random) -> u32 {
     let variant = make::variant(random);
     let (message, bits) = (message(random), bit_number(random));
     let wanted = random.pick(&[0, 0, 1, 2, 256]);
     let out = output(random, make::result_bytes(variant, wanted));
-    compare::whole_bits(number(random, variant), &message, bits, wanted, &out).0
+    compare::hash_bits(number(random, variant), &message, bits, wanted, &out).0
 }
 
 fn image(random: &mut Random) -> u32 {
@@ -204,7 +204,7 @@ fn whole_list(random: &mut Random) -> u32 {
     let variant = make::variant(random);
     let wanted = random.pick(&[0, 0, 1, 2, 256]);
     let out = output(random, make::result_bytes(variant, wanted));
-    compare::digest_list(number(random, variant), &list, &buffer, wanted, &out).0
+    compare::hash_list(number(random, variant), &list, &buffer, wanted, &out).0
 }
 
 fn lost_block(random: &mut Random) -> u32 {
@@ -216,7 +216,7 @@ fn lost_block(random: &mut Random) -> u32 {
     if random.once_in(2) {
         // Its own end state, which a block leads to.
         image = vec![0; variant.image_bytes()];
-        assert!(wickslate::whole(variant.number, &message, 1, &mut image).is_done());
+        assert!(wickslate::hash(variant.number, &message, 1, &mut image).is_done());
     }
     let out = output(random, make::block_bytes(variant));
     compare::recover(number, &message, place, &image, &out).0
@@ -228,7 +228,7 @@ fn lost_block_bits(random: &mut Random) -> u32 {
     let number = number(random, variant);
     let place = random.below(block_count(variant, 8 * message.len()) + 1);
     let mut own = vec![0; variant.image_bytes()];
-    let image = match wickslate::whole_bits(variant.number, &message, bits, 1, &mut own) {
+    let image = match wickslate::hash_bits(variant.number, &message, bits, 1, &mut own) {
         // Its own end state, which a block leads to.
         Answer(0) if random.once_in(2) => own,
         _ => near_image(random, variant),
@@ -238,7 +238,7 @@ fn lost_block_bits(random: &mut Random) -> u32 {
 }
 
 /// A manifest or, in one of two cases, one with a byte changed or lost, or with
-/// its first record behind the others.
+/// its first record after the others.
 fn records(random: &mut Random) -> u32 {
     let (mut list, _) = make::manifest(random, 4);
     match random.below(8) {
@@ -265,14 +265,14 @@ fn longest_messages(random: &mut Random) {
         assert!(hash(&mut out).is_done());
         assert_eq!(out, expected);
     };
-    expect_same(&mut |out| wickslate::whole(FAST, &message, 0, out));
+    expect_same(&mut |out| wickslate::hash(FAST, &message, 0, out));
     let h = closed(random.cut(&message, 100_000));
     expect_same(&mut |out| wickslate::digest(&h, out));
     let list = make::list(&entries);
-    expect_same(&mut |out| wickslate::digest_list(FAST, &list, &buffer, 0, out));
+    expect_same(&mut |out| wickslate::hash_list(FAST, &list, &buffer, 0, out));
     let expected = digest_bits(FAST, &message, 7).expect("not too long");
     let mut out = vec![0; expected.len()];
-    assert!(wickslate::whole_bits(FAST, &message, 7, 0, &mut out).is_done());
+    assert!(wickslate::hash_bits(FAST, &message, 7, 0, &mut out).is_done());
     assert_eq!(out, expected);
 }
 
@@ -288,7 +288,7 @@ fn closed(pieces: Vec<&[u8]>) -> Hasher {
     h
 }
 
-/// Two segments of so many bytes together, and a buffer in which a gap of three
+/// Two segments of `bytes` bytes together, and a buffer in which a gap of three
 /// lies between them.
 fn two_segments(random: &mut Random, bytes: usize) -> ([Entry; 2], Vec<u8>) {
     let first = bytes as u32 / 2;

@@ -57,8 +57,8 @@ fn forgotten_bytes(variant: &Variant, place: usize, bytes: usize) -> impl Iterat
 /// The end state of a message that differs in one block gives that block and,
 /// but for chance, none at the places beside it.
 #[test]
-fn blocks_of_another_message() {
-    let mut random = Random::of_test("blocks_of_another_message");
+fn blocks_of_a_different_message() {
+    let mut random = Random::of_test("blocks_of_a_different_message");
     for _ in 0..amount(300, 10) {
         let variant = sponge(&mut random);
         let bytes = 1 + random.below(60);
@@ -98,7 +98,7 @@ fn any_end_states() {
     }
 }
 
-/// Each bit behind the block, set before the last permutation, is out of any
+/// Each bit after the block, set before the last permutation, is out of any
 /// block's reach; each bit of the block is not.
 #[test]
 fn single_bits_of_the_state_before_the_last_permutation() {
@@ -108,7 +108,7 @@ fn single_bits_of_the_state_before_the_last_permutation() {
         for bit in 0..variant.state_bits {
             let mut end = start.clone();
             // Blocks cover the same bytes in both families, and whole bytes
-            // but for a half that is the higher one.
+            // but for a nibble, which is the high one.
             end[bit / 8] ^= 0x80 >> (bit % 8);
             assert_eq!(permute(variant.number, &mut end), 0);
             let (answer, _) = recover(variant.number, b"", 0, &end, &OUT);
@@ -158,8 +158,8 @@ impl Call<'_> {
     }
 }
 
-/// Every image that is none: too short, too long, and with spare bits set
-/// where there are any.
+/// Every image that is none: too short, too long, and with spare bits set, if
+/// there are any.
 fn bad_images(variant: &Variant, sound: &[u8]) -> Vec<Vec<u8>> {
     let mut bad = vec![Vec::new(), sound[1..].to_vec(), [sound, &[0]].concat()];
     if !variant.state_bits.is_multiple_of(8) {
@@ -268,7 +268,7 @@ fn a_place_that_is_not_the_last_comes_before_the_image() {
     }
 }
 
-/// The longest message has its last place, and no place behind it. For
+/// The longest message has its last place, and no place after it. For
 /// Lesamnta-LW the place before will not do.
 #[test]
 fn places_of_the_longest_message() {

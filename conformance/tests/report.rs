@@ -102,7 +102,7 @@ fn counted(counts: [usize; 6]) -> String {
 const HOLD: &[u8] = b"Bar 7 hold.";
 const LIFT: &[u8] = b"Bar 14, 6.20 m, 0.4 m/s";
 
-/// Axes 0, 7 and 258, each by another variant. The first table has no bytes.
+/// Axes 0, 7 and 258, each by a different variant. The first table has no bytes.
 fn three() -> Vec<u8> {
     [
         record_of(0, FAST, b""),
@@ -142,7 +142,7 @@ fn no_list_and_no_stream() {
     }
 }
 
-/// Every variant, with its own table and one whose last bit is another.
+/// Every variant, with its own table and one whose last bit is different.
 #[test]
 fn every_variant() {
     let place = Place::of_test("every variant");
@@ -334,7 +334,7 @@ fn as_many_records_as_can_be() {
     }
 }
 
-/// Neither an axis with two records, the same or not, nor one behind a greater
+/// Neither an axis with two records, the same or not, nor one after a greater
 /// one has a report, whatever the tables are. What is wrong with an earlier
 /// record is told before.
 #[test]
@@ -366,7 +366,7 @@ fn axes_that_do_not_rise() {
 
 /// Lists of no record up to as many as can be, with two numbers between every two
 /// axes: each listed axis is looked for, and each number beside it. Every number
-/// has a table of its own, so that none passes by another's record.
+/// has a table of its own, so that none passes by the record of a different one.
 #[test]
 fn every_axis_is_looked_for() {
     let place = Place::of_test("every axis is looked for");
@@ -407,7 +407,7 @@ fn every_axis_number() {
     }
 }
 
-/// One table fewer, as many, and one more than are looked at: the last of them
+/// One table fewer, as many, and one more than are read: the last of them
 /// is the only one that is listed.
 #[test]
 fn as_many_tables_as_are_looked_at() {
@@ -445,7 +445,7 @@ fn ended(mut child: Child) -> Output {
 
 /// The pipe stays open, and the program ends all the same.
 #[test]
-fn nothing_is_waited_for_behind_the_last_table() {
+fn nothing_is_waited_for_after_the_last_table() {
     let place = Place::of_test("nothing is waited for");
     let (child, mut pipe) = started(place.program(&three()));
     let stream = header(9, 0).repeat(65_535);
@@ -469,7 +469,7 @@ fn nothing_is_waited_for_with_a_refused_list() {
 /// it.
 const OF_LONGEST: &str = "439942cae5995486622ae4e0916178391b821ef95305819181da1ffa70e148f9";
 
-/// Both lengths at the limit, listed and not, and a short table behind them.
+/// Both lengths at the limit, listed and not, and a short table after them.
 #[test]
 fn tables_at_the_limit() {
     let place = Place::of_test("tables at the limit");
@@ -520,7 +520,7 @@ fn long_tables_cut_short() {
 }
 
 /// More than a pipe holds and a read takes, and tables that end with a read,
-/// a byte before and a byte behind.
+/// a byte before and a byte after.
 #[test]
 fn tables_in_several_reads() {
     let place = Place::of_test("tables in several reads");
@@ -669,7 +669,7 @@ fn input_that_cannot_be_read() {
     }
 }
 
-/// The most memory that the program has over a stream of so many such tables,
+/// The maximum memory of the program over a stream of `count` such tables,
 /// of which it has read all but what the pipe still holds.
 fn peak_over(place: &Place, table: &[u8], count: usize) -> usize {
     let (child, mut pipe) = started(place.program(&three()));
@@ -830,7 +830,7 @@ fn the_example_of_the_readme() {
     assert!(output.status.success(), "{err}");
 }
 
-/// A list that comes from another program, through a pipe with a name.
+/// A list that comes from a different program, through a pipe with a name.
 #[test]
 fn a_list_from_a_named_pipe() {
     let place = Place::of_test("a list from a named pipe");

@@ -1,7 +1,7 @@
 //! The running hash: pieces of whole bytes cut anywhere, the stages, and the
 //! refusals 2, 3, 16, 4 and 5 alone and against their neighbours.
 
-use wickslate_conformance::compare::{finish, read, start, update, whole};
+use wickslate_conformance::compare::{finish, hash, read, start, update};
 use wickslate_conformance::make::{
     block_edges, none, result_bytes, spare_held, spare_state, total, variant, well_formed, UNKNOWN,
 };
@@ -36,7 +36,7 @@ fn expect_whole(variant: &Variant, h: Hasher, message: &[u8]) {
     for wanted in [0, 1] {
         let out = vec![0x5e; result_bytes(variant, wanted) + 3];
         let given = read(h, wanted != 0, &out);
-        assert_eq!(given, whole(variant.number, message, wanted, &out));
+        assert_eq!(given, hash(variant.number, message, wanted, &out));
     }
 }
 
@@ -47,8 +47,8 @@ fn pieces_cut_anywhere() {
         for variant in &VARIANTS {
             let length = random.below(200);
             let message = random.bytes(length);
-            let most = [2, 4, 8, 40][round % 4];
-            let pieces = random.cut(&message, most);
+            let bound = [2, 4, 8, 40][round % 4];
+            let pieces = random.cut(&message, bound);
             expect_whole(variant, closed(variant, &pieces), &message);
         }
     }

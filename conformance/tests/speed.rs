@@ -1,15 +1,15 @@
 //! The archive is as much faster than the Rust version as its look-ups make
-//! it. They are fast only where the compiler inlines the functions of a round;
+//! it. They are fast only if the compiler inlines the functions of a round;
 //! past its limit for that it says nothing, and hashing takes four to eight
 //! times as long. No other test would see it.
 //!
-//! Both sides hash one message, by turns, on this thread's processor time, and
+//! Both sides hash one message, in alternation, on this thread's processor time, and
 //! the best of each counts: other work on the machine troubles both alike.
 //! `cargo test --release --test speed -- --nocapture` prints the ratios.
 
 use std::time::Duration;
 
-use wickslate_conformance::speed::{message, of_whole, Effort};
+use wickslate_conformance::speed::{message, of_one_call, Effort};
 use wickslate_reference::{Family, Variant, VARIANTS};
 
 const EFFORT: Effort = Effort {
@@ -46,7 +46,7 @@ fn look_ups_are_as_fast_as_they_should_be() {
     let mut slow = Vec::new();
     for variant in &VARIANTS {
         let (bytes, least) = limit(variant);
-        let ratio = of_whole(variant, &message(bytes), EFFORT).ratio();
+        let ratio = of_one_call(variant, &message(bytes), EFFORT).ratio();
         let line = format!("{}: {ratio:.2}, at least {least}", variant.name);
         println!("{line}");
         if ratio < least {

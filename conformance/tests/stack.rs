@@ -22,8 +22,8 @@ extern "C" {
     fn wickslate_finish();
     fn wickslate_digest();
     fn wickslate_end_state();
-    fn wickslate_whole();
-    fn wickslate_whole_bits();
+    fn wickslate_hash();
+    fn wickslate_hash_bits();
     fn wickslate_permute();
     fn wickslate_unpermute();
     fn wickslate_lesamnta_encrypt();
@@ -33,7 +33,7 @@ extern "C" {
     fn wickslate_entry();
     fn wickslate_advance();
     fn wickslate_check_entry();
-    fn wickslate_digest_list();
+    fn wickslate_hash_list();
     fn wickslate_check_manifest();
 }
 
@@ -60,16 +60,16 @@ fn lent(bytes: &mut [u8]) -> [usize; 2] {
     [bytes.as_mut_ptr() as usize, bytes.len()]
 }
 
-/// The most bytes of stack that each function has used.
+/// The maximum number of bytes of stack that each function has used.
 #[derive(Default)]
-struct Most(BTreeMap<&'static str, usize>);
+struct Deepest(BTreeMap<&'static str, usize>);
 
-impl Most {
+impl Deepest {
     fn call(&mut self, name: &'static str, function: Function, words: &[usize]) -> u32 {
         // SAFETY: the callers below pass what the functions take.
         let (Answer(answer), used) = unsafe { depth(function, words) };
-        let most = self.0.entry(name).or_default();
-        *most = used.max(*most);
+        let deepest = self.0.entry(name).or_default();
+        *deepest = used.max(*deepest);
         answer
     }
 
@@ -108,20 +108,20 @@ impl Most {
         }
     }
 
-    fn whole(&mut self, call: &Call, wanted: u32) -> u32 {
+    fn hash(&mut self, call: &Call, wanted: u32) -> u32 {
         let mut out = call.output();
         let (number, wanted) = (call.number as usize, wanted as usize);
         let (message, out) = (read(call.message), lent(&mut out));
         let words = [number, message[0], message[1], wanted, out[0], out[1]];
-        self.call("whole", wickslate_whole, &words)
+        self.call("hash", wickslate_hash, &words)
     }
 
-    fn whole_bits(&mut self, call: &Call, wanted: u32) -> u32 {
+    fn hash_bits(&mut self, call: &Call, wanted: u32) -> u32 {
         let mut out = call.output();
         let (number, bits, wanted) = (call.number as usize, call.bits as usize, wanted as usize);
         let (message, out) = (read(call.message), lent(&mut out));
         let words = [number, message[0], message[1], bits, wanted, out[0], out[1]];
-        self.call("whole_bits", wickslate_whole_bits, &words)
+        self.call("hash_bits", wickslate_hash_bits, &words)
     }
 
     fn permute(&mut self, call: &Call) -> u32 {
@@ -194,14 +194,14 @@ impl Most {
         self.call("check_entry", wickslate_check_entry, &words)
     }
 
-    fn digest_list(&mut self, call: &Call, wanted: u32) -> u32 {
+    fn hash_list(&mut self, call: &Call, wanted: u32) -> u32 {
         let (list, mut out) = (call.list(), call.output());
         let (number, wanted) = (call.number as usize, wanted as usize);
         let (list, buffer, out) = (read(&list), read(call.message), lent(&mut out));
         let words = [
             number, list[0], list[1], buffer[0], buffer[1], wanted, out[0], out[1],
         ];
-        self.call("digest_list", wickslate_digest_list, &words)
+        self.call("hash_list", wickslate_hash_list, &words)
     }
 
     fn check_manifest(&mut self, call: &Call) -> u32 {
@@ -210,7 +210,12 @@ impl Most {
     }
 
     /// A call without a fault, and with each of them.
-    fn each(&mut self, sound: &Call, faults: &[Fault], answer: impl Fn(&mut Most, &Call) -> u32) {
+    fn each(
+        &mut self,
+        sound: &Call,
+        faults: &[Fault],
+        answer: impl Fn(&mut Deepest, &Call) -> u32,
+    ) {
         assert_eq!(answer(self, sound), 0, "no fault");
         for fault in faults {
             assert_eq!(answer(self, &fault.spoil(sound)), fault.answer);
@@ -220,40 +225,48 @@ impl Most {
     /// Every function, done and with each refusal.
     fn refused_calls(&mut self, variant: &Variant) {
         let sound = Call::sound(variant);
-        self.each(&sound, &faults::of_start(variant), Most::start);
-        self.each(&sound, &faults::of_update(variant), Most::update);
-        self.each(&sound, &faults::of_finish(variant), Most::finish);
+        self.each(&sound, &faults::of_start(variant), Deepest::start);
+        self.each(&sound, &faults::of_update(variant), Deepest::update);
+        self.each(&sound, &faults::of_finish(variant), Deepest::finish);
         if variant.is_sponge() {
-            self.each(&sound, &faults::of_permute(variant), Most::permute);
-            self.each(&sound, &faults::of_permute(variant), Most::unpermute);
+            self.each(&sound, &faults::of_permute(variant), Deepest::permute);
+            self.each(&sound, &faults::of_permute(variant), Deepest::unpermute);
         } else {
             self.cipher(&sound);
         }
-        self.each(&sound, &faults::of_recover(variant), Most::recover);
-        self.each(&sound, &faults::of_entry(), Most::entry);
-        self.each(&sound, &faults::of_entry(), Most::advance);
-        self.each(&sound, &faults::of_check_entry(), Most::check_entry);
+        self.each(&sound, &faults::of_recover(variant), Deepest::recover);
+        self.each(&sound, &faults::of_entry(), Deepest::entry);
+        self.each(&sound, &faults::of_entry(), Deepest::advance);
+        self.each(&sound, &faults::of_check_entry(), Deepest::check_entry);
         let faults = faults::of_check_manifest(variant);
-        self.each(&sound, &faults, Most::check_manifest);
+        self.each(&sound, &faults, Deepest::check_manifest);
         let ending = sound.clone().with_bits(3);
-        self.each(&ending, &faults::of_update_bits(variant), Most::update_bits);
+        self.each(
+            &ending,
+            &faults::of_update_bits(variant),
+            Deepest::update_bits,
+        );
         let faults = faults::of_recover_bits(variant);
-        self.each(&ending, &faults, Most::recover_bits);
+        self.each(&ending, &faults, Deepest::recover_bits);
         for wanted in [0, 1] {
             let faults = faults::of_read(variant, wanted);
-            self.each(&Call::closed(variant), &faults, |most, call| {
-                most.read(call, wanted)
+            self.each(&Call::closed(variant), &faults, |deepest, call| {
+                deepest.read(call, wanted)
             });
-            let faults = faults::of_whole(variant, wanted);
-            self.each(&sound, &faults, |most, call| most.whole(call, wanted));
-            let faults = faults::of_whole_bits(variant, wanted);
-            self.each(&ending, &faults, |most, call| most.whole_bits(call, wanted));
-            let faults = faults::of_digest_list(variant, wanted);
-            self.each(&sound, &faults, |most, call| most.digest_list(call, wanted));
+            let faults = faults::of_hash(variant, wanted);
+            self.each(&sound, &faults, |deepest, call| deepest.hash(call, wanted));
+            let faults = faults::of_hash_bits(variant, wanted);
+            self.each(&ending, &faults, |deepest, call| {
+                deepest.hash_bits(call, wanted)
+            });
+            let faults = faults::of_hash_list(variant, wanted);
+            self.each(&sound, &faults, |deepest, call| {
+                deepest.hash_list(call, wanted)
+            });
         }
     }
 
-    /// A message in one piece behind so many bytes before it, a whole one, and
+    /// A message in one piece after 0, 1, .. bytes before it, a whole one, and
     /// a list of 512 segments, of which the last is all of it that is not too
     /// long with the list; a manifest of 512 records.
     fn message_calls(&mut self, call: &mut Call, variant: &Variant, totals: u32) {
@@ -267,8 +280,8 @@ impl Most {
         call.entries[511].1 = call.message.len().min(MESSAGE_LIMIT - 2 - 8 * 512) as u32;
         call.entry = 511;
         for wanted in [0, 1] {
-            assert_eq!(self.whole(call, wanted), 0);
-            assert_eq!(self.digest_list(call, wanted), 0);
+            assert_eq!(self.hash(call, wanted), 0);
+            assert_eq!(self.hash_list(call, wanted), 0);
         }
         assert_eq!(self.entry(call), 0);
         assert_eq!(self.advance(call), 0);
@@ -282,12 +295,12 @@ impl Most {
     fn recover_calls(&mut self, call: &mut Call, variant: &Variant) {
         for place in some_places(variant, 8 * call.message.len()) {
             call.place = place;
-            self.each(call, &faults::no_block(variant), Most::recover);
+            self.each(call, &faults::no_block(variant), Deepest::recover);
         }
     }
 
-    /// The same calls of a message of some bytes, of the last of which some
-    /// bits count, and the end of a message after each number of bits.
+    /// The same calls of a message whose last byte contributes some bits, and
+    /// the end of a message after each number of bits.
     fn bits_calls(&mut self, call: &mut Call, variant: &Variant, totals: u32) {
         let mut random = Random::of_test("bits_calls");
         for total in 0..totals {
@@ -299,11 +312,11 @@ impl Most {
             assert_eq!(self.finish(call), 0);
         }
         for wanted in [0, 1] {
-            assert_eq!(self.whole_bits(call, wanted), 0);
+            assert_eq!(self.hash_bits(call, wanted), 0);
         }
         for place in some_places(variant, bits_of(call.message, call.bits)) {
             call.place = place;
-            self.each(call, &faults::no_block(variant), Most::recover_bits);
+            self.each(call, &faults::no_block(variant), Deepest::recover_bits);
         }
     }
 }
@@ -333,18 +346,18 @@ fn stated() -> Vec<(String, usize)> {
 
 #[test]
 fn every_call_leaves_some_of_what_the_header_says() {
-    let mut most = Most::default();
+    let mut deepest = Deepest::default();
     for variant in &VARIANTS {
-        most.refused_calls(variant);
+        deepest.refused_calls(variant);
         for bytes in LENGTHS {
             let mut call = Call::about(variant, &MESSAGE[..bytes]);
-            most.message_calls(&mut call, variant, TOTALS);
-            most.recover_calls(&mut call, variant);
+            deepest.message_calls(&mut call, variant, TOTALS);
+            deepest.recover_calls(&mut call, variant);
         }
         for bytes in LENGTHS.into_iter().filter(|&bytes| bytes > 0) {
             for bits in [1, 7, 8] {
                 let mut call = Call::about(variant, &MESSAGE[..bytes]).with_bits(bits);
-                most.bits_calls(&mut call, variant, TOTALS);
+                deepest.bits_calls(&mut call, variant, TOTALS);
             }
         }
     }
@@ -352,20 +365,20 @@ fn every_call_leaves_some_of_what_the_header_says() {
         // The sponge that takes the least time for a byte.
         let variant = &VARIANTS[4];
         let mut call = Call::about(variant, &LONG[..MESSAGE_LIMIT]);
-        most.message_calls(&mut call, variant, 1);
-        most.recover_calls(&mut call, variant);
-        most.bits_calls(&mut call.with_bits(7), variant, 1);
+        deepest.message_calls(&mut call, variant, 1);
+        deepest.recover_calls(&mut call, variant);
+        deepest.bits_calls(&mut call.with_bits(7), variant, 1);
     }
     let stated = stated();
-    assert_eq!(stated.len(), most.0.len(), "a function is left out");
+    assert_eq!(stated.len(), deepest.0.len(), "a function is left out");
     println!("| Function | bytes of stack, measured | stated in the header |");
     println!("|---|--:|--:|");
     for (name, stated) in &stated {
-        let used = most.0[name.as_str()];
+        let used = deepest.0[name.as_str()];
         println!("| `wickslate_{name}` | {used} | {stated} |");
     }
     for (name, stated) in stated {
-        let used = most.0[name.as_str()];
+        let used = deepest.0[name.as_str()];
         assert!(used + ROOM <= stated, "{name}: {used} of {stated} bytes");
     }
 }

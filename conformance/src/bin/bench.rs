@@ -5,7 +5,7 @@ use std::process::exit;
 use std::time::Duration;
 
 use wickslate_conformance::rows::{machine, print_head, print_row};
-use wickslate_conformance::speed::{best, hash, message, of_pieces, of_whole, Effort, Speed};
+use wickslate_conformance::speed::{best, hash, message, of_one_call, of_pieces, Effort, Speed};
 use wickslate_reference::{Family, Variant, VARIANTS};
 
 const USAGE: &str = "\
@@ -16,7 +16,7 @@ their times (above 1: the archive is faster), for messages of 16 B, 1 KiB,
 64 KiB and 1 MiB; the same for 4 KiB in pieces of 16 B, from start to digest;
 then ns per byte of the archive for growing messages, 64 KiB to 1 MiB.
 --bytes gives other lengths and leaves the other tables out, --pieces prints
-the table of pieces, alone or behind that of --bytes. Each time is the best of
+the table of pieces, alone or after that of --bytes. Each time is the best of
 N repetitions or more, 3 if not given.";
 
 /// The lengths of whole messages, and those of growing ones.
@@ -102,7 +102,7 @@ fn print_speeds(wish: &Wish) {
     for variant in &wish.variants {
         let mut row = vec![name(variant)];
         for &bytes in lengths {
-            row.extend(cells(of_whole(variant, &message(bytes), wish.effort)));
+            row.extend(cells(of_one_call(variant, &message(bytes), wish.effort)));
         }
         print_row(wish.markdown, &row);
     }
@@ -117,7 +117,7 @@ fn print_pieces(wish: &Wish) {
     }
 }
 
-/// The names of the columns behind the variant's, after an empty line.
+/// The names of the columns after the variant's, below an empty line.
 fn begin_table(wish: &Wish, columns: impl IntoIterator<Item = String>) {
     println!();
     let mut head = vec!["Variant".to_string()];

@@ -22,15 +22,15 @@ usage: report_bench [--markdown] [--repetitions N]
 
 Prints for `report` over 64 MiB of listed tables, over 256 MiB of others and over
 65,535 empty ones of either kind: its time, how that compares with the time of
-`digest` and of `cat` over as many bytes (above 1: report takes longer), and the
-most memory that it had. Times are the processor's, with what the system does for
+`digest` and of `cat` over as many bytes (above 1: report takes longer), and its
+maximum memory. Times are the processor's, with what the system does for
 the program, and the best of N repetitions, 3 if not given. A repetition takes
 some seconds.";
 
 /// The sponge that takes the least time for a byte.
 const FAST: &Variant = &VARIANTS[4];
 
-/// Three axes that are listed, behind all others, and one that is not. The table
+/// Three axes that are listed, after all others, and one that is not. The table
 /// of one of them has no bytes.
 const LONG: u16 = 509;
 const SHORT: u16 = 510;
@@ -40,7 +40,7 @@ const OTHER: u16 = 512;
 /// The bytes of a short table.
 const SHORT_BYTES: usize = 1 << 16;
 
-/// A program over so many tables, and the row that it is compared with.
+/// A program over `count` tables, and the row that it is compared with.
 struct Row {
     name: &'static str,
     run: fn(&Row, &[u8]) -> Run,
@@ -117,7 +117,7 @@ const ROWS: [Row; 8] = [
     },
 ];
 
-/// The time and the most memory, in KiB, of a program, and what it printed.
+/// The time and the maximum memory, in KiB, of a program, and what it printed.
 struct Run {
     time: Duration,
     peak: usize,
@@ -166,7 +166,7 @@ fn print(markdown: bool, best: &[(Duration, usize)]) {
         "ms",
         "ns per byte",
         "ratio",
-        "most KiB",
+        "max KiB",
     ];
     print_head(markdown, &head.map(String::from));
     let per_byte = |k: usize| {
@@ -210,11 +210,11 @@ fn write_manifest(contents: &[u8]) {
 
 fn digest_of(contents: &[u8]) -> Vec<u8> {
     let mut digest = vec![0; FAST.digest_bytes()];
-    assert!(wickslate::whole(FAST.number, contents, 0, &mut digest).is_done());
+    assert!(wickslate::hash(FAST.number, contents, 0, &mut digest).is_done());
     digest
 }
 
-/// All tables at once; their counts are looked at.
+/// All tables at once; their counts are compared.
 fn report(row: &Row, contents: &[u8]) -> Run {
     let mut command = program("report");
     command.current_dir(root().join("target/report_bench"));
@@ -257,10 +257,10 @@ fn digest(row: &Row, contents: &[u8]) -> Run {
     .expect("a message")
 }
 
-/// Runs a command and feeds it these two pieces so many times. Its memory is
-/// looked at when it has read all but what the pipe still holds and the last
-/// byte, which it waits for: a report ends by itself behind the last table that
-/// it looks at.
+/// Runs a command and feeds it these two pieces `count` times. Its memory is
+/// read when it has read all but what the pipe still holds and the last byte,
+/// which it waits for: a report ends by itself after the last table that it
+/// reads.
 fn measured(command: Command, count: usize, pieces: [&[u8]; 2]) -> Run {
     let (mut child, mut pipe) = started(command);
     let mut write = |bytes: &[u8]| pipe.write_all(bytes).expect("a program that reads");

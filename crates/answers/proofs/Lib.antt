@@ -1,9 +1,3 @@
--- Laws about answers, rows of checks, outputs, and numbers in bytes and as text.
+-- Laws about answers and rows of checks.
 pub mod Statuses
 pub mod Rows
-pub mod NumberLaws
-pub mod ByteLaws
-pub mod WrittenAt
-pub mod DecimalLaws
-pub mod DecimalWriting
-pub mod LineLaws

@@ -1,4 +1,5 @@
--- Rows of checks. Three laws serve every operation: a check that fails behind checks that pass refuses; a row that passes is Done; and a row that is Done has passed.
+-- Rows of checks. Three laws serve every operation: a check that fails after checks that pass refuses; a row that
+-- passes is Done; and a row that is Done has passed.
 -- Assumes nothing.
 use mathlib.Core.Path.{_≡_, refl, sym, _∙_}
 use mathlib.Core.Bool.{Bool, true, false, cond}
@@ -21,8 +22,8 @@ passed-all [] p = refl
 passed-all (c ∷ cs) p = rw (p .0) (passed-all cs (p .1))
 
 pub refused-here : RefusedHere
-refused-here [] c behind p e = rw e
-refused-here (b ∷ bs) c behind p e = rw (p .0) (refused-here bs c behind (p .1) e)
+refused-here [] c after p e = rw e
+refused-here (b ∷ bs) c after p e = rw (p .0) (refused-here bs c after (p .1) e)
 
 passed : (t : Bool) (r : Refusal) (s : Status) → cond t s (Refused r) ≡ Done → (t ≡ true) × (s ≡ Done)
 passed true r s e = (refl, e)
@@ -47,17 +48,17 @@ pub by-ways : (P : Status → Type 0) (row : List Check) → Ways P row → P (f
 by-ways P [] w = w
 by-ways P (c ∷ cs) w = either-way P (c .passes) (firstRefusal cs) (c .refusal) (w .0) (λ e. by-ways P cs (w .1 e))
 
--- ---- rows behind one another
+-- ---- rows after one another
 
-put-behind : (t : Bool) (r : Refusal) (x y z : Status) → z ≡ whenDone x y x
+put-after : (t : Bool) (r : Refusal) (x y z : Status) → z ≡ whenDone x y x
     → cond t z (Refused r) ≡ whenDone (cond t x (Refused r)) y (cond t x (Refused r))
-put-behind true r x y z e = e
-put-behind false r x y z e = refl
+put-after true r x y z e = e
+put-after false r x y z e = refl
 
--- the second row counts where the first is Done
+-- the second row counts if the first is Done
 pub row-append : (xs ys : List Check) → firstRefusal (xs ++ ys) ≡ whenDone (firstRefusal xs) (firstRefusal ys) (firstRefusal xs)
 row-append [] ys = refl
-row-append (c ∷ cs) ys = put-behind (c .passes) (c .refusal) (firstRefusal cs) (firstRefusal ys) (firstRefusal (cs ++ ys)) (row-append cs ys)
+row-append (c ∷ cs) ys = put-after (c .passes) (c .refusal) (firstRefusal cs) (firstRefusal ys) (firstRefusal (cs ++ ys)) (row-append cs ys)
 
 pub row-first : (xs ys : List Check) → (firstRefusal xs ≡ Done → ⊥) → firstRefusal (xs ++ ys) ≡ firstRefusal xs
 row-first xs ys n = row-append xs ys ∙ kept (firstRefusal xs) (firstRefusal ys) (firstRefusal xs) n
@@ -74,13 +75,13 @@ row-both xs ys e = both-done (firstRefusal xs) (firstRefusal ys) (sym (row-appen
 
 -- ---- the checks of n things
 
--- where every one's are Done, so are all
+-- if every one's are Done, so are all
 pub each-done : (n : ℕ) (f : ℕ → List Check) → ((k : ℕ) → k < n → firstRefusal (f k) ≡ Done) → firstRefusal (each n f) ≡ Done
 each-done zero f h = refl
 each-done (suc n) f h =
     row-second (f 0) (each n (λ k. f (suc k))) (h 0 (zero-lt-suc n)) ∙ each-done n (λ k. f (suc k)) (λ k l. h (suc k) (suc-le-suc l))
 
--- and where all are Done, so are every one's
+-- and if all are Done, so are every one's
 pub done-each : (n : ℕ) (f : ℕ → List Check) → firstRefusal (each n f) ≡ Done → (k : ℕ) → k < n → firstRefusal (f k) ≡ Done
 done-each zero f e k h = absurd (not-suc-le-zero h)
 done-each (suc n) f e zero h = row-both (f 0) (each n (λ k. f (suc k))) e .0

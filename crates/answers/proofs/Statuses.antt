@@ -39,7 +39,7 @@ kept (Refused r) new old n = refl
 pub tag-refused : (s : Status) → OneOf (1 ∷ []) (tagOf type.the-type s) → s ≡ Done → ⊥
 tag-refused s o e = miss (1 ∷ []) 0 tt (rw e at o)
 
--- two answers of which the second counts where the first is Done: both are Done where the whole is
+-- two answers of which the second counts if the first is Done: both are Done if the whole is
 pub both-done : (s r : Status) → whenDone s r s ≡ Done → (s ≡ Done) × (r ≡ Done)
 both-done s r e = ⊎-elim (λ d. (d, rw d at e)) (λ n. absurd (n (sym (kept s r s n) ∙ e))) (done-or s)
 

@@ -1,4 +1,5 @@
--- A row of checks is data: conditions with their refusals, in the order of document 01's table. The answer is the first refusal of the row.
+-- A row of checks is data: conditions with their refusals, in the order of document 01's table. The answer is the first
+-- refusal of the row.
 -- Assumes nothing.
 use mathlib.Core.Path.{_≡_}
 use mathlib.Core.Bool.{Bool, true, cond, not}
@@ -19,7 +20,7 @@ unless holds r = record { passes = holds; refusal = r }
 abbrev pub when : Bool → Refusal → Check
 when holds r = record { passes = not holds; refusal = r }
 
--- the first refusal of a row, and Done where every check passes
+-- the first refusal of a row, and Done if every check passes
 abbrev pub firstRefusal : List Check → Status
 firstRefusal [] = Done
 firstRefusal (c ∷ cs) = cond (c .passes) (firstRefusal cs) (Refused (c .refusal))

@@ -2,7 +2,5 @@
 pub mod Refusals
 pub mod Checks
 pub mod Outputs
-pub mod Numbers
-pub mod Text
 pub mod Lines
 pub mod Promises

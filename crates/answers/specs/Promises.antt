@@ -7,14 +7,13 @@ use Prim.Native.Nat.{ℕ, _/_, _%_}
 use Rattle.answers.specs.declared.Refusal.{Refusal}
 use Rattle.answers.specs.declared.Status.{Status}
 use Rattle.answers.specs.declared.Status.the-variants.{Done, Refused}
-use Rattle.answers.specs.Numbers.{decimal, fromDecimal}
 use Rattle.answers.specs.Refusals.{number, entry, answer}
 use Rattle.answers.specs.Checks.{Check, firstRefusal, Pass}
 
 -- A check that fails after checks that pass gives its refusal, whatever comes after it.
 abbrev pub RefusedHere : Type 0
-RefusedHere = (before : List Check) (c : Check) (behind : List Check) → Pass before → c .passes ≡ false
-    → firstRefusal (before ++ c ∷ behind) ≡ Refused (c .refusal)
+RefusedHere = (before : List Check) (c : Check) (after : List Check) → Pass before → c .passes ≡ false
+    → firstRefusal (before ++ c ∷ after) ≡ Refused (c .refusal)
 
 -- A row of which every check passes is Done.
 abbrev pub PassedAll : Type 0
@@ -35,7 +34,3 @@ AnswerNumber = (r : Refusal) → answer (Refused r) % 256 ≡ number r
 -- and what is above the low byte is the entry that the refusal names.
 abbrev pub AnswerEntry : Type 0
 AnswerEntry = (r : Refusal) → answer (Refused r) / 256 ≡ entry r
-
--- A number in decimal reads back as itself.
-abbrev pub DecimalRead : Type 0
-DecimalRead = (n : ℕ) → fromDecimal (decimal n) ≡ n

@@ -26,7 +26,7 @@ number BadBitNumber = 15
 number InsideByte = 16
 number NotSponge = 17
 
--- the entry of a list that refusals 10 and 11 name, and 0 elsewhere
+-- the entry of a list that refusals 10 and 11 name, and 0 for the others
 abbrev pub entry : Refusal → ℕ
 entry UnknownVariant = 0
 entry Malformed = 0

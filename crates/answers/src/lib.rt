@@ -1,17 +1,16 @@
-// What a call answers: Done, or the one refusal whose condition holds and whose earlier checks passed; and numbers in bytes and as text.
+// What a call answers: Done, or the one refusal whose condition holds and whose earlier checks passed.
 pub mod text;
 
 ghost use mathlib.Core.Path.{_≡_};
-ghost use Prim.Native.Nat.{_+_, _*_, _<_, _≤_};
-ghost use lib.ListN.{length, take, drop};
+ghost use Prim.Native.Nat.{_+_, _*_};
 ghost use Rattle.answers.specs.Refusals.{number, entry, answer};
-ghost use Rattle.answers.specs.Numbers.{bigEndian, inBytes};
+ghost use Rattle.bytes.specs.Numbers.{bigEndian, inBytes};
 ghost use Rattle.answers.specs.Outputs.{isDone};
 
-// The most bytes that a message may have, and the most bits.
-pub const MOST: usize = 16777215;
+// The maximum length of a message, in bytes and in bits.
+pub const MAX_MESSAGE_BYTES: usize = 16777215;
 
-pub const MOST_BITS: u32 = 134217720;
+pub const MAX_MESSAGE_BITS: u32 = 134217720;
 
 // Why a call was refused. The two of an entry name it.
 pub enum Refusal {
@@ -73,7 +72,7 @@ pub fn number_of(r: Refusal) -> u8
     }
 }
 
-// The entry that a refusal names, 0 where it names none.
+// The entry that a refusal names, 0 if it names none.
 pub fn entry_of(r: Refusal) -> u16
     ensures { λ k. ⌜ k ≡ entry r ⌝ }
 {
@@ -113,34 +112,4 @@ pub fn answer_of(s: Status) -> u32
         Status::Done => 0,
         Status::Refused(r) => refusal_answer(r),
     }
-}
-
-fn wide(b: u8) -> u32
-    ensures { λ r. ⌜ (r ≡ b) × (r < 256) ⌝ }
-{
-    b as u32
-}
-
-// The number that the two bytes from i on stand for, the first the most significant.
-pub fn u16_at(bytes: &[u8], i: usize) -> u16
-    requires { ⌜ i + 2 ≤ length (now bytes) ⌝ }
-    ensures { λ r. ⌜ r ≡ bigEndian (take 2 (drop i (now (bytes .entry)))) ⌝ }
-{
-    (wide(bytes[i]) * 256 + wide(bytes[i + 1])) as u16
-}
-
-// The number that the four bytes from i on stand for, the first the most significant.
-pub fn u32_at(bytes: &[u8], i: usize) -> u32
-    requires { ⌜ i + 4 ≤ length (now bytes) ⌝ }
-    ensures { λ r. ⌜ r ≡ bigEndian (take 4 (drop i (now (bytes .entry)))) ⌝ }
-{
-    ((wide(bytes[i]) * 256 + wide(bytes[i + 1])) * 256 + wide(bytes[i + 2])) * 256
-        + wide(bytes[i + 3])
-}
-
-// A number in two bytes, the first the most significant.
-pub fn u16_bytes(n: u16) -> [u8; 2]
-    ensures { λ r. ⌜ r ≡ inBytes 2 n ⌝ }
-{
-    [(n / 256) as u8, (n % 256) as u8]
 }

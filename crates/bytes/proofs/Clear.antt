@@ -5,7 +5,6 @@ use mathlib.Core.Bool.{Bool, true, false, not, _&&_, and-comm}
 use mathlib.Core.List.{List, [], _∷_, _++_, reverse, reverse-cons}
 use mathlib.Core.Logic.{_⊎_, ⊎-elim}
 use Prim.Native.Nat.{ℕ, zero, suc, _+_, _-_, _*_, _/_, _%_, _^_, _≤_, _<_}
-use native.Mathlib.Nat.{mod-eq-of-lt}
 use native.Mathlib.Omega.{arith}
 use native.Mathlib.Numerals.{add-one}
 use lib.ListN.{length, drop, getD, replicate, drop-of-length-le}
@@ -35,7 +34,7 @@ pub zeros-clear : (n : ℕ) → clear (replicate n false) ≡ true
 zeros-clear zero = refl
 zeros-clear (suc n) = zeros-clear n
 
--- ---- the w lowest bits of a number are clear just where they are worth 0
+-- ---- the w lowest bits of a number are clear exactly when they are worth 0
 
 zeros-value : (o : Order) (w : ℕ) → valueOf o (replicate w false) ≡ 0
 unfolding valueOf ordered
@@ -66,16 +65,6 @@ width-set o w x n = go (clear (bitsOf o w x)) refl
 pub first-byte : (o : Order) (s : List ℕ) (i : ℕ) → i < length s → bitsIn o (drop i s) ≡ bitsOf o 8 (getD s i 0) ++ bitsIn o (drop (i + 1) s)
 unfolding bitsIn
 first-byte o s i h = rw (add-one, drop-cons s i 0)
-
-pub stopped : (o : Order) (s : List ℕ) (i : ℕ) → i < length s → getD s i 0 < 256 → (getD s i 0 ≡ 0 → ⊥) → clear (bitsIn o (drop i s)) ≡ false
-stopped o s i h b n = rw (first-byte o s i h, clear-append, width-set o 8 (getD s i 0) (λ e. n (sym (mod-eq-of-lt b) ∙ e)))
-
-pub passed : (o : Order) (s : List ℕ) (i : ℕ) → i < length s → getD s i 0 ≡ 0 → clear (bitsIn o (drop i s)) ≡ clear (bitsIn o (drop (i + 1) s))
-passed o s i h z = rw (first-byte o s i h, clear-append, width-clear o 8 (getD s i 0) (rw z))
-
-pub past : (o : Order) (s : List ℕ) (i : ℕ) → length s ≤ i → clear (bitsIn o (drop i s)) ≡ true
-unfolding bitsIn
-past o s i h = ap (λ (l : List ℕ). clear (bitsIn o l)) (drop-of-length-le s h)
 
 -- ---- from a bit on
 

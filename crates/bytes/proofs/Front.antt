@@ -1,16 +1,17 @@
--- A list written over the front of another, element by element.
+-- Bytes over the front of others, and what is left of equal elements after the front.
 -- Assumes nothing.
 use mathlib.Core.Path.{_≡_, sym, ap}
 use mathlib.Core.List.{List, _++_}
-use Prim.Native.Nat.{ℕ, zero, suc, _+_, _-_, _<_}
-use native.Mathlib.Numerals.{add-one}
+use Prim.Native.Nat.{ℕ, zero, suc, _-_, _≤_}
 use native.Mathlib.Nat.{zero-add, sub-zero, suc-sub-suc}
 use native.Mathlib.Omega.{arith}
-use lib.ListN.{length, take, drop, set, getD, replicate}
-use lib.Seq.{paste-suc}
+use lib.ListN.{length, take, drop, replicate}
+use lib.Seq.{length-take-le}
+use Rattle.bytes.specs.Slices.{writtenAt}
 
-pub front-more : (d s : List ℕ) (i : ℕ) → i < length d → i < length s → set (take i s ++ drop i d) i (getD s i 0) ≡ take (i + 1) s ++ drop (i + 1) d
-front-more d s i hd hs = rw add-one (simp zero-add at (paste-suc d 0 s i 0 (rw zero-add hd) hs))
+pub front-written : (n : ℕ) (s out : List ℕ) → n ≤ length s → writtenAt 0 (take n s) out ≡ take n s ++ drop n out
+unfolding writtenAt
+front-written n s out h = rw (length-take-le n s h, zero-add)
 
 pub drop-replicate : {A : Type 0} (n m : ℕ) (x : A) → drop n (replicate m x) ≡ replicate (m - n) x
 drop-replicate zero m x = ap (λ (k : ℕ). replicate k x) (sym (sub-zero m))

@@ -65,7 +65,7 @@ module _ (o : Order) (t : ℕ) (small : t ≤ stateRoom * 8) where
       (e
       ∙ rw (bits, block-bits o b w hb, xorInto-behind, xorInto-front t (S ++ Z) B (omega arith), take-at S Z t lS, drop-at S Z t lS))
 
-  -- the bytes of an image, and zeros behind them
+  -- the bytes of an image, and zeros after them
   pub front-holds : (bytes : List ℕ) (n : ℕ) → n ≡ bytesFor t → length bytes ≡ n → ((i : ℕ) → getD (bytes ++ replicate (stateRoom - length bytes) 0) i 0 < 256)
       → clear (drop t (bitsIn o bytes)) ≡ true
       → bytes ++ replicate (stateRoom - length bytes) 0 ≡ pack o stateRoom (unpack o t bytes)

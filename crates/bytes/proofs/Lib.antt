@@ -1,8 +1,18 @@
+-- Laws about bytes: arrays and the loops that fill them, numbers and text, nibbles and bits.
 pub mod Elements
+pub mod Fields
 pub mod Upto
 pub mod Mapped
 pub mod Front
 pub mod Shifts
+pub mod ByteLaws
+pub mod NumberLaws
+pub mod CompareLaws
+pub mod WrittenAt
+pub mod DecimalLaws
+pub mod DecimalWriting
+pub mod LineLaws
+pub mod HexLaws
 pub mod Clear
 pub mod LayoutLaws
 pub mod CellLaws

@@ -30,7 +30,7 @@ filled-nothing w = rw (zeros w, reverse-replicate, low-zeros)
     zeros zero = refl
     zeros (suc n) = ap (λ (l : List Bool). false ∷ l) (zeros n)
 
--- two halves of a byte
+-- the two nibbles of a byte
 pub value-halves : (x y : List Bool) → length y ≡ 4 → valueOf high-first (x ++ y) ≡ valueOf high-first x * 16 + valueOf high-first y
 unfolding valueOf ordered
 value-halves x y e =

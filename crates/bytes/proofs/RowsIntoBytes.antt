@@ -1,6 +1,6 @@
--- Cells written behind one another into bytes, two of four bits to a byte or one of eight.
+-- Cells written one after the other into bytes, two of four bits to a byte or one of eight.
 -- Assumes nothing.
-use mathlib.Core.Path.{_≡_, refl, sym, ap, ap₂, _∙_}
+use mathlib.Core.Path.{_≡_, sym, ap, ap₂, _∙_}
 use mathlib.Core.Bool.{Bool, cond}
 use mathlib.Core.List.{List, [], _∷_, _++_, append-nil, append-assoc, flatMap}
 use mathlib.Core.Logic.{⊎-elim}
@@ -21,7 +21,7 @@ use Rattle.standard.specs.Layout.{stateRoom}
 use Rattle.standard.proofs.PutBits.{put-bits, upper-byte, lower-byte, halves}
 use Rattle.standard.proofs.Tests.{lt-or-le}
 
--- ---- one half byte
+-- ---- one nibble
 
 pub half-put : (out : List ℕ) (p x : ℕ) → p < 2 * length out → x < 16 → out ≡ pack high-first (length out) (unpack high-first (4 * p) out)
     → set out (p / 2) (bitXor (getD out (p / 2) 0) (cond (eqb (p % 2) 0) (x * 16) x)) ≡ pack high-first (length out) (unpack high-first (4 * p) out ++ bitsOf high-first 4 x)
@@ -55,7 +55,7 @@ read-back out Z k h l e = ap₂ (unpack high-first) (sym l) e ∙ unpack-pack hi
 pub kept-back : (out : List ℕ) (Z : List Bool) (k : ℕ) → k ≤ 72 → length Z ≡ 4 * k → out ≡ pack high-first stateRoom Z → out ≡ pack high-first stateRoom (unpack high-first (4 * k) out)
 kept-back out Z k h l e = e ∙ ap (pack high-first stateRoom) (sym (read-back out Z k h l e))
 
--- j cells of w = 4 u bits each stand behind the first p half bytes of what was there
+-- j cells of w = 4 u bits each stand after the first p nibbles of what was there
 abbrev pub rowBehind : List ℕ → ℕ → ℕ → (ℕ → ℕ) → ℕ → List Bool
 rowBehind old u p f j = unpack high-first (4 * p) old ++ flatMap (bitsOf high-first (4 * u)) (tab j f)
 
@@ -69,7 +69,7 @@ module _ (old : List ℕ) (lo : length old ≡ stateRoom) (u p : ℕ) (f : ℕ �
   unfolding flatMap
   behind-none e = e ∙ ap (pack high-first stateRoom) (sym (append-nil (unpack high-first (4 * p) old)))
 
-  -- the half bytes are then k
+  -- the nibbles are then k
   module _ (j k : ℕ) (ek : k ≡ p + j * u) (h : k ≤ 72) (out : List ℕ) (e : out ≡ pack high-first stateRoom (rowBehind old u p f j)) where
     size : length (rowBehind old u p f j) ≡ 4 * k
     size = behind-length j (omega arith) ∙ ap (λ (n : ℕ). 4 * n) (sym ek)
@@ -86,7 +86,7 @@ module _ (old : List ℕ) (lo : length old ≡ stateRoom) (u p : ℕ) (f : ℕ �
         en ∙ ap₂ (λ (Z : List Bool) (y : ℕ). pack high-first stateRoom (Z ++ bitsOf high-first (4 * u) y)) (read-back out (rowBehind old u p f j) k h size e) ex
         ∙ ap (pack high-first stateRoom) (append-assoc (unpack high-first (4 * p) old) _ _ ∙ ap (λ (Z : List Bool). unpack high-first (4 * p) old ++ Z) (sym (row-more (4 * u) f j)))
 
--- ---- a byte by halves
+-- ---- a byte by its nibbles
 
 pub byte-put : (old mid new : List ℕ) (p x : ℕ) → length old ≡ stateRoom → p + 2 ≤ 72
     → mid ≡ pack high-first (length old) (unpack high-first (4 * p) old ++ bitsOf high-first 4 (x / 16))

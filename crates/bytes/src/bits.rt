@@ -3,20 +3,7 @@ ghost use mathlib.Core.Path.{_≡_};
 ghost use lib.ListN.{drop};
 ghost use Rattle.standard.specs.Bits.{high-first, bitsIn};
 ghost use Rattle.standard.specs.Layout.{clear};
-
-// Whether every byte from k on is zero.
-fn zero_from(bytes: &[u8], k: usize) -> bool
-    ensures { λ r. ⌜ r ≡ clear (bitsIn high-first (drop k (now (bytes .entry)))) ⌝ }
-{
-    let mut i = k;
-    while i < bytes.len() {
-        if bytes[i] != 0 {
-            return false;
-        }
-        i += 1;
-    }
-    true
-}
+use crate::compare;
 
 // Whether no bit from bit c on is set, a byte's highest bit first.
 pub fn clear_from(bytes: &[u8], c: usize) -> bool
@@ -29,5 +16,5 @@ pub fn clear_from(bytes: &[u8], c: usize) -> bool
     if (bytes[k] as u32) % (1 << (8 - c % 8)) != 0 {
         return false;
     }
-    zero_from(bytes, k + 1)
+    compare::zero_from(bytes, k + 1)
 }

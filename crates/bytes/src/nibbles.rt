@@ -18,7 +18,7 @@ pub fn nibble_of(x: u8, n: usize) -> u8
     x % 16
 }
 
-// A nibble where the nibble n of bytes stands in its byte: the upper one if n is even.
+// A nibble moved to the place that the nibble n of bytes has in its byte: the upper one if n is even.
 fn shifted_nibble(x: u8, n: usize) -> u8
     requires { ⌜ x < 16 ⌝ }
     ensures { λ r. ⌜ r ≡ cond (eqb (n % 2) 0) (x * 16) x ⌝ }
@@ -33,7 +33,8 @@ fn shifted_nibble(x: u8, n: usize) -> u8
 pub fn put_nibble(out: &mut [u8], p: usize, x: u8)
     requires { ⌜ (p < 2 * length (now out)) × (x < 16) ⌝ }
     requires { ⌜ now out ≡ pack high-first (length (now out)) (unpack high-first (4 * p) (now out)) ⌝ }
-    ensures { λ _. ⌜ now (out .exit) ≡ pack high-first (length (now (out .entry))) (unpack high-first (4 * p) (now (out .entry)) ++ bitsOf high-first 4 x) ⌝ }
+    ensures { λ _. ⌜ now (out .exit) ≡ pack high-first (length (now (out .entry)))
+        (unpack high-first (4 * p) (now (out .entry)) ++ bitsOf high-first 4 x) ⌝ }
 {
     let k = p / 2;
     out[k] = out[k] ^ shifted_nibble(x, p);

@@ -10,7 +10,7 @@ use lib.ListN.{length, take, drop, getD, length-append, length-drop, drop-of-len
 use lib.Seq.{take-append-le, drop-append-le, drop-append-add, drop-at, take-at, drop-drop, ext-getD, length-take-le}
 use lib.Dec.{eqb}
 use borrow.Author.Tests.{eq-eqb, ne-eqb}
-use Rattle.answers.proofs.ByteLaws.{cons-bytes}
+use Rattle.bytes.proofs.ByteLaws.{cons-bytes}
 use Rattle.standard.specs.Bits.{high-first, valueOf, bitsIn, unpack, filled}
 use Rattle.standard.proofs.Tests.{lt-or-le}
 use Rattle.standard.proofs.BitLaws.{filled-take, length-bitsIn, bitsIn-append, length-unpack, length-filled, length-pack, filled-add, valueOf-lt}

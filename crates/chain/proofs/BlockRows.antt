@@ -15,7 +15,7 @@ use Rattle.standard.proofs.BitLaws.{filled-take, length-filled, filled-add, fil
 use Rattle.standard.proofs.CutLaws.{length-cut, cut-at, cut-fits, cut-add, cut-append}
 use Rattle.standard.proofs.Streaming.{cut-blocks}
 use Rattle.chain.specs.Blocks.{heldThen, firstBlocks}
-use Rattle.chain.specs.Parts.{Marked}
+use Rattle.chain.specs.Padding.{Padded}
 use Rattle.chain.proofs.BlockHalves.{middle}
 
 -- ---- the first blocks of a string
@@ -120,7 +120,7 @@ module _ (r : ℕ) (pos : 0 < r) (x : List Bool) where
       rw (filled-short (c * r) (withOne x) (omega (arith, length-append x (true ∷ []))), zeros, append-assoc, size, mul-div-cancel c pos)
 
   -- the blocks of bytes that hold the string and the 1 bit
-  module _ (bytes : List ℕ) (marked : Marked x bytes) where
+  module _ (bytes : List ℕ) (marked : Padded x bytes) where
     pub marked-first : firstBlocks r (length x / r + 1) (bitsIn high-first bytes) ≡ wholeBlocks r (x ++ spongePadding r (length x))
     marked-first =
         ap (firstBlocks r (length x / r + 1)) (marked ∙ sym (append-assoc x (true ∷ []) _))
@@ -135,7 +135,7 @@ module _ (r : ℕ) (pos : 0 < r) (x : List Bool) where
         ap (λ (l : List (List Bool)). getD l j []) (sym marked-first) ∙ first-at r (bitsIn high-first bytes) (length x / r + 1) j h
 
 -- the first blocks of bytes that hold a string and the 1 bit: those of the string with the 1 bit behind it
-pub marked-blocks : (r n : ℕ) (x : List Bool) (bytes : List ℕ) → Marked x bytes → firstBlocks r n (bitsIn high-first bytes) ≡ firstBlocks r n (withOne x)
+pub marked-blocks : (r n : ℕ) (x : List Bool) (bytes : List ℕ) → Padded x bytes → firstBlocks r n (bitsIn high-first bytes) ≡ firstBlocks r n (withOne x)
 marked-blocks r n x bytes marked =
     ap (firstBlocks r n) (marked ∙ sym (append-assoc x (true ∷ []) _)) ∙ first-zeros r n (withOne x) (8 * length bytes - length x - 1)
 

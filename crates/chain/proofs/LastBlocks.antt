@@ -25,7 +25,7 @@ use Rattle.standard.proofs.Variants.{streams, is-sponge, not-sponge, lesamnta-c
 use Rattle.lesamnta.proofs.WordLaws.{bytes-bits}
 use Rattle.standard.specs.Layout.{packedBlock}
 use Rattle.chain.specs.Blocks.{heldThen, firstBlocks}
-use Rattle.chain.specs.Endings.{markedCount, lengthBlock, lengthBlocks}
+use Rattle.chain.specs.Padding.{dataBlocks, lengthBlock, lengthBlocks}
 use Rattle.chain.proofs.BlockRows.{withOne, padded-first, whole-first}
 
 -- ---- whole blocks, and one more
@@ -97,17 +97,17 @@ module _ (x : List Bool) (n : ℕ) (same : n % 128 ≡ length x % 128) where
 -- ---- by number
 
 lesamnta-ending : (x : List Bool) (n : ℕ) → n % variant 11 .r ≡ length x % variant 11 .r
-    → wholeBlocks (variant 11 .r) (x ++ padding (variant 11) n) ≡ firstBlocks (variant 11 .r) (markedCount (variant 11) (length x)) (withOne x) ++ lengthBlocks (variant 11) n
+    → wholeBlocks (variant 11 .r) (x ++ padding (variant 11) n) ≡ firstBlocks (variant 11 .r) (dataBlocks (variant 11) (length x)) (withOne x) ++ lengthBlocks (variant 11) n
 unfolding padding variant
 lesamnta-ending x n e = lesamnta-blocks x n e
 
 -- The blocks of a string and of the padding of a message that leaves as much of a block: the string itself, or the message whose last bits it is.
 pub ending-blocks : (v : ℕ) → known v ≡ true → (x : List Bool) (n : ℕ) → n % variant v .r ≡ length x % variant v .r
-    → wholeBlocks (variant v .r) (x ++ padding (variant v) n) ≡ firstBlocks (variant v .r) (markedCount (variant v) (length x)) (withOne x) ++ lengthBlocks (variant v) n
+    → wholeBlocks (variant v .r) (x ++ padding (variant v) n) ≡ firstBlocks (variant v .r) (dataBlocks (variant v) (length x)) (withOne x) ++ lengthBlocks (variant v) n
 ending-blocks v k x n e = ⊎-elim sponges last (either (isSponge (variant v)))
   where
     sponges : isSponge (variant v) ≡ true
-        → wholeBlocks (variant v .r) (x ++ padding (variant v) n) ≡ firstBlocks (variant v .r) (markedCount (variant v) (length x)) (withOne x) ++ lengthBlocks (variant v) n
+        → wholeBlocks (variant v .r) (x ++ padding (variant v) n) ≡ firstBlocks (variant v .r) (dataBlocks (variant v) (length x)) (withOne x) ++ lengthBlocks (variant v) n
     sponges q =
         let H : Variant = variant v in
         ap (λ (p : List Bool). wholeBlocks (H .r) (x ++ p)) (padding-sponge H (is-sponge v q) n)
@@ -116,23 +116,23 @@ ending-blocks v k x n e = ⊎-elim sponges last (either (isSponge (variant v)))
         ∙ ap (λ (b : Bool). firstBlocks (H .r) (cond b (length x / H .r + 1) ((length x + 127) / 128)) (withOne x) ++ cond b [] (lengthBlock n ∷ [])) (sym q)
 
     last : isSponge (variant v) ≡ false
-        → wholeBlocks (variant v .r) (x ++ padding (variant v) n) ≡ firstBlocks (variant v .r) (markedCount (variant v) (length x)) (withOne x) ++ lengthBlocks (variant v) n
+        → wholeBlocks (variant v .r) (x ++ padding (variant v) n) ≡ firstBlocks (variant v .r) (dataBlocks (variant v) (length x)) (withOne x) ++ lengthBlocks (variant v) n
     last q =
         subst (λ (m : ℕ). n % variant m .r ≡ length x % variant m .r
-        → wholeBlocks (variant m .r) (x ++ padding (variant m) n) ≡ firstBlocks (variant m .r) (markedCount (variant m) (length x)) (withOne x) ++ lengthBlocks (variant m) n)
+        → wholeBlocks (variant m .r) (x ++ padding (variant m) n) ≡ firstBlocks (variant m .r) (dataBlocks (variant m) (length x)) (withOne x) ++ lengthBlocks (variant m) n)
         (sym (not-sponge v k q)) (lesamnta-ending x n) e
 
 -- how many blocks a message of n bits has: those of the 1 bit, and for what is no sponge one more
-pub count-sponge : (v : ℕ) → known v ≡ true → isSponge (variant v) ≡ true → (n : ℕ) → blockCount (variant v) n ≡ markedCount (variant v) n
+pub count-sponge : (v : ℕ) → known v ≡ true → isSponge (variant v) ≡ true → (n : ℕ) → blockCount (variant v) n ≡ dataBlocks (variant v) n
 count-sponge v k q n =
     sponge-count (variant v) (streams v k) (is-sponge v q) n ∙ ap (λ (b : Bool). cond b (n / variant v .r + 1) ((n + 127) / 128)) (sym q)
 
-pub count-other : (v : ℕ) → known v ≡ true → isSponge (variant v) ≡ false → (n : ℕ) → blockCount (variant v) n ≡ markedCount (variant v) n + 1
+pub count-other : (v : ℕ) → known v ≡ true → isSponge (variant v) ≡ false → (n : ℕ) → blockCount (variant v) n ≡ dataBlocks (variant v) n + 1
 count-other v k q n =
     subst (λ (m : ℕ). blockCount (variant m) n ≡ (n + 127) / 128 + 1) (sym (not-sponge v k q)) (lesamnta-count n)
     ∙ ap (λ (b : Bool). cond b (n / variant v .r + 1) ((n + 127) / 128) + 1) (sym q)
 
-pub marked-most : (v : ℕ) → known v ≡ true → (n : ℕ) → markedCount (variant v) n ≤ n + 1
+pub marked-most : (v : ℕ) → known v ≡ true → (n : ℕ) → dataBlocks (variant v) n ≤ n + 1
 marked-most v k n = go (isSponge (variant v))
   where
     go : (b : Bool) → cond b (n / variant v .r + 1) ((n + 127) / 128) ≤ n + 1
@@ -140,7 +140,7 @@ marked-most v k n = go (isSponge (variant v))
     go false = omega arith
 
 -- the last place is behind the blocks of the 1 bit, or among them
-pub place-marked : (v : ℕ) → known v ≡ true → (n place : ℕ) → place < blockCount (variant v) n → place ≤ markedCount (variant v) n
+pub place-marked : (v : ℕ) → known v ≡ true → (n place : ℕ) → place < blockCount (variant v) n → place ≤ dataBlocks (variant v) n
 place-marked v k n place h =
     ⊎-elim (λ q. omega (arith, count-sponge v k q n)) (λ q. omega (arith, count-other v k q n)) (either (isSponge (variant v)))
 

@@ -1,3 +1,4 @@
+pub mod OwnedHeld
 pub mod FamilyLaws
 pub mod TakenBack
 pub mod States
@@ -6,7 +7,7 @@ pub mod ImageOfState
 pub mod SqueezeLaws
 pub mod BlockHalves
 pub mod BlockRows
-pub mod PartBytes
+pub mod MessageLaws
 pub mod BlockRuns
 pub mod LastBlocks
 pub mod InsideBlocks

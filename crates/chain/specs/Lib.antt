@@ -3,9 +3,10 @@ pub mod Families
 pub mod Holding
 pub mod Blocks
 pub mod Messages
-pub mod Parts
-pub mod Endings
+pub mod MessageBytes
+pub mod Padding
 pub mod TakenBack
 pub mod Images
 pub mod Words
+pub mod Outcomes
 pub mod Promises

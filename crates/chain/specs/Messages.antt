@@ -12,7 +12,7 @@ use Rattle.standard.specs.Variants.{variant, known}
 use Rattle.answers.specs.declared.Refusal.the-variants.{UnknownVariant, TooLong, BadBitNumber}
 use Rattle.answers.specs.declared.Status.the-variants.{Done}
 use Rattle.answers.specs.Checks.{Check, unless, when, firstRefusal}
-use Rattle.answers.specs.Outputs.{mostBits}
+use Rattle.answers.specs.Outputs.{maxBits}
 
 -- document 02, Q-6: with n bytes, of whose last one k bits count, k is 1 to 8 and there is a byte
 abbrev pub isBitNumber : ℕ → ℕ → Bool
@@ -30,7 +30,7 @@ Fits g = firstRefusal (numberChecks g) ≡ Done
 -- what a whole message and a lost block ask first: 1; 15; 4
 abbrev pub messageChecks : ℕ → Given → List Check
 messageChecks v g =
-    unless (known v) UnknownVariant ∷ (numberChecks g ++ when (ltb mostBits (length (givenBits (variant v) g))) TooLong ∷ [])
+    unless (known v) UnknownVariant ∷ (numberChecks g ++ when (ltb maxBits (length (givenBits (variant v) g))) TooLong ∷ [])
 
 -- two ways to give the same bits: both with a number that fits, or both refused for it
 pub record Alike (H : Variant) (g h : Given) : Type 0 where

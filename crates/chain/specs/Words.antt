@@ -1,18 +1,15 @@
 -- For the code: states in words, as the look-ups of each family hold them, and the tables that they look up.
 -- Assumes nothing.
 use mathlib.Core.Path.{_≡_}
-use mathlib.Core.Bool.{Bool, cond}
+use mathlib.Core.Bool.{Bool}
 use mathlib.Core.List.{List}
 use Prim.Native.Nat.{ℕ, _≤_}
-use Rattle.standard.specs.Bits.{high-first, pack}
 use Rattle.standard.specs.Spongent.{nibbles}
 use Rattle.standard.specs.Families.{photon, spongent, Family, sponge, lesamnta, Variant}
-use Rattle.standard.specs.Chain.{givenOut}
 use Rattle.photon.specs.Words.{stateOfColumns, TableFor}
 use Rattle.spongent.specs.Words.{stateOfBytes, WordTable}
 use Rattle.lesamnta.specs.CipherTables.{CipherTable}
 use Rattle.lesamnta.specs.Words.{stateOfFour}
-use Rattle.standard.specs.Layout.{stateRoom, packedState}
 
 -- by family: PHOTON's matrix has a column in each word, SPONGENT's bytes stand in order, eight to a word, and Lesamnta-LW's words are its own
 abbrev pub stateOfWords : Family → List ℕ → List Bool
@@ -29,7 +26,3 @@ pub record TableOf (v : ℕ) (table : List ℕ) : Type 0 where
   pub photon : v ≤ 5 → TableFor v table
   pub spread : 6 ≤ v → v ≤ 10 → WordTable nibbles table
   pub boxes : v ≡ 11 → CipherTable 64 table
-
--- the digest that a state gives, or the state itself, at the front of bytes that have room for either
-abbrev pub outcome : Variant → Bool → List Bool → List ℕ
-outcome H digest s = cond digest (pack high-first stateRoom (givenOut (H .family) H s)) (packedState H s)

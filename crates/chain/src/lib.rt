@@ -1,9 +1,10 @@
-// The variants on bytes: sizes, images, blocks, the block step and the squeezed digest; and the permutation on an image that a caller lends.
+// The chain of every variant on bytes: sizes, states, rows of blocks, padding, messages and the squeezed digest; and the permutation on an image that a
+// caller lends.
 pub mod blocks;
-pub mod endings;
 pub mod images;
+pub mod message;
 pub mod outcome;
-pub mod parts;
+pub mod padding;
 pub mod plain;
 pub mod sizes;
 pub mod squeeze;

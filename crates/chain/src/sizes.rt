@@ -3,13 +3,10 @@ ghost use mathlib.Core.Path.{_≡_};
 ghost use mathlib.Core.Bool.{true};
 ghost use Prim.Native.Nat.{_+_, _*_, _/_, _≤_};
 ghost use Rattle.standard.specs.Families.{isSponge, imageSize};
-ghost use Rattle.standard.specs.Chain.{blockCount};
 ghost use Rattle.standard.specs.Variants.{variant, known};
 ghost use Rattle.standard.specs.ForCode.{outputBits};
-ghost use Rattle.answers.specs.Outputs.{mostBits};
 ghost use Rattle.standard.specs.Layout.{stateRoom};
 ghost use Rattle.chain.specs.Families.{familyOf};
-ghost use Rattle.chain.specs.Endings.{markedCount};
 
 // Room for the state of every variant, for a block and for a digest.
 pub const STATE_BYTES: usize = 36;
@@ -82,7 +79,8 @@ pub fn family_of(v: u8) -> Family
 }
 
 fn sizes_of(v: u8) -> Sizes
-    ensures { λ r. ⌜ (r .state ≡ variant v .t) × (r .block ≡ variant v .r) × (r .output ≡ outputBits (variant v)) × (r .digest ≡ variant v .n) ⌝ }
+    ensures { λ r. ⌜ (r .state ≡ variant v .t) × (r .block ≡ variant v .r)
+        × (r .output ≡ outputBits (variant v)) × (r .digest ≡ variant v .n) ⌝ }
     ensures { λ r. ⌜ r .state ≤ 8 * stateRoom ⌝ }
 {
     if 11 < v {
@@ -115,31 +113,6 @@ pub fn block_bits(v: u8) -> u32
     sizes_of(v).block
 }
 
-// How many blocks so many bits fill with the padding's 1 bit behind them, one for a sponge past those that are full. Of Lesamnta-LW a 1 bit that would begin a block
-// stands in the block that has the length.
-pub fn marked_count(v: u8, bits: usize) -> usize
-    requires { ⌜ known v ≡ true ⌝ }
-    requires { ⌜ bits ≤ mostBits ⌝ }
-    ensures { λ r. ⌜ (r ≡ markedCount (variant v) bits) × (r ≤ bits + 1) ⌝ }
-{
-    if is_sponge(v) {
-        return bits / (block_bits(v) as usize) + 1;
-    }
-    (bits + 127) / 128
-}
-
-// How many blocks a message of so many bits has once it is padded.
-pub fn block_count(v: u8, bits: usize) -> usize
-    requires { ⌜ known v ≡ true ⌝ }
-    requires { ⌜ bits ≤ mostBits ⌝ }
-    ensures { λ r. ⌜ r ≡ blockCount (variant v) bits ⌝ }
-{
-    if is_sponge(v) {
-        return marked_count(v, bits);
-    }
-    marked_count(v, bits) + 1
-}
-
 pub fn image_bytes(v: u8) -> usize
     ensures { λ r. ⌜ r ≡ imageSize (variant v) ⌝ }
 {
@@ -152,8 +125,8 @@ pub fn digest_bytes(v: u8) -> usize
     sizes_of(v).digest as usize / 8
 }
 
-// The half bytes that an output block gives.
-pub fn output_halves(v: u8) -> usize
+// The nibbles that an output block gives.
+pub fn output_nibbles(v: u8) -> usize
     ensures { λ r. ⌜ r ≡ outputBits (variant v) / 4 ⌝ }
 {
     sizes_of(v).output as usize / 4

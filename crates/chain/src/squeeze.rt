@@ -43,7 +43,7 @@ pub fn squeezed(v: u8, w: &mut [u64; 8], table: &[u64]) -> [u8; STATE_BYTES]
         ≡ iterate (outputCount (outputBits (variant v)) (variant v .n) - 1) (permutedState (variant v) Forward) (stateInWords (variant v) (now (w .entry))) ⌝ }
 {
     let n = sizes::digest_bytes(v) * 2;
-    let q = sizes::output_halves(v);
+    let q = sizes::output_nibbles(v);
     let none = [0u8; BLOCK_BYTES];
     let mut out = [0u8; STATE_BYTES];
     let mut p: usize = 0;

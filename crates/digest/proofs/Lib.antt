@@ -1,4 +1,3 @@
-pub mod HexLaws
 pub mod LineLaws
 pub mod ReadLaws
 pub mod Printed

@@ -1,9 +1,10 @@
--- The line of a digest: its digits and the line end, one after the other; and the digest at the front of what a read wrote.
+-- The line of a digest: its digits and the line end, one after the other; and the digest at the front of what a read
+-- wrote.
 -- Assumes nothing.
 use mathlib.Core.Path.{_≡_, ap}
 use mathlib.Core.List.{List, [], _∷_}
 use mathlib.Core.Logic.{⊎-elim}
-use Prim.Native.Nat.{ℕ, _+_, _*_, _/_, _≤_}
+use Prim.Native.Nat.{ℕ, _/_, _≤_}
 use native.Mathlib.Omega.{arith}
 use lib.ListN.{length, take, drop, List·getD-eq-default}
 use lib.Seq.{take-at}
@@ -11,15 +12,14 @@ use Rattle.standard.specs.Variants.{variant, variants, none}
 use Rattle.standard.proofs.Tests.{lt-or-le}
 use Rattle.standard.proofs.Variants.{bounds, known-true}
 use Rattle.answers.specs.declared.Status.the-variants.{Done}
-use Rattle.answers.proofs.LineLaws.{Wrote, wrote-on}
+use Rattle.bytes.proofs.LineLaws.{Wrote, wrote-on}
 use Rattle.hasher.specs.declared.Hasher.{Hasher}
 use Rattle.standard.specs.declared.Wanted.the-variants.{Digest}
 use Rattle.hasher.specs.Running.{variantOf, stateOf}
 use Rattle.hasher.specs.Reading.{readStatus, readInto}
 use Rattle.hasher.proofs.Calls.{result-length}
-use Rattle.digest.specs.Hex.{hexOf}
+use Rattle.bytes.specs.Text.{hexOf}
 use Rattle.digest.specs.Answers.{digestLine, lineFor, digestIn}
-use Rattle.digest.proofs.HexLaws.{take-hexOf}
 
 -- a digest has at most 32 bytes, for any number
 pub digest-short : (v : ℕ) → variant v .n / 8 ≤ 32
@@ -34,11 +34,11 @@ digest-short v =
     (lt-or-le v 12))
     (lt-or-le v 1)
 
--- the first digits, and a line end after them
-pub digest-written : (bytes out : List ℕ) (n : ℕ) {o₁ o₂ : List ℕ} {p₁ p₂ : ℕ} → p₁ ≤ length out
-    → Wrote 0 (take (2 * n) (hexOf bytes)) out o₁ p₁ → Wrote p₁ (10 ∷ []) o₁ o₂ p₂ → Wrote 0 (digestLine (take n bytes)) out o₂ p₂
+-- the digits, and a line end after them
+pub digest-written : (bytes out : List ℕ) {o₁ o₂ : List ℕ} {p₁ p₂ : ℕ} → p₁ ≤ length out
+    → Wrote 0 (hexOf bytes) out o₁ p₁ → Wrote p₁ (10 ∷ []) o₁ o₂ p₂ → Wrote 0 (digestLine bytes) out o₂ p₂
 unfolding digestLine
-digest-written bytes out n h w₁ w₂ = rw (← take-hexOf n bytes) (wrote-on 0 _ _ out h w₁ w₂)
+digest-written bytes out h w₁ w₂ = wrote-on 0 _ _ out h w₁ w₂
 
 -- the digest stands at the front of what a read that is Done wrote
 pub digest-read : (k : Hasher) (out : List ℕ) → length out ≡ 32 → readStatus k Digest 32 ≡ Done

@@ -3,8 +3,7 @@
 use mathlib.Core.Path.{_≡_, refl, sym, ap, _∙_}
 use mathlib.Core.Bool.{true}
 use mathlib.Core.List.{List, [], _∷_}
-use Prim.Native.Nat.{ℕ, _/_, _≤_}
-use native.Mathlib.Omega.{arith}
+use Prim.Native.Nat.{ℕ, _/_}
 use lib.ListN.{length, take, drop, replicate}
 use lib.Seq.{take-at, take-length}
 use Rattle.standard.specs.Chain.{digestOf, endState}
@@ -21,7 +20,7 @@ use Rattle.hasher.specs.Reading.{readStatus, readInto, resultOf}
 use Rattle.hasher.specs.Pieces.{plain, joined, andThen, allUpdated, hashed}
 use Rattle.hasher.proofs.Calls.{result-length}
 use Rattle.hasher.proofs.Demand2.{demand-2-bytes}
-use Rattle.digest.specs.Answers.{digestLine, digestIn, closedLine, answerLine}
+use Rattle.digest.specs.Answers.{digestLine, digestIn, closedLine}
 use Rattle.digest.specs.Promises.{DigestPrinted}
 use Rattle.digest.proofs.LineLaws.{digest-short, digest-read}
 

@@ -1,7 +1,8 @@
--- Reading ends: each read that is followed by another makes the message longer, and the hash refuses one past its limit.
+-- Reading ends: each read that is followed by a further one makes the message longer, and the hash refuses one past its
+-- limit.
 -- Assumes nothing.
 use mathlib.Core.Path.{_≡_, refl, sym, ap, _∙_, subst}
-use mathlib.Core.Bool.{Bool, true, false, cond, _&&_}
+use mathlib.Core.Bool.{Bool, true, false, cond}
 use mathlib.Core.List.{List}
 use Prim.Native.Nat.{ℕ, suc, _+_, _-_, _*_, _≤_, _<_, min}
 use native.Mathlib.Nat.{le-min, min-le-right}
@@ -19,9 +20,9 @@ use Rattle.standard.proofs.BitLaws.{length-bitsIn}
 use Rattle.standard.proofs.Tests.{and-true}
 use Rattle.answers.specs.declared.Status.{Status}
 use Rattle.answers.specs.declared.Status.the-variants.{Done, Refused}
-use Rattle.answers.specs.Outputs.{mostBits, isDone}
+use Rattle.answers.specs.Outputs.{maxBits, isDone}
 use Rattle.hasher.specs.declared.Hasher.{Hasher}
-use Rattle.hasher.specs.Running.{updated, grown}
+use Rattle.hasher.specs.Running.{updated}
 use Rattle.hasher.proofs.Calls.{update-says}
 use Rattle.hasher.proofs.Next.{grown-total}
 use Rattle.digest.specs.declared.input.Fed.{Fed}
@@ -34,7 +35,7 @@ done-told (Refused r) e = absurd (subst T (sym e) tt)
 
 -- an update that is Done: the piece is in the total, and within the limit
 update-grows : (h : Hasher) (piece : List ℕ) → updated h (bytes piece) .status ≡ Done
-    → (updated h (bytes piece) .hasher .total ≡ h .total + 8 * length piece) × (h .total + 8 * length piece ≤ mostBits)
+    → (updated h (bytes piece) .hasher .total ≡ h .total + 8 * length piece) × (h .total + 8 * length piece ≤ maxBits)
 unfolding updated
 update-grows h piece d =
     let few = update-says h (bytes piece) d .follow .few in (
@@ -56,9 +57,9 @@ longer fed buffer got room more =
     let grew = update-grows h piece (done-told (updated h (bytes piece) .status) (both .1)) in
     (omega (arith, grew .0, brought buffer got room (both .0)), omega (arith, grew .0, grew .1))
 
--- what is left to read: nothing where no read follows
+-- what is left to read: nothing if no read follows
 abbrev pub leftOf : Fed → ℕ
-leftOf fed = cond (fed .more) (suc (mostBits - fed .answer .hasher .total)) 0
+leftOf fed = cond (fed .more) (suc (maxBits - fed .answer .hasher .total)) 0
 
 lower : (more : Bool) (n m : ℕ) → (more ≡ true → n < m) → 0 < m → cond more n 0 < m
 lower true n m f p = f refl
@@ -67,5 +68,5 @@ lower false n m f p = p
 pub less-left : (fed next : Fed) → fed .more ≡ true → Longer fed next → leftOf next < leftOf fed
 less-left fed next e l =
     rw e
-    (lower (next .more) (suc (mostBits - next .answer .hasher .total)) (suc (mostBits - fed .answer .hasher .total))
+    (lower (next .more) (suc (maxBits - next .answer .hasher .total)) (suc (maxBits - fed .answer .hasher .total))
     (λ m. omega (arith, l m .0, l m .1)) (omega arith))

@@ -5,20 +5,19 @@ use Prim.Native.Nat.{ℕ}
 use Rattle.standard.specs.Chain.{digestFrom}
 use Rattle.answers.specs.declared.Status.{Status}
 use Rattle.answers.specs.declared.Status.the-variants.{Done, Refused}
-use Rattle.answers.specs.Text.{ascii}
+use Rattle.bytes.specs.Text.{ascii, hexOf}
 use Rattle.answers.specs.Lines.{refusedLine}
 use Rattle.hasher.specs.declared.Hasher.{Hasher}
 use Rattle.hasher.specs.declared.Advanced.{Advanced}
 use Rattle.standard.specs.declared.Wanted.the-variants.{Digest}
 use Rattle.hasher.specs.Running.{variantOf, stateOf, finished}
 use Rattle.hasher.specs.Reading.{readStatus}
-use Rattle.digest.specs.Hex.{hexOf}
 
 -- the line of a digest: its digits, and a line end
 unfoldable pub digestLine : List ℕ → List ℕ
 digestLine digest = hexOf digest ++ ascii "\n"
 
--- the line for an answer: that of the digest where it is Done, else that of the refusal
+-- the line for an answer: that of the digest if it is Done, else that of the refusal
 abbrev pub lineFor : Status → List ℕ → List ℕ
 lineFor Done digest = digestLine digest
 lineFor (Refused r) digest = refusedLine r
@@ -31,7 +30,8 @@ digestIn h = digestFrom (variantOf h) (stateOf h)
 unfoldable pub closedLine : Hasher → List ℕ
 closedLine h = lineFor (readStatus (finished h .hasher) Digest 32) (digestIn (finished h .hasher))
 
--- the line for the answer of the last call that took input, a start or an update: a refusal is printed, and a running hash closed and read
+-- the line for the answer of the last call that took input, a start or an update: a refusal is printed, and a running
+-- hash closed and read
 abbrev pub lineAfter : Status → Hasher → List ℕ
 lineAfter Done h = closedLine h
 lineAfter (Refused r) h = refusedLine r

@@ -1,17 +1,18 @@
-// What each read of the input makes of the running hash, and whether another read follows.
+// What each read of the input makes of the running hash, and whether a further read follows.
 ghost use mathlib.Core.Path.{_≡_};
 ghost use Rattle.digest.specs.Input.{goesOn, standing, variantRead, afterFirst, afterPiece};
 use answers::Status;
 use hasher::Advanced;
 
-// How the input stands after a read of it: what the call answered that took what was read, whether another read follows, and whether this one failed.
+// How the input stands after a read of it: what the call answered that took what was read, whether a further read
+// follows, and whether this one failed.
 pub struct Fed {
     pub answer: Advanced,
     pub more: bool,
     pub failed: bool,
 }
 
-// A read answers the number of bytes that it brought, 0 at the end of the input, and a negative number where it failed.
+// A read answers the number of bytes that it brought, 0 at the end of the input, and a negative number if it failed.
 fn goes_on(status: Status, got: isize) -> bool
     ensures { λ r. ⌜ r ≡ goesOn status got ⌝ }
 {
@@ -33,7 +34,7 @@ fn standing(answer: Advanced, got: isize) -> Fed
     }
 }
 
-// The byte that a first read of so many brought.
+// The byte that a first read brought, by the number of bytes that it brought.
 fn variant_read(byte: u8, count: isize) -> u8
     ensures { λ r. ⌜ r ≡ variantRead byte count ⌝ }
 {

@@ -1,5 +1,5 @@
 // Reads a variant byte and then a message from standard input to its end, and prints the message's digest in lower-case
-// hexadecimal or, where a call is refused, "refused" and the number. The message is read in pieces and never held.
+// hexadecimal or, if a call is refused, "refused" and the number. The message is read in pieces and never held.
 // What is read and what is printed is up to these functions; all else is in `input` and `text`, under equations.
 mod input;
 mod text;
@@ -32,13 +32,13 @@ fn feed_all(begun: Fed) -> Fed
     fed
 }
 
-// Nothing but a complaint is printed where the input cannot be read.
+// Nothing but a complaint is printed if the input cannot be read.
 fn show(fed: Fed) {
     if fed.failed {
         io::write_all(STDERR_FILENO, b"digest: standard input cannot be read\n");
         return;
     }
-    let mut line = [0u8; text::MOST_BYTES];
+    let mut line = [0u8; text::MAX_BYTES];
     let n = text::write_answer(fed.answer, &mut line);
     io::write_all(STDOUT_FILENO, &line[0..n]);
 }

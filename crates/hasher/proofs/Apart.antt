@@ -17,12 +17,12 @@ use Rattle.standard.proofs.OneValue.{value-block, one-changed-row, one-changed-
 use Rattle.standard.proofs.ImageStates.{imageOf-length, imageOf-injective}
 use Rattle.answers.specs.declared.Status.{Status}
 use Rattle.answers.specs.declared.Status.the-variants.{Done}
-use Rattle.answers.specs.Outputs.{written, mostBits}
+use Rattle.answers.specs.Outputs.{written, maxBits}
 use Rattle.chain.specs.Messages.{Fits}
 use Rattle.hasher.specs.declared.Hasher.{Hasher}
 use Rattle.standard.specs.declared.Wanted.the-variants.{EndState}
 use Rattle.hasher.specs.Running.{variantOf, stateOf}
-use Rattle.hasher.specs.Reading.{readStatus, readInto, wholeInto}
+use Rattle.hasher.specs.Reading.{readStatus, readInto, hashInto}
 use Rattle.hasher.specs.Pieces.{joinedBits, Cut, hashedInto}
 use Rattle.hasher.specs.Sized.{Sized}
 use Rattle.hasher.specs.Apart.{Differ, ImagesDiffer, ToldApart}
@@ -86,19 +86,19 @@ module _ (v : ℕ) (k : known v ≡ true) (x y : Given) (fits : Fits x) (fits′
   Y = givenBits (variant v) y
 
   -- different end states are told apart
-  pub ends-tell : length (givenBits (variant v) x) ≤ mostBits → length (givenBits (variant v) y) ≤ mostBits
+  pub ends-tell : length (givenBits (variant v) x) ≤ maxBits → length (givenBits (variant v) y) ≤ maxBits
       → (endState (variant v) (givenBits (variant v) x) ≡ endState (variant v) (givenBits (variant v) y) → ⊥) → ToldApart v x y
   ends-tell few few′ n =
       record { whole = whole; pieces = λ xs ys cx cy ex ey. as-others (variant v) _ _ _ _ (cut xs x fits cx ex) (cut ys y fits′ cy ey) whole }
     where
-      whole : ImagesDiffer (variant v) (wholeInto v x EndState) (wholeInto v y EndState)
+      whole : ImagesDiffer (variant v) (hashInto v x EndState) (hashInto v y EndState)
       whole =
           ends-differ v k X Y n _ _
           (λ out l. whole-done v k x fits few EndState out l .1) (λ out l. whole-done v k y fits′ few′ EndState out l .1)
 
       -- the pieces of a message
       cut : (ps : List Given) (m : Given) → Fits m → Cut (variant v) ps → joinedBits (variant v) ps ≡ givenBits (variant v) m → (out : List ℕ)
-          → wholeInto v m EndState out ≡ hashedInto v ps EndState out
+          → hashInto v m EndState out ≡ hashedInto v ps EndState out
       cut ps m f c e out = whole-is-pieces v ps m c f e EndState out .1
 
 pub row-told : RowTold

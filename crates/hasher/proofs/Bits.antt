@@ -13,11 +13,11 @@ use Rattle.answers.specs.Checks.{firstRefusal}
 use Rattle.answers.specs.Outputs.{whenDone, written}
 use Rattle.answers.proofs.Rows.{row-append}
 use Rattle.chain.specs.Messages.{numberChecks, messageChecks, Alike}
-use Rattle.chain.proofs.PartBytes.{alike-row, alike-asked}
+use Rattle.chain.proofs.MessageLaws.{alike-row, alike-asked}
 use Rattle.hasher.specs.declared.Hasher.{Hasher}
 use Rattle.standard.specs.declared.Wanted.{Wanted}
 use Rattle.hasher.specs.Running.{variantOf, grown, openChecks, followChecks, updateChecks, updated}
-use Rattle.hasher.specs.Reading.{resultOf, roomChecks, wholeStatus, wholeInto}
+use Rattle.hasher.specs.Reading.{resultOf, roomChecks, hashStatus, hashInto}
 use Rattle.hasher.specs.Promises.{UpdateAlike, WholeAlike}
 
 pub update-alike : UpdateAlike
@@ -31,7 +31,7 @@ update-alike h g g′ a =
         ∙ ap (λ (m : List Bool). firstRefusal (openChecks h ++ (numberChecks g′ ++ followChecks h (length m)))) (a .same)
 
 pub whole-alike : WholeAlike
-unfolding wholeStatus wholeInto
+unfolding hashStatus hashInto
 whole-alike v g g′ a wanted out =
     (answers, ap₂ (λ (s : Status) (m : List Bool). written s (resultOf (variant v) wanted (endState (variant v) m)) out) answers (a .same))
   where

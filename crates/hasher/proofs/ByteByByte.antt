@@ -12,7 +12,7 @@ use Rattle.standard.specs.Messages.{byteBits, bytes}
 use Rattle.standard.proofs.BitLaws.{length-bitsIn}
 use Rattle.answers.specs.declared.Status.the-variants.{Done}
 use Rattle.answers.specs.Checks.{firstRefusal}
-use Rattle.answers.specs.Outputs.{mostBits}
+use Rattle.answers.specs.Outputs.{maxBits}
 use Rattle.answers.proofs.Statuses.{done-or}
 use Rattle.hasher.specs.declared.Hasher.{Hasher}
 use Rattle.hasher.specs.declared.Advanced.{Advanced}
@@ -28,7 +28,7 @@ one-byte : (b : ℕ) → length (byteBits (b ∷ [])) ≡ 8
 one-byte b = length-bitsIn high-first (b ∷ [])
 
 -- every byte fits
-fitting : (part : List ℕ) (h : Hasher) → Sized h → Open h → wholeSoFar h ≡ true → (b : ℕ) → h .total + 8 * suc (length part) ≤ mostBits
+fitting : (part : List ℕ) (h : Hasher) → Sized h → Open h → wholeSoFar h ≡ true → (b : ℕ) → h .total + 8 * suc (length part) ≤ maxBits
     → foldl withByte h (b ∷ part) ≡ onward h (b ∷ part)
 fitting [] h z o w b few = ap (λ (a : Advanced). a .hasher) (update-done h (bytes (b ∷ [])) o refl w (omega (arith, one-byte b)))
 fitting (d ∷ part) h z o w b few =
@@ -51,13 +51,13 @@ module _ (h : Hasher) (no-byte : (b : ℕ) → firstRefusal (updateChecks h (byt
   stays [] = refl
   stays (b ∷ part) = ap (λ (g : Hasher). foldl withByte g part) (takes-none b []) ∙ stays part
 
-pub byte-by-byte : (h : Hasher) → Sized h → (b : ℕ) (part : List ℕ) → (h .total + 8 ≤ mostBits → h .total + 8 * suc (length part) ≤ mostBits)
+pub byte-by-byte : (h : Hasher) → Sized h → (b : ℕ) (part : List ℕ) → (h .total + 8 ≤ maxBits → h .total + 8 * suc (length part) ≤ maxBits)
     → foldl withByte h (b ∷ part) ≡ updated h (bytes (b ∷ part)) .hasher
 byte-by-byte h z b part room =
     ⊎-elim
     (λ e.
     let says = update-says h (bytes (b ∷ [])) e .follow in
-    let few : h .total + 8 * suc (length part) ≤ mostBits = room (omega (arith, says .few, one-byte b)) in
+    let few : h .total + 8 * suc (length part) ≤ maxBits = room (omega (arith, says .few, one-byte b)) in
     fitting part h z (says .opened) (says .whole) b few
     ∙ sym (ap (λ (a : Advanced). a .hasher) (update-done h (bytes (b ∷ part)) (says .opened) refl (says .whole) (omega (arith, length-bitsIn high-first (b ∷ part))))))
     (λ n.

@@ -20,18 +20,18 @@ use Rattle.answers.specs.declared.Refusal.{Refusal}
 use Rattle.answers.specs.declared.Refusal.the-variants.{UnknownVariant, TooLong}
 use Rattle.answers.specs.declared.Status.{Status}
 use Rattle.answers.specs.declared.Status.the-variants.{Done, Refused}
-use Rattle.answers.specs.Outputs.{whenDone, written, most, mostBits}
+use Rattle.answers.specs.Outputs.{whenDone, written, maxBytes, maxBits}
 use Rattle.answers.proofs.Statuses.{not-done, kept}
 use Rattle.answers.proofs.Rows.{refused-first}
 use Rattle.chain.specs.Messages.{Fits, messageChecks}
-use Rattle.chain.proofs.PartBytes.{message-long, message-unknown}
+use Rattle.chain.proofs.MessageLaws.{message-long, message-unknown}
 use Rattle.hasher.specs.declared.Hasher.{Hasher}
 use Rattle.hasher.specs.declared.Advanced.{Advanced}
 use Rattle.standard.specs.declared.Wanted.{Wanted}
 use Rattle.standard.specs.declared.Wanted.the-variants.{Digest}
 use Rattle.hasher.specs.Running.{variantOf, wholeSoFar, blank, fresh, grown, ended, started, updated, finished}
 use Rattle.hasher.specs.ForCode.{Open}
-use Rattle.hasher.specs.Reading.{resultOf, resultSize, roomChecks, readStatus, readInto, wholeStatus, wholeInto}
+use Rattle.hasher.specs.Reading.{resultOf, resultSize, roomChecks, readStatus, readInto, hashStatus, hashInto}
 use Rattle.hasher.specs.Pieces.{joinedBits, Cut, plain, joined, andThen, allUpdated, hashed, thenStatus, thenInto, hashedStatus, hashedInto, Reads, Hashes}
 use Rattle.hasher.specs.Promises.{Demand2, Demand2Bytes, WholeIsPieces, WholeIsPiecesBytes, WholeDigest}
 use Rattle.hasher.specs.Sized.{Sized}
@@ -100,7 +100,7 @@ module _ (h : Hasher) (g : Given) where
 
 -- within the limit: from a running hash that has gone on with m
 all-onward : (h : Hasher) → Sized h → Open h → (pieces : List Given) (m : List Bool) → Ready (grown h m) pieces → Cut (variantOf h) pieces
-    → h .total + length (m ++ joinedBits (variantOf h) pieces) ≤ mostBits → allUpdated (done (grown h m)) pieces ≡ done (grown h (m ++ joinedBits (variantOf h) pieces))
+    → h .total + length (m ++ joinedBits (variantOf h) pieces) ≤ maxBits → allUpdated (done (grown h m)) pieces ≡ done (grown h (m ++ joinedBits (variantOf h) pieces))
 unfolding allUpdated joinedBits flatMap grown
 all-onward h z o [] m r c few = ap (λ (l : List Bool). done (grown h l)) (sym (append-nil m))
 all-onward h z o (g ∷ pieces) m r c few =
@@ -113,12 +113,12 @@ all-onward h z o (g ∷ pieces) m r c few =
     let both : grown (grown h m) p ≡ grown h (m ++ p) = grown-append h z o m p in
     ap (λ (a : Advanced). allUpdated a pieces) (update-done (grown h m) g o′ (cut-head H g pieces c) r (omega (arith, grown-total h m, size)) ∙ ap done both)
     ∙ all-onward h z o pieces (m ++ p) (subst (λ (k : Hasher). Ready k pieces) both (ready-next (grown h m) g pieces c r)) (cut-tail H g pieces c)
-    (subst (λ (l : List Bool). h .total + length l ≤ mostBits) (sym assoc) few)
+    (subst (λ (l : List Bool). h .total + length l ≤ maxBits) (sym assoc) few)
     ∙ ap (λ (l : List Bool). done (grown h l)) assoc
 
 -- past the limit: the piece that passes it is refused
 all-long : (pieces : List Given) (h : Hasher) → Sized h → Open h → Ready h pieces → Cut (variantOf h) pieces
-    → mostBits < h .total + length (joinedBits (variantOf h) pieces) → allUpdated (done h) pieces .status ≡ Refused TooLong
+    → maxBits < h .total + length (joinedBits (variantOf h) pieces) → allUpdated (done h) pieces .status ≡ Refused TooLong
 unfolding allUpdated joinedBits flatMap grown
 all-long [] h z o r c l = absurd (omega (arith, facts h (o .0) .few))
 all-long (g ∷ pieces) h z o r c l =
@@ -132,7 +132,7 @@ all-long (g ∷ pieces) h z o r c l =
     ap (λ (a : Advanced). allUpdated a pieces .status) (update-done h g o (cut-head H g pieces c) r within)
     ∙ all-long pieces (grown h p) (grown-sized h z o p) (grown-open h z o p within) (ready-next h g pieces c r) (cut-tail H g pieces c)
     (omega (arith, grown-total h p, length-append p (joinedBits H pieces))))
-    (lt-or-le mostBits (h .total + length p))
+    (lt-or-le maxBits (h .total + length p))
 
 -- a running hash of no variant takes none
 none-taken : (v : ℕ) → known v ≡ false → (pieces : List Given) → allUpdated (started v) pieces .status ≡ Refused UnknownVariant
@@ -157,22 +157,22 @@ module _ (v : ℕ) (k : known v ≡ true) where
   none-whole = refl
 
   -- the pieces within the limit
-  all-taken : (pieces : List Given) → Cut (variant v) pieces → length (joinedBits (variant v) pieces) ≤ mostBits
+  all-taken : (pieces : List Given) → Cut (variant v) pieces → length (joinedBits (variant v) pieces) ≤ maxBits
       → allUpdated (started v) pieces ≡ done (reached v (joinedBits (variant v) pieces))
   all-taken pieces c few =
       ap (λ (a : Advanced). allUpdated a pieces) started-none
       ∙ all-onward (fresh v) (fresh-sized v k) (fresh-open v k) pieces [] (start-ready pieces (grown (fresh v) []) none-whole) c (omega (arith, few))
 
-  every-taken : (pieces : List Given) → Cut (variant v) pieces → length (joinedBits (variant v) pieces) ≤ mostBits → (i : ℕ) → allUpdated (started v) (take i pieces) .status ≡ Done
+  every-taken : (pieces : List Given) → Cut (variant v) pieces → length (joinedBits (variant v) pieces) ≤ maxBits → (i : ℕ) → allUpdated (started v) (take i pieces) .status ≡ Done
   every-taken pieces c few i = ap (λ (a : Advanced). a .status) (all-taken (take i pieces) (cut-take H i pieces c) (le-trans (joined-take H i pieces) few))
 
-  pieces-long : (pieces : List Given) → Cut (variant v) pieces → mostBits < length (joinedBits (variant v) pieces) → allUpdated (started v) pieces .status ≡ Refused TooLong
+  pieces-long : (pieces : List Given) → Cut (variant v) pieces → maxBits < length (joinedBits (variant v) pieces) → allUpdated (started v) pieces .status ≡ Refused TooLong
   pieces-long pieces c l =
       ap (λ (a : Advanced). allUpdated a pieces .status) (start-done v k)
       ∙ all-long pieces (fresh v) (fresh-sized v k) (fresh-open v k) (start-ready pieces (fresh v) (fresh-whole v k)) c (omega (arith, l))
 
   -- the running hash at the end: closed, with the end state
-  pub hashed-is : (pieces : List Given) → Cut (variant v) pieces → length (joinedBits (variant v) pieces) ≤ mostBits
+  pub hashed-is : (pieces : List Given) → Cut (variant v) pieces → length (joinedBits (variant v) pieces) ≤ maxBits
       → hashed v pieces ≡ done (ended (reached v (joinedBits (variant v) pieces)))
   unfolding hashed
   hashed-is pieces c few =
@@ -209,7 +209,7 @@ same-refused a r t result out wanted e et =
     )
 
 pub whole-is-pieces : WholeIsPieces
-unfolding hashedStatus hashedInto hashed wholeStatus wholeInto
+unfolding hashedStatus hashedInto hashed hashStatus hashInto
 whole-is-pieces v pieces g c f same wanted out =
     let H : Variant = variant v in
     let result : List ℕ = resultOf H wanted (endState H (givenBits H g)) in
@@ -223,7 +223,7 @@ whole-is-pieces v pieces g c f same wanted out =
       sym (ap (λ (b : Advanced). thenStatus b wanted (length out)) e ∙ end-status v k g f l wanted (length out)),
       sym (ap (λ (b : Advanced). thenInto b wanted out) e ∙ end-into v k g f l wanted out),
     ))
-    (lt-or-le mostBits (length (givenBits H g))))
+    (lt-or-le maxBits (length (givenBits H g))))
     (λ k. same-refused a UnknownVariant _ result out wanted (none-taken v k pieces) (rw k))
     (either (known v))
 

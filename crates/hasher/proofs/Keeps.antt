@@ -11,7 +11,7 @@ use Rattle.standard.specs.Variants.{known}
 use Rattle.answers.specs.declared.Status.{Status}
 use Rattle.answers.specs.declared.Status.the-variants.{Done}
 use Rattle.answers.specs.Checks.{firstRefusal}
-use Rattle.answers.specs.Outputs.{whenDone, mostBits}
+use Rattle.answers.specs.Outputs.{whenDone, maxBits}
 use Rattle.answers.proofs.Statuses.{done-or, kept}
 use Rattle.answers.proofs.Rows.{passing-says, by-ways}
 use Rattle.hasher.specs.declared.Hasher.{Hasher}
@@ -51,7 +51,7 @@ start-unchanged h v n = kept (firstRefusal (startChecks v)) (fresh v) h n
 
 module _ (h : Hasher) (z : Sized h) (w : wellFormed h ≡ true) where
   -- where the checks of a piece pass, the running hash goes on
-  goes-on : (m : List Bool) → closed h ≡ false → h .total + length m ≤ mostBits → Good (grown h m)
+  goes-on : (m : List Bool) → closed h ≡ false → h .total + length m ≤ maxBits → Good (grown h m)
   goes-on m c few = (grown-open h z (w, c) m few .0, grown-sized h z (w, c) m)
 
   update-good : (g : Given) → Good (updated h g .hasher)

@@ -19,17 +19,17 @@ use Rattle.standard.proofs.Variants.{streams}
 use Rattle.answers.specs.declared.Status.{Status}
 use Rattle.answers.specs.declared.Status.the-variants.{Done}
 use Rattle.answers.specs.Checks.{firstRefusal}
-use Rattle.answers.specs.Outputs.{written, most, mostBits}
+use Rattle.answers.specs.Outputs.{written, maxBytes, maxBits}
 use Rattle.answers.proofs.Rows.{row-second}
 use Rattle.standard.specs.Layout.{packedState, packedBlock}
 use Rattle.chain.specs.Messages.{Fits, messageChecks}
-use Rattle.chain.proofs.PartBytes.{message-passes}
+use Rattle.chain.proofs.MessageLaws.{message-passes}
 use Rattle.hasher.specs.declared.Hasher.{Hasher}
 use Rattle.hasher.specs.declared.Advanced.{Advanced}
 use Rattle.hasher.specs.Running.{heldCount, wholeSoFar, heldIn, stateOf, blank, fresh, grown, ended, started, updated, finished}
 use Rattle.hasher.specs.ForCode.{Open}
 use Rattle.standard.specs.declared.Wanted.{Wanted}
-use Rattle.hasher.specs.Reading.{resultOf, resultSize, roomChecks, readStatus, readInto, wholeStatus, wholeInto}
+use Rattle.hasher.specs.Reading.{resultOf, resultSize, roomChecks, readStatus, readInto, hashStatus, hashInto}
 use Rattle.hasher.specs.Pieces.{Reads}
 use Rattle.hasher.specs.Sized.{Sized}
 use Rattle.hasher.proofs.WellFormed.{Facts, facts, well-formed, open-count}
@@ -44,7 +44,7 @@ abbrev pub taken : ℕ → List ℕ → Hasher
 taken v m = reached v (byteBits m)
 
 -- whole bytes within the limit are bits within it
-pub few-bits : (m : List ℕ) → length m ≤ most → length (byteBits m) ≤ mostBits
+pub few-bits : (m : List ℕ) → length m ≤ maxBytes → length (byteBits m) ≤ maxBits
 few-bits m few = omega (arith, length-bitsIn high-first m)
 
 module _ (v : ℕ) (k : known v ≡ true) where
@@ -87,7 +87,7 @@ module _ (v : ℕ) (k : known v ≡ true) where
   -- ---- a message
 
   module _ (m : List Bool) where
-    pub reached-open : length m ≤ mostBits → Open (reached v m)
+    pub reached-open : length m ≤ maxBits → Open (reached v m)
     reached-open few = grown-open (fresh v) fresh-sized fresh-open m (omega arith)
 
     reached-sized : Sized (reached v m)
@@ -101,7 +101,7 @@ module _ (v : ℕ) (k : known v ≡ true) where
     reached-held : heldIn (reached v m) ≡ restOf (H .r) m
     reached-held = grown-held (fresh v) fresh-sized fresh-open m ∙ ap (λ (c : List Bool). restOf (H .r) (c ++ m)) fresh-held
 
-    module _ (few : length m ≤ mostBits) where
+    module _ (few : length m ≤ maxBits) where
       end-facts : Facts (ended (reached v m))
       end-facts = ended-facts (reached v m) (facts (reached v m) (reached-open few .0)) reached-sized
 
@@ -136,37 +136,37 @@ module _ (v : ℕ) (k : known v ≡ true) where
 
   -- ---- a whole message as a caller gives it
 
-  module _ (g : Given) (f : Fits g) (few : length (givenBits (variant v) g) ≤ mostBits) where
+  module _ (g : Given) (f : Fits g) (few : length (givenBits (variant v) g) ≤ maxBits) where
     abbrev m : List Bool
     m = givenBits (variant v) g
 
-    whole-answer : (wanted : Wanted) (n : ℕ) → firstRefusal (roomChecks H wanted n) ≡ wholeStatus v g wanted n
-    unfolding wholeStatus
+    whole-answer : (wanted : Wanted) (n : ℕ) → firstRefusal (roomChecks H wanted n) ≡ hashStatus v g wanted n
+    unfolding hashStatus
     whole-answer wanted n = sym (row-second (messageChecks v g) (roomChecks H wanted n) (message-passes v g k f few))
 
-    pub end-status : (wanted : Wanted) (n : ℕ) → readStatus (ended (reached v (givenBits (variant v) g))) wanted n ≡ wholeStatus v g wanted n
+    pub end-status : (wanted : Wanted) (n : ℕ) → readStatus (ended (reached v (givenBits (variant v) g))) wanted n ≡ hashStatus v g wanted n
     end-status wanted n = end-answer m few wanted n ∙ whole-answer wanted n
 
-    pub end-into : (wanted : Wanted) (out : List ℕ) → readInto (ended (reached v (givenBits (variant v) g))) wanted out ≡ wholeInto v g wanted out
-    unfolding wholeInto
-    end-into wanted out = end-output m few wanted out (wholeStatus v g wanted (length out)) (whole-answer wanted (length out))
+    pub end-into : (wanted : Wanted) (out : List ℕ) → readInto (ended (reached v (givenBits (variant v) g))) wanted out ≡ hashInto v g wanted out
+    unfolding hashInto
+    end-into wanted out = end-output m few wanted out (hashStatus v g wanted (length out)) (whole-answer wanted (length out))
 
     -- into an output that is long enough
     pub whole-done : (wanted : Wanted) (out : List ℕ) → resultSize (variant v) wanted ≤ length out
-        → (wholeStatus v g wanted (length out) ≡ Done)
-        × (wholeInto v g wanted out ≡ resultOf (variant v) wanted (endState (variant v) (givenBits (variant v) g)) ++ drop (resultSize (variant v) wanted) out)
+        → (hashStatus v g wanted (length out) ≡ Done)
+        × (hashInto v g wanted out ≡ resultOf (variant v) wanted (endState (variant v) (givenBits (variant v) g)) ++ drop (resultSize (variant v) wanted) out)
     whole-done wanted out l =
         let r = end-reads m few wanted out l in
         (sym (end-status wanted (length out)) ∙ r .0, sym (end-into wanted out) ∙ r .1)
 
   -- ---- whole bytes
 
-  module _ (m : List ℕ) (few : length m ≤ most) where
+  module _ (m : List ℕ) (few : length m ≤ maxBytes) where
     -- the calls one after another
     pub calls-read : (wanted : Wanted) (out : List ℕ) (s u f : Advanced) (r : Status) (after : List ℕ)
         → s ≡ started v → u ≡ updated (s .hasher) (bytes m) → f ≡ finished (u .hasher)
         → (r ≡ readStatus (f .hasher) wanted (length out)) × (after ≡ readInto (f .hasher) wanted out)
-        → (r ≡ wholeStatus v (bytes m) wanted (length out)) × (after ≡ wholeInto v (bytes m) wanted out)
+        → (r ≡ hashStatus v (bytes m) wanted (length out)) × (after ≡ hashInto v (bytes m) wanted out)
     calls-read wanted out s u f r after es eu ef er =
         let is : s .hasher ≡ fresh v = ap (λ (a : Advanced). a .hasher) (es ∙ start-done v k) in
         let iu : u .hasher ≡ taken v m =

@@ -16,7 +16,7 @@ use Rattle.standard.specs.Variants.{known}
 use Rattle.standard.proofs.BitLaws.{length-pack, unpack-pack, length-bitsIn, bitsIn-append}
 use Rattle.standard.proofs.Streaming.{Streams, run-append, run-none, run-length, length-rest, whole-append, rest-append, whole-short, rest-short}
 use Rattle.standard.proofs.Variants.{Bounds, bounds, streams}
-use Rattle.answers.specs.Outputs.{mostBits}
+use Rattle.answers.specs.Outputs.{maxBits}
 use Rattle.standard.specs.Layout.{stateRoom, blockRoom, packedState, packedBlock}
 use Rattle.chain.proofs.States.{stored}
 use Rattle.hasher.specs.declared.Hasher.{Hasher}
@@ -49,7 +49,7 @@ module _ (h : Hasher) (stage total : ℕ) (s b : List Bool) where
     unfolding heldIn
     held-going = ap (λ (n : ℕ). unpack high-first n (packedBlock b)) (sym lb) ∙ unpack-pack high-first blockRoom b short
 
-    pub going-facts : stage ≤ 1 → total ≤ mostBits → Facts next
+    pub going-facts : stage ≤ 1 → total ≤ maxBits → Facts next
     going-facts hs ht =
         record {
           named = k;
@@ -112,7 +112,7 @@ module _ (h : Hasher) (z : Sized h) (o : Open h) where
     unfolding grown
     grown-held = held-going h (h .stage) (h .total + length m) after rest (f .named) after-long rest-long
 
-    pub grown-open : h .total + length m ≤ mostBits → Open (grown h m)
+    pub grown-open : h .total + length m ≤ maxBits → Open (grown h m)
     unfolding grown
     grown-open few =
         (well-formed (grown h m) (going-facts h (h .stage) (h .total + length m) after rest (f .named) after-long rest-long (f .stages) few), o .1)
@@ -154,7 +154,7 @@ pub onward-whole : (h : Hasher) → wholeSoFar h ≡ true → (m : List ℕ) →
 onward-whole h w m = eq-eqb (onward h m .total % 8) 0 (omega (arith, onward-total h m, eqb-true (h .total % 8) 0 w))
 
 module _ (h : Hasher) (z : Sized h) (o : Open h) where
-  pub onward-open : (m : List ℕ) → h .total + 8 * length m ≤ mostBits → Open (onward h m)
+  pub onward-open : (m : List ℕ) → h .total + 8 * length m ≤ maxBits → Open (onward h m)
   onward-open m few = grown-open h z o (byteBits m) (omega (arith, length-bitsIn high-first m))
 
   pub onward-sized : (m : List ℕ) → Sized (onward h m)

@@ -14,10 +14,10 @@ use Rattle.standard.specs.Chain.{padding, wholeBlocks, restOf, run}
 use Rattle.standard.proofs.BitLaws.{length-bitsOf, length-unpack, bitsIn-drop, filled-short, pack-none}
 use Rattle.standard.proofs.Streaming.{Streams, length-rest, run-append, run-length}
 use Rattle.standard.proofs.Variants.{Bounds, bounds, streams}
-use Rattle.answers.specs.Outputs.{mostBits}
+use Rattle.answers.specs.Outputs.{maxBits}
 use Rattle.standard.specs.Layout.{blockRoom, packedState, packedBlock, clear}
 use Rattle.chain.specs.Holding.{Holds}
-use Rattle.chain.specs.Endings.{markedCount, lengthBlocks}
+use Rattle.chain.specs.Padding.{dataBlocks, lengthBlocks}
 use Rattle.chain.specs.Blocks.{heldThen, firstBlocks}
 use Rattle.bytes.proofs.Clear.{first-byte, clear-zeros}
 use Rattle.chain.proofs.BlockRows.{withOne, whole-first, first-zeros, filled-zeros, pack-zeros}
@@ -79,13 +79,10 @@ module _ {h : Hasher} (w : Owned h) (o : Open h) {c : ℕ} (ec : c ≡ heldCount
     held-halves : 4 * (c / 4) ≡ c
     held-halves = omega (arith, count-quarters h (f .named) whole)
 
-    pub held-fit : c / 4 ≤ 2 * length (h .held)
-    held-fit = omega (arith, held-few, w .sized .held-size)
-
     rate : 4 * (b / 4) ≡ b
     rate = omega (arith, B .rate-quarters)
 
-    pub small : k ≤ 8 → h .total + (8 * length piece + k) ≤ mostBits → Small (c + (8 * length piece + k)) b
+    pub small : k ≤ 8 → h .total + (8 * length piece + k) ≤ maxBits → Small (c + (8 * length piece + k)) b
     small hk few =
         let some : 0 < b = omega (arith, B .rate-least) in
         let room : n ≤ 2 ^ 32 = omega (arith, held-few) in
@@ -154,9 +151,6 @@ module _ {h : Hasher} (w : Owned h) (o : Open h) {c : ℕ} (ec : c ≡ heldCount
 
   -- ---- the end
 
-  pub whole-fit : 2 * (c / 8) ≤ 2 * length (h .held)
-  whole-fit = omega (arith, held-few, w .sized .held-size)
-
   -- the last byte has the bits that are held past the whole bytes, and the 1 bit
   module _ (x : ℕ) (ex : bitsOf high-first 8 x ≡ take (c % 8) (bitsOf high-first 8 (getD (h .held) (c / 8) 0)) ++ true ∷ replicate (7 - c % 8) false) where
     abbrev part : List Bool
@@ -197,23 +191,23 @@ module _ {h : Hasher} (w : Owned h) (o : Open h) {c : ℕ} (ec : c ≡ heldCount
     same-left = sym (mod-eq-of-lt short ∙ held-long h f (w .sized) ∙ open-count h (o .1))
 
     -- the blocks that the code runs, and the length's behind them
-    last-blocks : firstBlocks (H .r) (markedCount H c) (heldThen (h .held) (2 * (c / 8)) (x ∷ [])) ++ lengthBlocks H (h .total) ≡ wholeBlocks (H .r) (heldIn h ++ padding H (h .total))
+    last-blocks : firstBlocks (H .r) (dataBlocks H c) (heldThen (h .held) (2 * (c / 8)) (x ∷ [])) ++ lengthBlocks H (h .total) ≡ wholeBlocks (H .r) (heldIn h ++ padding H (h .total))
     last-blocks =
         let many : c ≡ length (heldIn h) = ec ∙ sym (held-long h f (w .sized)) in
         ap (λ (bs : List (List Bool)). bs ++ lengthBlocks H (h .total))
-        (ap (firstBlocks (H .r) (markedCount H c)) marked
-        ∙ first-zeros (H .r) (markedCount H c) (withOne (heldIn h)) (7 - c % 8)
-        ∙ ap (λ (k : ℕ). firstBlocks (H .r) (markedCount H k) (withOne (heldIn h))) many)
+        (ap (firstBlocks (H .r) (dataBlocks H c)) marked
+        ∙ first-zeros (H .r) (dataBlocks H c) (withOne (heldIn h)) (7 - c % 8)
+        ∙ ap (λ (k : ℕ). firstBlocks (H .r) (dataBlocks H k) (withOne (heldIn h))) many)
         ∙ sym (ending-blocks (h .variant) (f .named) (heldIn h) (h .total) same-left)
 
     -- s is the state after the blocks of the held bits, and e the one after the length's
     module _ (s e : List ℕ)
-        (es : s ≡ packedState (variantOf h) (run (variantOf h) (stateIn (variantOf h) (h .state)) (firstBlocks (variantOf h .r) (markedCount (variantOf h) c) (heldThen (h .held) (2 * (c / 8)) (x ∷ []))))) where
+        (es : s ≡ packedState (variantOf h) (run (variantOf h) (stateIn (variantOf h) (h .state)) (firstBlocks (variantOf h .r) (dataBlocks (variantOf h) c) (heldThen (h .held) (2 * (c / 8)) (x ∷ []))))) where
       abbrev after : List Bool
-      after = run H (stateIn H (h .state)) (firstBlocks (H .r) (markedCount H c) (heldThen (h .held) (2 * (c / 8)) (x ∷ [])))
+      after = run H (stateIn H (h .state)) (firstBlocks (H .r) (dataBlocks H c) (heldThen (h .held) (2 * (c / 8)) (x ∷ [])))
 
       after-long : length after ≡ H .t
-      after-long = run-length H S (firstBlocks (H .r) (markedCount H c) (heldThen (h .held) (2 * (c / 8)) (x ∷ []))) (stateIn H (h .state)) (ap length state-is ∙ state-long h f (w .sized))
+      after-long = run-length H S (firstBlocks (H .r) (dataBlocks H c) (heldThen (h .held) (2 * (c / 8)) (x ∷ []))) (stateIn H (h .state)) (ap length state-is ∙ state-long h f (w .sized))
 
       pub marked-ready : Holds (h .variant) s
       marked-ready = stored-ready (h .variant) (f .named) s after after-long es
@@ -225,6 +219,6 @@ module _ {h : Hasher} (w : Owned h) (o : Open h) {c : ℕ} (ec : c ≡ heldCount
           ap₂ (λ (x y : List ℕ). record { total = h .total; variant = h .variant; stage = 1; state = x; held = y })
           (ee
           ∙ ap (λ (u : List Bool). packedState H (run H u (lengthBlocks H (h .total)))) (stored (h .variant) (f .named) s after after-long es)
-          ∙ ap (packedState H) (sym (run-append H (stateIn H (h .state)) (firstBlocks (H .r) (markedCount H c) (heldThen (h .held) (2 * (c / 8)) (x ∷ []))) (lengthBlocks H (h .total))))
+          ∙ ap (packedState H) (sym (run-append H (stateIn H (h .state)) (firstBlocks (H .r) (dataBlocks H c) (heldThen (h .held) (2 * (c / 8)) (x ∷ []))) (lengthBlocks H (h .total))))
           ∙ ap₂ (λ (u : List Bool) (bs : List (List Bool)). packedState H (run H u bs)) state-is last-blocks)
           (sym (pack-none high-first blockRoom))

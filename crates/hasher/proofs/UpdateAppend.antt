@@ -11,7 +11,7 @@ use Rattle.standard.specs.Bits.{high-first}
 use Rattle.standard.specs.Messages.{byteBits, Given, bytes, givenBits}
 use Rattle.standard.proofs.BitLaws.{length-bitsIn, bitsIn-append}
 use Rattle.answers.specs.declared.Status.the-variants.{Done}
-use Rattle.answers.specs.Outputs.{mostBits}
+use Rattle.answers.specs.Outputs.{maxBits}
 use Rattle.chain.specs.Messages.{Fits}
 use Rattle.hasher.specs.declared.Hasher.{Hasher}
 use Rattle.hasher.specs.declared.Advanced.{Advanced}
@@ -25,14 +25,14 @@ use Rattle.hasher.proofs.Calls.{done, update-says, update-done}
 
 -- whole bytes and what follows them, taken in two calls and in one
 module _ (h : Hasher) (z : Sized h) (o : Open h) (w : wholeSoFar h ≡ true) (a : List ℕ) (g both : Given) (f : Fits g) (f′ : Fits both)
-    (parts : givenBits (variantOf h) both ≡ byteBits a ++ givenBits (variantOf h) g) (few : h .total + length (givenBits (variantOf h) both) ≤ mostBits) where
+    (parts : givenBits (variantOf h) both ≡ byteBits a ++ givenBits (variantOf h) g) (few : h .total + length (givenBits (variantOf h) both) ≤ maxBits) where
   abbrev m : List Bool
   m = givenBits (variantOf h) g
 
   size : length (givenBits (variantOf h) both) ≡ 8 * length a + length m
   size = ap length parts ∙ length-append (byteBits a) m ∙ omega (arith, length-bitsIn high-first a)
 
-  first : h .total + 8 * length a ≤ mostBits
+  first : h .total + 8 * length a ≤ maxBits
   first = omega (arith, size)
 
   in-two : andThen (updated h (bytes a)) (λ next. updated next g) ≡ updated h both
@@ -50,10 +50,10 @@ update-append h z a g both f parts e =
     in-two h z (says .follow .opened) (says .follow .whole) a g both f (says .fits) parts (says .follow .few)
 
 -- The running hash after two pieces of whole bytes.
-pub update-twice : (h : Hasher) → Sized h → (a b : List ℕ) → Open h → wholeSoFar h ≡ true → h .total + 8 * length (a ++ b) ≤ mostBits
+pub update-twice : (h : Hasher) → Sized h → (a b : List ℕ) → Open h → wholeSoFar h ≡ true → h .total + 8 * length (a ++ b) ≤ maxBits
     → updated (updated h (bytes a) .hasher) (bytes b) .hasher ≡ updated h (bytes (a ++ b)) .hasher
 update-twice h z a b o w few =
-    let l : h .total + 8 * length a ≤ mostBits = omega (arith, length-append a b) in
+    let l : h .total + 8 * length a ≤ maxBits = omega (arith, length-append a b) in
     let one : updated h (bytes a) ≡ done (onward h a) = update-done h (bytes a) o refl w (omega (arith, length-bitsIn high-first a)) in
     ap (λ (u : Advanced). updated (u .hasher) (bytes b) .hasher) one
     ∙ ap (λ (u : Advanced). u .hasher)

@@ -17,7 +17,7 @@ use Rattle.standard.specs.Variants.{known}
 use Rattle.standard.proofs.Tests.{and-true, either}
 use Rattle.standard.proofs.BitLaws.{length-bitsIn, length-unpack, image-eq}
 use Rattle.standard.proofs.Variants.{Bounds, bounds, WholeBytes, layouts}
-use Rattle.answers.specs.Outputs.{mostBits}
+use Rattle.answers.specs.Outputs.{maxBits}
 use Rattle.standard.specs.Layout.{stateRoom, blockRoom, packedState, packedBlock, clear}
 use Rattle.bytes.proofs.Clear.{clear-zeros, zeros-clear, clear-order}
 use Rattle.bytes.proofs.LayoutLaws.{packed-bits}
@@ -32,7 +32,7 @@ use Rattle.hasher.proofs.Owned.{Owned}
 pub record Facts (h : Hasher) : Type 0 where
   pub named : known (h .variant) ≡ true
   pub stages : h .stage ≤ 1
-  pub few : h .total ≤ mostBits
+  pub few : h .total ≤ maxBits
   pub state-clear : clear (drop (variantOf h .t) (bitsIn (order (variantOf h)) (h .state))) ≡ true
   pub held-clear : clear (drop (heldCount h) (bitsIn high-first (h .held))) ≡ true
 
@@ -41,7 +41,7 @@ unfolding wellFormed
 facts h e =
     let a = known (h .variant) in
     let b = leb (h .stage) 1 in
-    let c = leb (h .total) mostBits in
+    let c = leb (h .total) maxBits in
     let d = clear (drop (variantOf h .t) (bitsIn (order (variantOf h)) (h .state))) in
     let all = and-true (a && b && c && d) (clear (drop (heldCount h) (bitsIn high-first (h .held)))) e in
     let four = and-true (a && b && c) d (all .0) in
@@ -50,14 +50,14 @@ facts h e =
     record {
       named = two .0;
       stages = leb-true (h .stage) 1 (two .1);
-      few = leb-true (h .total) mostBits (three .1);
+      few = leb-true (h .total) maxBits (three .1);
       state-clear = four .1;
       held-clear = all .1;
     }
 
 pub well-formed : (h : Hasher) → Facts h → wellFormed h ≡ true
 unfolding wellFormed
-well-formed h f = simp (f .named, le-leb (h .stage) 1 (f .stages), le-leb (h .total) mostBits (f .few), f .state-clear, f .held-clear)
+well-formed h f = simp (f .named, le-leb (h .stage) 1 (f .stages), le-leb (h .total) maxBits (f .few), f .state-clear, f .held-clear)
 
 -- ---- how many bits are held
 

@@ -11,15 +11,16 @@ use Rattle.standard.specs.Chain.{startState, padded, blocksOf, run, endState}
 use Rattle.standard.specs.Variants.{variant, known}
 use Rattle.standard.proofs.Streaming.{run-append, run-length, run-none}
 use Rattle.standard.proofs.Variants.{streams}
-use Rattle.answers.specs.Outputs.{mostBits}
+use Rattle.answers.specs.Outputs.{maxBits}
 use Rattle.standard.specs.Layout.{packedState}
 use Rattle.chain.specs.Holding.{Holds}
-use Rattle.chain.specs.Blocks.{heldThen, firstBlocks}
-use Rattle.chain.specs.Endings.{markedCount, lengthBlock, lengthBlocks}
-use Rattle.chain.specs.Parts.{messageIn, HoldsMessage}
+use Rattle.chain.specs.Blocks.{noneHeld, bitsAfter, firstBlocks, afterBlocks}
+use Rattle.chain.specs.declared.blocks.Held.{Held}
+use Rattle.chain.specs.Padding.{dataBlocks, lengthBlock, lengthBlocks}
+use Rattle.chain.specs.MessageBytes.{messageIn, HoldsMessage}
 use Rattle.chain.proofs.BlockRows.{marked-blocks, heldThen-alone}
 use Rattle.chain.proofs.LastBlocks.{ending-blocks, marked-most}
-use Rattle.chain.proofs.PartBytes.{held-length}
+use Rattle.chain.proofs.MessageLaws.{held-length}
 use Rattle.chain.proofs.States.{stored, stored-ready}
 
 -- the bytes of a start hold a state
@@ -27,11 +28,11 @@ pub start-ready : (v : ℕ) → known v ≡ true → (s : List ℕ) → s ≡ pa
 start-ready v k s e = stored-ready v k s (startState (variant v)) (streams v k .start-length) e
 
 -- a message of n bits, and its blocks but the length's
-module _ (v : ℕ) (k : known v ≡ true) (n count : ℕ) (e : count ≡ markedCount (variant v) n) where
+module _ (v : ℕ) (k : known v ≡ true) (n count : ℕ) (e : count ≡ dataBlocks (variant v) n) where
   abbrev H : Variant
   H = variant v
 
-  pub count-most : n ≤ mostBits → count ≤ 2 ^ 32
+  pub count-most : n ≤ maxBits → count ≤ 2 ^ 32
   count-most few = omega (arith, marked-most v k n)
 
   module _ (front : List ℕ) (last : ℕ) (holds : HoldsMessage front last n) where
@@ -41,39 +42,39 @@ module _ (v : ℕ) (k : known v ≡ true) (n count : ℕ) (e : count ≡ markedC
     abbrev M : List Bool
     M = messageIn front last n
 
-    -- with the length's behind them they are all
-    all-blocks : (held : List ℕ) → firstBlocks (H .r) count (heldThen held 0 bytes) ++ lengthBlocks H n ≡ blocksOf H M
+    -- with the length's after them they are all
+    all-blocks : (held : Held) → held ≡ noneHeld → firstBlocks (H .r) count (bitsAfter held bytes) ++ lengthBlocks H n ≡ blocksOf H M
     unfolding blocksOf padded
-    all-blocks held =
+    all-blocks held eh =
         let many : length M ≡ n = held-length holds in
         ap₂ (λ (bs : List (List Bool)) (m : ℕ). bs ++ lengthBlocks H m)
-        (ap₂ (firstBlocks (H .r)) (e ∙ ap (markedCount H) (sym many)) (heldThen-alone held bytes) ∙ marked-blocks (H .r) (markedCount H (length M)) M bytes (holds .marked))
+        (ap₂ (firstBlocks (H .r)) (e ∙ ap (dataBlocks H) (sym many)) (ap (λ (h : Held). bitsAfter h bytes) eh ∙ heldThen-alone _ bytes) ∙ marked-blocks (H .r) (dataBlocks H (length M)) M bytes (holds .marked))
         (sym many)
         ∙ sym (ending-blocks v k M (length M) refl)
 
-    module _ (s held marked : List ℕ) (es : s ≡ packedState (variant v) (startState (variant v))) where
+    module _ (s marked : List ℕ) (es : s ≡ packedState (variant v) (startState (variant v))) (held : Held) (eh : held ≡ noneHeld) where
       abbrev after : List Bool
-      after = run H (stateIn H s) (firstBlocks (H .r) count (heldThen held 0 bytes))
+      after = afterBlocks H (stateIn H s) held bytes count
 
       started : stateIn H s ≡ startState H
       started = stored v k s (startState H) (streams v k .start-length) es
 
       after-long : length after ≡ H .t
-      after-long = run-length H (streams v k) (firstBlocks (H .r) count (heldThen held 0 bytes)) (stateIn H s) (ap length started ∙ streams v k .start-length)
+      after-long = run-length H (streams v k) (firstBlocks (H .r) count (bitsAfter held bytes)) (stateIn H s) (ap length started ∙ streams v k .start-length)
 
       -- from there on, the length's
-      pub end-run : run (variant v) (run (variant v) (stateIn (variant v) s) (firstBlocks (variant v .r) count (heldThen held 0 (front ++ last ∷ [])))) (lengthBlocks (variant v) n) ≡ endState (variant v) (messageIn front last n)
+      pub end-run : run (variant v) (afterBlocks (variant v) (stateIn (variant v) s) held (front ++ last ∷ []) count) (lengthBlocks (variant v) n) ≡ endState (variant v) (messageIn front last n)
       unfolding endState
       end-run =
-          sym (run-append H (stateIn H s) (firstBlocks (H .r) count (heldThen held 0 bytes)) (lengthBlocks H n)) ∙ ap₂ (run H) started (all-blocks held)
+          sym (run-append H (stateIn H s) (firstBlocks (H .r) count (bitsAfter held bytes)) (lengthBlocks H n)) ∙ ap₂ (run H) started (all-blocks held eh)
 
       -- a sponge has none
       pub sponge-run : isSponge (variant v) ≡ true
-          → run (variant v) (stateIn (variant v) s) (firstBlocks (variant v .r) count (heldThen held 0 (front ++ last ∷ []))) ≡ endState (variant v) (messageIn front last n)
+          → afterBlocks (variant v) (stateIn (variant v) s) held (front ++ last ∷ []) count ≡ endState (variant v) (messageIn front last n)
       sponge-run q =
           sym (ap (λ (b : Bool). run H after (cond b [] (lengthBlock n ∷ []))) q ∙ run-none H after) ∙ end-run
 
-      module _ (em : marked ≡ packedState (variant v) (run (variant v) (stateIn (variant v) s) (firstBlocks (variant v .r) count (heldThen held 0 (front ++ last ∷ []))))) where
+      module _ (em : marked ≡ packedState (variant v) (afterBlocks (variant v) (stateIn (variant v) s) held (front ++ last ∷ []) count)) where
         pub marked-ready : Holds v marked
         marked-ready = stored-ready v k marked after after-long em
 

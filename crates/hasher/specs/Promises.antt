@@ -11,13 +11,13 @@ use Rattle.standard.specs.Messages.{byteBits, Given, bytes, givenBits}
 use Rattle.standard.specs.Variants.{variant, known}
 use Rattle.standard.specs.Values.{DifferWithin, inOneBlock}
 use Rattle.answers.specs.declared.Status.the-variants.{Done}
-use Rattle.answers.specs.Outputs.{most, mostBits}
+use Rattle.answers.specs.Outputs.{maxBytes, maxBits}
 use Rattle.chain.specs.Messages.{Fits, Alike}
 use Rattle.hasher.specs.declared.Hasher.{Hasher}
 use Rattle.standard.specs.declared.Wanted.{Wanted}
 use Rattle.standard.specs.declared.Wanted.the-variants.{Digest}
 use Rattle.hasher.specs.Running.{variantOf, heldCount, stateOf, wellFormed, startedOver, started, updated, finished}
-use Rattle.hasher.specs.Reading.{resultSize, wholeStatus, wholeInto}
+use Rattle.hasher.specs.Reading.{resultSize, hashStatus, hashInto}
 use Rattle.hasher.specs.Pieces.{joinedBits, Cut, plain, joined, andThen, hashedStatus, hashedInto, Hashes}
 use Rattle.hasher.specs.Apart.{ToldApart}
 use Rattle.hasher.specs.Sized.{Sized}
@@ -49,13 +49,13 @@ FinishWellFormed = (h : Hasher) → Sized h → wellFormed h ≡ true → wellFo
 -- are all Done, and a read gives the standard's digest of the message, or the image of its end state.
 abbrev pub Demand2 : Type 0
 Demand2 =
-    (v : ℕ) → known v ≡ true → (pieces : List Given) → Cut (variant v) pieces → length (joinedBits (variant v) pieces) ≤ mostBits
+    (v : ℕ) → known v ≡ true → (pieces : List Given) → Cut (variant v) pieces → length (joinedBits (variant v) pieces) ≤ maxBits
     → Hashes v pieces (joinedBits (variant v) pieces)
 
 -- The same where all bits count: pieces of bytes, as they are.
 abbrev pub Demand2Bytes : Type 0
 Demand2Bytes =
-    (v : ℕ) → known v ≡ true → (pieces : List (List ℕ)) → length (joined pieces) ≤ most → Hashes v (plain pieces) (byteBits (joined pieces))
+    (v : ℕ) → known v ≡ true → (pieces : List (List ℕ)) → length (joined pieces) ≤ maxBytes → Hashes v (plain pieces) (byteBits (joined pieces))
 
 -- A start over a running hash that is there is a start, for a known variant: so the same holds of the calls over a lent running hash.
 abbrev pub OverStarted : Type 0
@@ -67,20 +67,20 @@ abbrev pub WholeIsPieces : Type 0
 WholeIsPieces =
     (v : ℕ) (pieces : List Given) (g : Given) → Cut (variant v) pieces → Fits g → joinedBits (variant v) pieces ≡ givenBits (variant v) g
     → (wanted : Wanted) (out : List ℕ)
-    → (wholeStatus v g wanted (length out) ≡ hashedStatus v pieces wanted (length out)) × (wholeInto v g wanted out ≡ hashedInto v pieces wanted out)
+    → (hashStatus v g wanted (length out) ≡ hashedStatus v pieces wanted (length out)) × (hashInto v g wanted out ≡ hashedInto v pieces wanted out)
 
 -- The same where all bits count.
 abbrev pub WholeIsPiecesBytes : Type 0
 WholeIsPiecesBytes =
     (v : ℕ) (pieces : List (List ℕ)) (wanted : Wanted) (out : List ℕ)
-    → (wholeStatus v (bytes (joined pieces)) wanted (length out) ≡ hashedStatus v (plain pieces) wanted (length out))
-    × (wholeInto v (bytes (joined pieces)) wanted out ≡ hashedInto v (plain pieces) wanted out)
+    → (hashStatus v (bytes (joined pieces)) wanted (length out) ≡ hashedStatus v (plain pieces) wanted (length out))
+    × (hashInto v (bytes (joined pieces)) wanted out ≡ hashedInto v (plain pieces) wanted out)
 
 -- What a whole message within the limit gives is hash(M) of 5.2.3, 5.3.3 and 6.2.4, over the front of an output that is long enough.
 abbrev pub WholeDigest : Type 0
 WholeDigest =
-    (v : ℕ) → known v ≡ true → (g : Given) → Fits g → length (givenBits (variant v) g) ≤ mostBits → (out : List ℕ) → resultSize (variant v) Digest ≤ length out
-    → wholeInto v g Digest out ≡ digestOf (variant v) (givenBits (variant v) g) ++ drop (resultSize (variant v) Digest) out
+    (v : ℕ) → known v ≡ true → (g : Given) → Fits g → length (givenBits (variant v) g) ≤ maxBits → (out : List ℕ) → resultSize (variant v) Digest ≤ length out
+    → hashInto v g Digest out ≡ digestOf (variant v) (givenBits (variant v) g) ++ drop (resultSize (variant v) Digest) out
 
 -- Where an update with a and then g is Done in one call, it is Done in two, and gives the same running hash.
 abbrev pub UpdateAppend : Type 0
@@ -95,7 +95,7 @@ UpdateAlike = (h : Hasher) (g g′ : Given) → Alike (variantOf h) g g′ → u
 abbrev pub WholeAlike : Type 0
 WholeAlike =
     (v : ℕ) (g g′ : Given) → Alike (variant v) g g′ → (wanted : Wanted) (out : List ℕ)
-    → (wholeStatus v g wanted (length out) ≡ wholeStatus v g′ wanted (length out)) × (wholeInto v g wanted out ≡ wholeInto v g′ wanted out)
+    → (hashStatus v g wanted (length out) ≡ hashStatus v g′ wanted (length out)) × (hashInto v g wanted out ≡ hashInto v g′ wanted out)
 
 -- ---- demand 3, for what a caller reads
 
@@ -103,19 +103,19 @@ WholeAlike =
 abbrev pub RowTold : Type 0
 RowTold =
     (v : ℕ) → isSponge (variant v) ≡ true → (x y : Given) → Fits x → Fits y
-    → length (givenBits (variant v) x) ≤ mostBits → length (givenBits (variant v) y) ≤ mostBits
+    → length (givenBits (variant v) x) ≤ maxBits → length (givenBits (variant v) y) ≤ maxBits
     → (i : ℕ) → DifferAt i (blocksOf (variant v) (givenBits (variant v) x)) (blocksOf (variant v) (givenBits (variant v) y)) → ToldApart v x y
 
 -- Of a sponge: two messages of equal length within the limit whose bits differ, and only within one block, are told apart.
 abbrev pub BlockTold : Type 0
 BlockTold =
-    (v : ℕ) → isSponge (variant v) ≡ true → (x y : Given) → Fits x → Fits y → length (givenBits (variant v) x) ≤ mostBits
+    (v : ℕ) → isSponge (variant v) ≡ true → (x y : Given) → Fits x → Fits y → length (givenBits (variant v) x) ≤ maxBits
     → (j : ℕ) → DifferWithin (j * variant v .r) (variant v .r) (givenBits (variant v) x) (givenBits (variant v) y) → ToldApart v x y
 
 -- Of a sponge: two messages of bytes within the limit that differ only in the n bytes from p on, which lie in one block, are told apart.
 abbrev pub ValueTold : Type 0
 ValueTold =
-    (v : ℕ) → isSponge (variant v) ≡ true → (x y : List ℕ) → length x ≤ most → ((i : ℕ) → getD x i 0 < 256) → ((i : ℕ) → getD y i 0 < 256)
+    (v : ℕ) → isSponge (variant v) ≡ true → (x y : List ℕ) → length x ≤ maxBytes → ((i : ℕ) → getD x i 0 < 256) → ((i : ℕ) → getD y i 0 < 256)
     → (p n : ℕ) → DifferWithin p n x y → inOneBlock (variant v) p n ≡ true → ToldApart v (bytes x) (bytes y)
 
 -- Of every variant (document 02, Q-7): from one running hash, two different pieces that each fill the block never lead to one state.

@@ -49,13 +49,13 @@ unfoldable pub readInto : Hasher → Wanted → List ℕ → List ℕ
 readInto h wanted out = written (readStatus h wanted (length out)) (resultOf (variantOf h) wanted (stateOf h)) out
 
 -- Whole message, into so many bytes: 1, 15, 4, 5
-abbrev pub wholeChecks : ℕ → Given → Wanted → ℕ → List Check
-wholeChecks v g wanted room = messageChecks v g ++ roomChecks (variant v) wanted room
+abbrev pub hashChecks : ℕ → Given → Wanted → ℕ → List Check
+hashChecks v g wanted room = messageChecks v g ++ roomChecks (variant v) wanted room
 
 -- the answer for a whole message, and the caller's output after it
-unfoldable pub wholeStatus : ℕ → Given → Wanted → ℕ → Status
-wholeStatus v g wanted room = firstRefusal (wholeChecks v g wanted room)
+unfoldable pub hashStatus : ℕ → Given → Wanted → ℕ → Status
+hashStatus v g wanted room = firstRefusal (hashChecks v g wanted room)
 
-unfoldable pub wholeInto : ℕ → Given → Wanted → List ℕ → List ℕ
-wholeInto v g wanted out =
-    written (wholeStatus v g wanted (length out)) (resultOf (variant v) wanted (endState (variant v) (givenBits (variant v) g))) out
+unfoldable pub hashInto : ℕ → Given → Wanted → List ℕ → List ℕ
+hashInto v g wanted out =
+    written (hashStatus v g wanted (length out)) (resultOf (variant v) wanted (endState (variant v) (givenBits (variant v) g))) out

@@ -13,7 +13,7 @@ use Rattle.standard.specs.Messages.{Given, givenBits}
 use Rattle.standard.specs.Variants.{variant, known}
 use Rattle.answers.specs.declared.Refusal.the-variants.{UnknownVariant, Malformed, WrongStage, TooLong, InsideByte}
 use Rattle.answers.specs.Checks.{Check, unless, when, firstRefusal}
-use Rattle.answers.specs.Outputs.{whenDone, mostBits}
+use Rattle.answers.specs.Outputs.{whenDone, maxBits}
 use Rattle.standard.specs.Layout.{stateRoom, blockRoom, packedState, packedBlock, clear}
 use Rattle.chain.specs.Messages.{numberChecks}
 use Rattle.hasher.specs.declared.Hasher.{Hasher}
@@ -47,7 +47,7 @@ unfoldable pub wellFormed : Hasher → Bool
 wellFormed h =
     known (h .variant)
     && leb (h .stage) 1
-    && leb (h .total) mostBits
+    && leb (h .total) maxBits
     && clear (drop (variantOf h .t) (bitsIn (order (variantOf h)) (h .state)))
     && clear (drop (heldCount h) (bitsIn high-first (h .held)))
 
@@ -98,7 +98,7 @@ openChecks h =
 
 -- n bits may follow: 16, 4
 abbrev pub followChecks : Hasher → ℕ → List Check
-followChecks h n = unless (wholeSoFar h) InsideByte ∷ when (ltb mostBits (h .total + n)) TooLong ∷ []
+followChecks h n = unless (wholeSoFar h) InsideByte ∷ when (ltb maxBits (h .total + n)) TooLong ∷ []
 
 -- Take a piece: 2, 3, 15, 16, 4
 abbrev pub updateChecks : Hasher → Given → List Check

@@ -1,5 +1,7 @@
--- An advance of a lent running hash: the walk by hand of the MIR that `start`, `update` and `finish` have but for the function that they call and what they are passed beside the running hash.
--- The borrow is opened and the struct behind it copied and passed by value; the struct of the answer is stored whole behind the reference, the borrow is closed and the answer's status returned.
+-- An advance of a lent running hash: the walk by hand of the MIR of `start`, `update` and `finish`. They differ only in
+-- the function that they call and in what they are passed beside the running hash.
+-- The borrow is opened and the struct behind it copied and passed by value; the struct of the answer is stored whole
+-- behind the reference, the borrow is closed and the answer's status returned.
 -- All that is known of the callee is its contract. Assumes nothing.
 use mathlib.Core.Path.{_≡_, refl, ap}
 use Prim.Native.Nat.{ℕ, suc}
@@ -41,8 +43,8 @@ use Rattle.hasher.proofs.Hasher.Laws as T′
 use Rattle.hasher.proofs.Advanced as D
 use Rattle.hasher.proofs.Advanced.Laws as D′
 use Rattle.lent.proofs.Passed.{kept, ends, Walk, Coded, Meets, proved}
-use Rattle.lent.proofs.Advancing.{hash, reference, advancing, behind-all}
-use Rattle.lent.proofs.Locals.{copies, function, from-behind, load-all, enters, leaves}
+use Rattle.lent.proofs.Advancing.{hash, reference, advancing, after-all}
+use Rattle.lent.proofs.Locals.{copies, function, from-after, load-all, enters, leaves}
 use Rattle.lent.proofs.Beside.{Beside, vals, row, Own}
 use Rattle.lent.proofs.ByValue.{Rest, ByValue, takes}
 
@@ -64,17 +66,17 @@ module _ (r : Advanced) (w : Val) (is : Is D.the-row r (w ∷ [])) where
 abbrev code : {n : ℕ} → Beside (suc n) → Name → Fn
 code {n} X name =
     function S′.mir (reference {n = n} hash ∷ []) (X .types) (D′.mir ∷ T′.mir ∷ []) (suc n) []
-    (seq (assign (place (behind-all hash X 1) []) (rvOpd (copy (place 1 (deref T′.mir ∷ [])))))
-    (seq (call name (copy (place (behind-all hash X 1) []) ∷ copies (S′.mir ∷ reference {n = n} hash ∷ []) (X .types)) (place (behind-all hash X 0) []))
-    (seq (assign (place 1 (deref T′.mir ∷ [])) (rvOpd (copy (place (behind-all hash X 0) (field 1 ∷ [])))))
-    (seq (assign (place 0 []) (rvOpd (copy (place (behind-all hash X 0) (field 0 ∷ [])))))
+    (seq (assign (place (after-all hash X 1) []) (rvOpd (copy (place 1 (deref T′.mir ∷ [])))))
+    (seq (call name (copy (place (after-all hash X 1) []) ∷ copies (S′.mir ∷ reference {n = n} hash ∷ []) (X .types)) (place (after-all hash X 0) []))
+    (seq (assign (place 1 (deref T′.mir ∷ [])) (rvOpd (copy (place (after-all hash X 0) (field 1 ∷ [])))))
+    (seq (assign (place 0 []) (rvOpd (copy (place (after-all hash X 0) (field 0 ∷ [])))))
     return))))
 
--- what the callee is passed behind the running hash
+-- what the callee is passed after the running hash
 abbrev rest : {n : ℕ} → Beside (suc n) → Rest n
 rest X = record { slots = X .slots; Before = X .Value; before = X .value; After = Unit {0}; after = λ κs e. tt }
 
--- where f is promised of the callee
+-- if f is promised of the callee
 module _ {n : ℕ} (X : Beside (suc n)) (f : Hasher × X .Value → Advanced) where
   -- its contract, for a caller to whom the running hash is lent for κ
   abbrev pub Taken : {M : Type 1} (𝓤 : URA M) (H : Heap 𝓤) (A : Atoms 𝓤) (κ : Lft) → Contract 𝓤
@@ -103,17 +105,20 @@ module _ {n : ℕ} (X : Beside (suc n)) (f : Hasher × X .Value → Advanced) wh
         move ! (4 ∷ []) $ use1 W (‵ (Own X κs x) ⊛ ‵ (Own X κs x)) (X .twice 𝓤 H A W κs x (vals X κs x)) $ split ! $ move ! (4 ∷ 5 ∷ 2 ∷ []) $
         opens ! tt T.the-row {h = h} (y .ptr .0) (y .ptr .1) (λ vs. spelt ! T.the-row (Is T.the-row) (shows 𝓤 H A T.the-row) (LL.vals T.the-type T′.the-laws) (LL.tells T.the-type T′.the-laws) fullShare h vs (y .ptr .0) (y .ptr .1) $
         move ! (1 ∷ []) $ peeks ! T.the-row (Is T.the-row) (shows 𝓤 H A T.the-row) h (mach h ∷ []) (λ was. move ! (1 ∷ 0 ∷ []) $
-        -- [the struct's cell; what it owns; the open borrow; obs; auth; what is beside, twice; its tokens; its cells; room for the copy; …; room for the answer; …; _1; …; room for _0; …]
-        assigns ! (of-opd ! (load ! (from ! (hop ! (look ! 13 refl) (stop !))) (look-raw ! 0 refl))) (from-behind ! F (X .types) ls E 1 (stop !)) (init ! 9 refl (LL.lawful T.the-type T′.the-laws 𝓤 H A W .typed h _ was .0)) $
+        -- [the struct's cell; what it owns; the open borrow; obs; auth; what is beside, twice; its tokens; its cells;
+        -- room for the copy; …; room for the answer; …; _1; …; room for _0; …]
+        assigns ! (of-opd ! (load ! (from ! (hop ! (look ! 13 refl) (stop !))) (look-raw ! 0 refl))) (from-after ! F (X .types) ls E 1 (stop !)) (init ! 9 refl (LL.lawful T.the-type T′.the-laws 𝓤 H A W .typed h _ was .0)) $
         move ! (1 ∷ 5 ∷ []) $ fjoin ! $ move ! (6 ∷ 0 ∷ 7 ∷ []) $
-        -- [the tokens; what is passed; the cells beside; the struct's cell; the open borrow; obs; auth; what is beside; the copy; …; room for the answer; …; _1; …; room for _0; …]
-        takes (rest X) D.the-row (λ h r _. r ≡ f h) ! (fmOf 𝓤 H (W .laws) 𝓣) κs (known (κs .0)) (qs .1) h x (mach h ∷ []) (vals X κs x) (and-then ! (load ! (from-behind ! F (X .types) ls E 1 (stop !)) (look ! 7 refl)) (load-all ! F (X .types) ls E (row X κs x) (X .typed κs x (are .1)))) (λ w r ws e is. move ! (2 ∷ []) $ drop ! $
-        -- [the answer; the tokens; the cells beside; the struct's cell; the open borrow; obs; auth; what is beside; the copy; …; room for the answer; …; _1; …; room for _0; …]
-        land ! (from-behind ! F (X .types) ls E 0 (stop !)) (init ! 10 refl (LL.lawful D.the-type D′.the-laws 𝓤 H A W .typed r _ is .0)) $
+        -- [the tokens; what is passed; the cells beside; the struct's cell; the open borrow; obs; auth; what is beside;
+        -- the copy; …; room for the answer; …; _1; …; room for _0; …]
+        takes (rest X) D.the-row (λ h r _. r ≡ f h) ! (fmOf 𝓤 H (W .laws) 𝓣) κs (known (κs .0)) (qs .1) h x (mach h ∷ []) (vals X κs x) (and-then ! (load ! (from-after ! F (X .types) ls E 1 (stop !)) (look ! 7 refl)) (load-all ! F (X .types) ls E (row X κs x) (X .typed κs x (are .1)))) (λ w r ws e is. move ! (2 ∷ []) $ drop ! $
+        -- [the answer; the tokens; the cells beside; the struct's cell; the open borrow; obs; auth; what is beside; the
+        -- copy; …; room for the answer; …; _1; …; room for _0; …]
+        land ! (from-after ! F (X .types) ls E 0 (stop !)) (init ! 10 refl (LL.lawful D.the-type D′.the-laws 𝓤 H A W .typed r _ is .0)) $
         rewrite ! 10 (λ (u : Val). ‵ (fat fullShare D′.mir l₂ 0 u)) (ap only (LL.tells D.the-type D′.the-laws r (w ∷ []) is)) refl $
         -- the struct of the answer is stored behind the reference, and its status returned
-        assigns ! (of-opd ! (load ! (from-behind ! F (X .types) ls E 0 (fld ! refl (stop !))) (look-in ! 10 (sub ! 1 refl (whole !))))) (from ! (hop ! (look ! 12 refl) (stop !))) (store-raw ! 3 refl (LL.lawful T.the-type T′.the-laws 𝓤 H A W .typed (r .hasher) _ (hasher-of r w is) .0)) $
-        assigns ! (of-opd ! (load ! (from-behind ! F (X .types) ls E 0 (fld ! refl (stop !))) (look-in ! 10 (sub ! 0 refl (whole !))))) (from ! (stop !)) (init ! 14 refl (EL.lawful S.the-type S′.the-laws 𝓤 H A W tt .typed (r .status) _ (status-of r w is) .0)) $
+        assigns ! (of-opd ! (load ! (from-after ! F (X .types) ls E 0 (fld ! refl (stop !))) (look-in ! 10 (sub ! 1 refl (whole !))))) (from ! (hop ! (look ! 12 refl) (stop !))) (store-raw ! 3 refl (LL.lawful T.the-type T′.the-laws 𝓤 H A W .typed (r .hasher) _ (hasher-of r w is) .0)) $
+        assigns ! (of-opd ! (load ! (from-after ! F (X .types) ls E 0 (fld ! refl (stop !))) (look-in ! 10 (sub ! 0 refl (whole !))))) (from ! (stop !)) (init ! 14 refl (EL.lawful S.the-type S′.the-laws 𝓤 H A W tt .typed (r .status) _ (status-of r w is) .0)) $
         drop ! $ owned ! T.the-row (Is T.the-row) (LL.makes T.the-type T′.the-plain 𝓤 H A) (r .hasher) _ (hasher-of r w is) $ move ! (3 ∷ 0 ∷ 4 ∷ 5 ∷ 6 ∷ []) $ closes ! tt T.the-row (r .hasher) (mach (r .hasher) ∷ []) (y .ptr .0) (y .ptr .1) $
         move ! (12 ∷ 13 ∷ 10 ∷ 11 ∷ 4 ∷ 8 ∷ 9 ∷ 6 ∷ 7 ∷ []) $ leaves ! (X .types) ls (row X κs x) (X .typed κs x (are .1)) $
         -- [obs; the borrow; the token; the tokens beside; what is beside]

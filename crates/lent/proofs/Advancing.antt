@@ -1,4 +1,5 @@
--- What a caller lends by `&mut` and finds advanced: the running hash, or the cursor. It is passed first, and a row of plain arguments beside it.
+-- What a caller lends by `&mut` and finds advanced: the running hash, or the cursor. It is passed first, and a row of
+-- plain arguments beside it.
 -- Assumes nothing.
 use Prim.Native.Nat.{ℕ, suc}
 use mathlib.Core.List.{List, [], _∷_}
@@ -24,7 +25,7 @@ pub record Lent (n : ℕ) : Type 2 where
   -- what a contract reads of it
   pub Value : Type 0
   pub value : (κs : Lfts (suc n)) → slot .row κs .Denot → Value
-  -- its type in MIR: by value, and behind a reference, where a second lifetime that it has is ℓ
+  -- its type in MIR: by value, and behind a reference, if a second lifetime that it has is ℓ
   pub mir : Ty
   pub behind : Lifetime → Ty
 
@@ -65,6 +66,6 @@ module _ {n : ℕ} (L : Lent n) where
       after = λ κs e. L .value κs (now (e .0));
     }
 
-    -- the number of a local behind all parameters
-    abbrev pub behind-all : ℕ → ℕ
-    behind-all i = suc (suc (past (X .types) i))
+    -- the number of a local after all parameters
+    abbrev pub after-all : ℕ → ℕ
+    after-all i = suc (suc (past (X .types) i))

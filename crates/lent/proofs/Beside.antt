@@ -1,4 +1,5 @@
--- What a function is passed beside a lent running hash: a row of plain arguments, numbers and lent bytes, of any length and in any order. A walk that goes by what `Beside` says of them serves every such row.
+-- What a function is passed beside a lent running hash: a row of plain arguments, numbers and lent bytes, of any length
+-- and in any order. A walk that goes by what `Beside` says of them serves every such row.
 -- Each argument is Copy: what it owns is had twice, once for the call and once for the exit. Assumes nothing.
 use mathlib.Core.Path.{_≡_, refl, ap}
 use Prim.Native.Nat.{ℕ}

@@ -1,4 +1,5 @@
--- A callee that takes by value the running hash that is lent to its caller, and the rest of what the caller is passed: its contract, in the words of the caller, and how it is called.
+-- A callee that takes by value the running hash that is lent to its caller, and the rest of what the caller is passed:
+-- its contract, in the words of the caller, and how it is called.
 -- Assumes nothing.
 use Prim.Native.Nat.{ℕ, suc}
 use mathlib.Core.List.{List, [], _∷_}
@@ -25,7 +26,7 @@ use denote.Triple.Call.{calls-at}
 use Rattle.hasher.specs.declared.Hasher.{Hasher}
 use Rattle.hasher.proofs.Hasher as T
 
--- what stands behind the running hash in its caller's signature, whose first lifetime is the running hash's own
+-- what stands after the running hash in its caller's signature, whose first lifetime is the running hash's own
 pub record Rest (n : ℕ) : Type 2 where
   pub slots : List (Slot (suc n))
   -- what a contract reads at entry and at exit
@@ -48,7 +49,8 @@ module _ {n : ℕ} (G : Rest n) (R : RattleType) (P : Hasher × G .Before → R 
         (fact 𝓤 (P (y .0 .3 .0, G .before (κ, y .0 .0) (y .0 .3 .1)) r (G .after (κ, y .0 .0) (outs (κ, y .0 .0) (G .slots) (all yes (G .slots)) (y .0 .3 .1) (ws .1)))))))));
   }
 
-  -- a call: the tokens of the rest, the running hash and the rest are given up for the tokens, the answer and what says the last values
+  -- a call: the tokens of the rest, the running hash and the rest are given up for the tokens, the answer and what says
+  -- the last values
   module _ {M : Type 1} {𝓤 : URA M} {H : Heap 𝓤} {A : Atoms 𝓤} {K : Type 0} {W : Given 𝓤 H A} {Γ : List (Item 𝓤)} {E : Env 𝓤 H} {C : Calls 𝓤 H} {Λ : Loops 𝓤 H} {q : Post 𝓤 H} {f : Name} {xs : List Operand} {d : Place} {rest : Body} where
     pub takes : K → FmC 𝓤 H (W .laws) C → (κs : Lfts (suc n)) → Triple 𝓤 (C f) (ByValue 𝓤 H A (κs .0)) → (qs : Shares n) (h : Hasher) (x : Denots (typesAt (G .slots) κs)) (vs : List Val) (vss : Valss (typesAt (G .slots) κs))
         → Opds K W (raw (ByValue 𝓤 H A (κs .0) .pre ((κs .1, qs, tt, (h, x), (vs, vss)), tt)) ∷ Γ) E xs (flat (T.the-row ∷ typesAt (G .slots) κs) (vs, vss))

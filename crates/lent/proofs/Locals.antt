@@ -1,5 +1,6 @@
--- Parameters whose number is not known, for a walk that is written once for functions with more or fewer of them: they stand between locals whose number is known.
--- They are allocated, given their arguments, read as operands and freed all at once, and are one entry of the context. Assumes nothing.
+-- Parameters of which there is no known number, for a walk that is written once for functions with more or fewer of
+-- them: they stand between locals whose number is known. They are allocated, given their arguments, read as operands
+-- and freed all at once, and are one entry of the context. Assumes nothing.
 use mathlib.Core.Path.{_≡_, refl, subst, _∙_}
 use Prim.Native.Nat.{ℕ, zero, suc}
 use mathlib.Core.List.{List, [], _∷_, _++_}
@@ -32,7 +33,7 @@ abbrev pub placed : (τs : List Ty) → Blocks τs → List (Ty × ℕ) → List
 placed [] bs E = E
 placed (τ ∷ τs) bs E = (τ, bs .0) ∷ placed τs (bs .1) E
 
--- the number of a local that has number i among those that stand behind others
+-- the number of a local that has number i among those that stand after others
 abbrev pub past : {A : Type 0} → List A → ℕ → ℕ
 past [] i = i
 past (x ∷ xs) i = suc (past xs i)
@@ -63,7 +64,7 @@ cells [] bs vs = ftrue
 cells (τ ∷ τs) bs [] = ftrue
 cells (τ ∷ τs) bs (v ∷ vs) = fsep (fat fullShare τ (bs .0) zero v) (fsep (fdies τ (bs .0)) (cells τs (bs .1) vs))
 
--- the function: the type of the result, of the parameters in front, of these, and of the locals behind
+-- the function: the type of the result, of the parameters in front, of these, and of the locals after them
 abbrev pub function : Ty → (φs τs ωs : List Ty) → ℕ → List (ℕ × ℕ) → Body → Fn
 function τ₀ φs τs ωs lifetimes outlives body = record {
   lifetimes = lifetimes;
@@ -113,16 +114,17 @@ module _ {M : Type 1} {𝓤 : URA M} {H : Heap 𝓤} {A : Atoms 𝓤} {K : Type 
       (qed W (i ∷ ‵ r ∷ ‵ c ∷ ‵ d ∷ Γ) ∵ move ! (2 ∷ 3 ∷ 1 ∷ []) $ fjoin3 ! $ move ! (1 ∷ []) $ done !)
       (and-then t (load t (from-at t (is zero) (stop t)) (look t 2 refl)) (load-from t (λ j. ix (suc j)) τs (bs .1) vs F (are .1) (λ j. is (suc j))))
 
-  -- the same behind the locals F, and how a local of E is found behind them all
+  -- the same after the locals F, and how a local of E is found after them all
   module _ {Γ : List (Item 𝓤)} where
-    pub from-behind : K → (F : Env 𝓤 H) (τs : List Ty) (bs : Blocks τs) (E : Env 𝓤 H) (i : ℕ) {st : List PStep} {sp : Spot 𝓤 H} → Walks K W Γ (F ++ placed τs bs E) (spotOf 𝓤 H E i) st sp → Finds K W Γ (F ++ placed τs bs E) (place (past F (past τs i)) st) sp
-    from-behind t F τs bs E i = from-at t (past-front F (placed τs bs E) (past τs i) (noLocal 𝓤 H) ∙ at-past τs bs E i (noLocal 𝓤 H))
+    pub from-after : K → (F : Env 𝓤 H) (τs : List Ty) (bs : Blocks τs) (E : Env 𝓤 H) (i : ℕ) {st : List PStep} {sp : Spot 𝓤 H} → Walks K W Γ (F ++ placed τs bs E) (spotOf 𝓤 H E i) st sp → Finds K W Γ (F ++ placed τs bs E) (place (past F (past τs i)) st) sp
+    from-after t F τs bs E i = from-at t (past-front F (placed τs bs E) (past τs i) (noLocal 𝓤 H) ∙ at-past τs bs E i (noLocal 𝓤 H))
 
     pub load-all : K → (F : Env 𝓤 H) (τs : List Ty) (bs : Blocks τs) (E : Env 𝓤 H) {i : Item 𝓤} (vs : List Val) → Typed τs vs → Opds K W (i ∷ ‵ (cells τs bs vs) ∷ Γ) (F ++ placed τs bs E) (copies-from (past F) τs) vs
     load-all t F τs bs E vs are = load-from t (past F) τs bs vs E are (λ j. past-front F (placed τs bs E) j (noLocal 𝓤 H))
 
   module _ {Γ : List (Item 𝓤)} {C : Calls 𝓤 H} {Λ : Loops 𝓤 H} {τ₀ τ₁ τ₂ τ₃ : Ty} where
-    -- a function with one parameter in front and two locals behind is entered: it has its arguments, and room for the result and the two
+    -- a function with one parameter in front and two locals after is entered: it has its arguments, and room for the
+    -- result and the two
     pub enters : K → (τs : List Ty) (n : ℕ) (bounds : List (ℕ × ℕ)) (body : Body) (v : Val) (vs : List Val) → T (hasTy τ₁ v) × WT v → Typed τs vs → (Kf : Val → SProp 𝓤)
         → ((l₀ l₁ : ℕ) (bs : Blocks τs) (l₂ l₃ : ℕ)
         → Seq K W (‵ (cells τs bs vs) ∷ ‵ (froom τ₃ l₃ 0) ∷ ‵ (fdies τ₃ l₃) ∷ ‵ (froom τ₂ l₂ 0) ∷ ‵ (fdies τ₂ l₂) ∷ ‵ (fat fullShare τ₁ l₁ 0 v) ∷ ‵ (fdies τ₁ l₁) ∷ ‵ (froom τ₀ l₀ 0) ∷ ‵ (fdies τ₀ l₀) ∷ Γ)

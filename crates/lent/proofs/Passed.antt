@@ -1,4 +1,5 @@
--- Functions that are walked by hand: what one is passed and promises, how another calls it, and how a walk of its own ends and meets every contract that the promise shows.
+-- Functions that are walked by hand: what one is passed and promises, how a different one calls it, and how a walk of
+-- its own ends and meets every contract that the promise shows.
 -- Assumes nothing.
 use Prim.Native.Nat.{ℕ}
 use mathlib.Core.List.{List, [], _∷_}
@@ -88,7 +89,7 @@ module _ (F : Passed) (R : RattleType) (P : F .Before → R .Denot → F .After 
         (id⊢ 𝓤 _) $ await t tt $ pick t (λ r. split t $ move t (1 ∷ []) $ pick t (λ ws. split t $ move t (1 ∷ []) $ heard t (P (F .before κs a) r (F .after κs (outs κs (F .slots) (kept F) a ws))) (λ e.
         move t (1 ∷ []) $ split t $ move t (1 ∷ []) $ peeks t R (Is R) (shows 𝓤 H A R) r (w ∷ []) (λ is. k w r ws e is)))))
 
-  -- a walk of its own, where hs says what is still had of the parameters at exit
+  -- a walk of its own, if hs says what is still had of the parameters at exit
   module _ (hs : Stays (F .slots) (kept F)) {M : Type 1} (𝓤 : URA M) (H : Heap 𝓤) (A : Atoms 𝓤) (W : Given 𝓤 H A) where
     module _ (κs : Lfts (F .lifetimes)) (qs : Shares (F .lifetimes)) (bounds : AllOutlive (F .lifetimes) (F .outlives) κs) (a : Denots (typesAt (F .slots) κs)) where
       abbrev Ends : Val → SProp 𝓤

@@ -1,5 +1,7 @@
--- A read through a lent running hash into a lent output: the walk by hand of the MIR that `digest` and `end_state` have but for the function that they call. A function of this form that is passed more has it behind the output.
--- The borrow is looked into and the struct copied; the output is lent on for good. All that is known of the callee is its contract. Assumes nothing.
+-- A read through a lent running hash into a lent output: the walk by hand of the MIR of `digest` and `end_state`, which
+-- differ only in the function that they call. A function of this form that is passed more has it after the output.
+-- The borrow is opened to be read and the struct copied; the output is lent on for good. All that is known of the
+-- callee is its contract. Assumes nothing.
 use mathlib.Core.Path.{_≡_, refl}
 use Prim.Native.Nat.{ℕ, suc}
 use mathlib.Core.List.{[], _∷_, List}
@@ -42,11 +44,11 @@ use Rattle.hasher.proofs.Hasher as T
 use Rattle.hasher.proofs.Hasher.Laws as T′
 use Rattle.lent.proofs.Advances.{mach}
 use Rattle.lent.proofs.Passed.{Passed, kept, values, ends, Walk, Coded, Meets, proved}
-use Rattle.lent.proofs.Locals.{past, copies, function, from-behind, load-all, alloc-all, pass-all, free-all}
+use Rattle.lent.proofs.Locals.{past, copies, function, from-after, load-all, alloc-all, pass-all, free-all}
 use Rattle.lent.proofs.Beside.{Beside, vals, row, Own}
 use Rattle.lent.proofs.ByValue.{Rest, ByValue, takes}
 
--- a running hash that is lent to be read, an output, and X behind them
+-- a running hash that is lent to be read, an output, and X after them
 abbrev pub reading : {n : ℕ} → Beside (suc (suc n)) → Passed
 reading {n} X = record {
   lifetimes = suc (suc n);
@@ -75,28 +77,28 @@ reference = tyRef (named 0) imm (pointee (T.the-row .written))
 abbrev pub output : Lifetime → Ty
 output ℓ = tyRef ℓ mut (tyInt w8)
 
--- the locals in front of X, where the answer has the type τ, and the number of a local behind it
+-- the locals in front of X, if the answer has the type τ, and the number of a local after X
 abbrev pub front : Ty → List Ty
 front τ = τ ∷ reference ∷ sliceTy (output (named 1)) ∷ []
 
-abbrev pub behind : {n : ℕ} → Beside (suc (suc n)) → ℕ → ℕ
-behind X i = suc (suc (suc (past (X .types) i)))
+abbrev pub local-after : {n : ℕ} → Beside (suc (suc n)) → ℕ → ℕ
+local-after X i = suc (suc (suc (past (X .types) i)))
 
 -- the MIR, with the name of the function that it calls
 abbrev code : {n : ℕ} → Beside (suc (suc n)) → Name → Fn
 code {n} X name =
     function S′.mir (reference ∷ sliceTy (output (named 1)) ∷ []) (X .types) (T′.mir ∷ output erased ∷ sliceTy (output erased) ∷ []) (suc (suc n)) []
-    (seq (assign (place (behind X 0) []) (rvOpd (copy (place 1 (deref T′.mir ∷ [])))))
-    (seq (assign (place (behind X 1) []) (addrOf (place 2 (field 0 ∷ deref (tyInt w8) ∷ []))))
-    (seq (assign (place (behind X 2) []) (aggregate (copy (place (behind X 1) []) ∷ copy (place 2 (field 1 ∷ [])) ∷ [])))
-    (seq (call name (copy (place (behind X 0) []) ∷ copy (place (behind X 2) []) ∷ copies (front S′.mir) (X .types)) (place 0 []))
+    (seq (assign (place (local-after X 0) []) (rvOpd (copy (place 1 (deref T′.mir ∷ [])))))
+    (seq (assign (place (local-after X 1) []) (addrOf (place 2 (field 0 ∷ deref (tyInt w8) ∷ []))))
+    (seq (assign (place (local-after X 2) []) (aggregate (copy (place (local-after X 1) []) ∷ copy (place 2 (field 1 ∷ [])) ∷ [])))
+    (seq (call name (copy (place (local-after X 0) []) ∷ copy (place (local-after X 2) []) ∷ copies (front S′.mir) (X .types)) (place 0 []))
     return))))
 
--- what the callee is passed behind the running hash
+-- what the callee is passed after the running hash
 abbrev rest : {n : ℕ} → Beside (suc (suc n)) → Rest (suc n)
 rest X = record { slots = mutSliceOf (1 ∷ []) tt (plain (λ _. u8)) ∷ X .slots; Before = List ℕ × X .Value; before = λ κs a. (now (a .0), X .value κs (a .1)); After = List ℕ; after = λ κs e. now (e .0) }
 
--- where Q is promised of the callee's answer and of the last output
+-- if Q is promised of the callee's answer and of the last output
 module _ {n : ℕ} (X : Beside (suc (suc n))) (Q : Hasher × (List ℕ × X .Value) → Status → List ℕ → Type 0) where
   -- its contract, for a caller to whom the running hash is lent for κ
   abbrev pub Taken : {M : Type 1} (𝓤 : URA M) (H : Heap 𝓤) (A : Atoms 𝓤) (κ : Lft) → Contract 𝓤
@@ -116,22 +118,27 @@ module _ {n : ℕ} (X : Beside (suc (suc n))) (Q : Hasher × (List ℕ × X .Val
         let F : List (Ty × ℕ) = (S′.mir, l₀) ∷ (reference, l₁) ∷ (sliceTy (output (named 1)), l₂) ∷ [] in
         let E : List (Ty × ℕ) = (T′.mir, l₃) ∷ (output erased, l₄) ∷ (sliceTy (output erased), l₅) ∷ [] in
         params1 ! $ pass1 ! (init ! 9 refl (tt, tt)) $ pass1 ! (init ! 7 refl (mut-slice-lawful 𝓤 H A W (named 1) (κs .1 .0) u8 .typed o (v ∷ []) (are .1 .0) .0)) $ move ! (6 ∷ []) $ pass-all ! (X .types) ls (row X κs x) (X .typed κs x (are .1 .1)) E $
-        -- what is behind is Copy: one copy of what it owns is kept for the exit
+        -- what is behind the reference is Copy: one copy of what it owns is kept for the exit
         move ! (14 ∷ []) $ fsplit ! $ move ! (1 ∷ []) $ fsplit ! $ move ! (1 ∷ []) $ use1 W (‵ (Own X κs x) ⊛ ‵ (Own X κs x)) (X .twice 𝓤 H A W κs x (vals X κs x)) $ split ! $ move ! (2 ∷ 0 ∷ []) $ fjoin ! $
         move ! (2 ∷ []) $ fsplit3 ! $ drop ! $ move ! (17 ∷ []) $ use1 W (‵ (flft (κs .0) (qs .0)) ⊛ raw Tokens) (id⊢ 𝓤 _) $ split ! $ move ! (3 ∷ 0 ∷ []) $
         looks ! tt T.the-row (Is T.the-row) (shows 𝓤 H A T.the-row) (LL.vals T.the-type T′.the-laws) (LL.tells T.the-type T′.the-laws) (LL.copy T.the-type T′.the-copy 𝓤 H A W) h (y .ptr .0) (y .ptr .1) (λ q vs.
         spelt ! T.the-row (Is T.the-row) (shows 𝓤 H A T.the-row) (LL.vals T.the-type T′.the-laws) (LL.tells T.the-type T′.the-laws) q h vs (y .ptr .0) (y .ptr .1) $ move ! (1 ∷ []) $ peeks ! T.the-row (Is T.the-row) (shows 𝓤 H A T.the-row) h (mach h ∷ []) (λ was. move ! (1 ∷ 0 ∷ []) $
-        -- [a share of the cell; what it owns; what shuts it; the fractured borrow; the tokens; res; what is passed on; what is kept; the cells of X; room for the lent output; …; for its reference; …; for the copy; …; _2; …; _1; …; for _0; …]
-        assigns ! (of-opd ! (load ! (from ! (hop ! (look ! 17 refl) (stop !))) (look-raw ! 0 refl))) (from-behind ! F (X .types) ls E 0 (stop !)) (init ! 13 refl (LL.lawful T.the-type T′.the-laws 𝓤 H A W .typed h _ was .0)) $
+        -- [a share of the cell; what it owns; what shuts it; the fractured borrow; the tokens; res; what is passed on;
+        -- what is kept; the cells of X; room for the lent output; …; for its reference; …; for the copy; …; _2; …; _1;
+        -- …; for _0; …]
+        assigns ! (of-opd ! (load ! (from ! (hop ! (look ! 17 refl) (stop !))) (look-raw ! 0 refl))) (from-after ! F (X .types) ls E 0 (stop !)) (init ! 13 refl (LL.lawful T.the-type T′.the-laws 𝓤 H A W .typed h _ was .0)) $
         shuts ! tt T.the-row q h (mach h ∷ []) (y .ptr .0) (y .ptr .1) $
-        -- [the token; the fractured borrow; the tokens; res; what is passed on; what is kept; the cells of X; room for the lent output; …; for its reference; …; the copy; …; _2; …; _1; …; room for _0; …]
-        assigns ! (addr ! (from ! (fld ! refl (hop ! (look-in ! 13 (sub ! 0 refl (whole !))) (stop !))))) (from-behind ! F (X .types) ls E 1 (stop !)) (init ! 9 refl (tt, tt)) $
-        assigns ! (agg ! (and-then ! (load ! (from-behind ! F (X .types) ls E 1 (stop !)) (look ! 9 refl)) (and-then ! (load ! (from ! (fld ! refl (stop !))) (look-in ! 13 (sub ! 1 refl (whole !)))) (no-more !)))) (from-behind ! F (X .types) ls E 2 (stop !)) (init ! 7 refl (tt, (tt, (record { fits = are .1 .0 .0 .1 .0 }, tt)))) $
+        -- [the token; the fractured borrow; the tokens; res; what is passed on; what is kept; the cells of X; room for
+        -- the lent output; …; for its reference; …; the copy; …; _2; …; _1; …; room for _0; …]
+        assigns ! (addr ! (from ! (fld ! refl (hop ! (look-in ! 13 (sub ! 0 refl (whole !))) (stop !))))) (from-after ! F (X .types) ls E 1 (stop !)) (init ! 9 refl (tt, tt)) $
+        assigns ! (agg ! (and-then ! (load ! (from-after ! F (X .types) ls E 1 (stop !)) (look ! 9 refl)) (and-then ! (load ! (from ! (fld ! refl (stop !))) (look-in ! 13 (sub ! 1 refl (whole !)))) (no-more !)))) (from-after ! F (X .types) ls E 2 (stop !)) (init ! 7 refl (tt, (tt, (record { fits = are .1 .0 .0 .1 .0 }, tt)))) $
         owned ! T.the-row (Is T.the-row) (LL.makes T.the-type T′.the-plain 𝓤 H A) h _ was $ move ! (0 ∷ 5 ∷ []) $ fjoin ! $ move ! (3 ∷ 0 ∷ 6 ∷ []) $
-        -- [the tokens; what is passed; the cells of X; the token; the fractured borrow; res; what is kept; the lent output; …; its reference; …; the copy; …; _2; …; _1; …; room for _0; …]
+        -- [the tokens; what is passed; the cells of X; the token; the fractured borrow; res; what is kept; the lent
+        -- output; …; its reference; …; the copy; …; _2; …; _1; …; room for _0; …]
         takes (rest X) S.the-row Q ! (fmOf 𝓤 H (W .laws) 𝓣) κs (known (κs .0)) (qs .1) h (o, x) (mach h ∷ []) (v ∷ [], vals X κs x)
-        (and-then ! (load ! (from-behind ! F (X .types) ls E 0 (stop !)) (look ! 10 refl)) (and-then ! (load ! (from-behind ! F (X .types) ls E 2 (stop !)) (look ! 6 refl)) (load-all ! F (X .types) ls E (row X κs x) (X .typed κs x (are .1 .1))))) (λ w r zs e is.
-        -- [the answer; the tokens; the last values; the cells of X; the token; the fractured borrow; res; what is kept; the lent output; …; its reference; …; the copy; …; _2; …; _1; …; room for _0; …]
+        (and-then ! (load ! (from-after ! F (X .types) ls E 0 (stop !)) (look ! 10 refl)) (and-then ! (load ! (from-after ! F (X .types) ls E 2 (stop !)) (look ! 6 refl)) (load-all ! F (X .types) ls E (row X κs x) (X .typed κs x (are .1 .1))))) (λ w r zs e is.
+        -- [the answer; the tokens; the last values; the cells of X; the token; the fractured borrow; res; what is kept;
+        -- the lent output; …; its reference; …; the copy; …; _2; …; _1; …; room for _0; …]
         land ! (from ! (stop !)) (init ! 18 refl (EL.lawful S.the-type S′.the-laws 𝓤 H A W tt .typed r _ is .0)) $
         returns ! (look ! 18 refl) $ move ! (18 ∷ 19 ∷ 16 ∷ 17 ∷ 14 ∷ 15 ∷ 3 ∷ 12 ∷ 13 ∷ 10 ∷ 11 ∷ 8 ∷ 9 ∷ []) $ forget ! 0 refl $ free1 ! $ forget ! 0 refl $ free1 ! $ forget ! 0 refl $ free1 ! $
         free-all ! (X .types) ls (row X κs x) (X .typed κs x (are .1 .1)) E $ forget ! 0 refl $ free1 ! $ forget ! 0 refl $ free1 ! $ forget ! 0 refl $ free1 ! $ free0 ! $

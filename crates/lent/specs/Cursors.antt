@@ -1,4 +1,4 @@
--- A cursor over a segment list (document 01: a walker over the sheet): where a step leaves it.
+-- A cursor over a segment list (document 01: a walker over the sheet), and what a step makes of it.
 -- Assumes nothing.
 use denote.Ref.{now}
 use Rattle.segments.specs.Steps.{foundAt}

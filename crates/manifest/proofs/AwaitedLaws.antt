@@ -19,12 +19,12 @@ use Rattle.manifest.specs.Progress.{awaitedAll}
 abbrev pub Awaited : ℕ → List ℕ → Type 0
 Awaited k out = Upto 0 (λ j y. y ≡ 1) 512 k (replicate 512 0) out
 
-pub all-awaited : (list : List ℕ) (n : ℕ) → n ≡ recordCount list → (out : List ℕ) → Awaited n out → out ≡ awaitedAll list
+pub all-awaited : (manifest : List ℕ) (n : ℕ) → n ≡ recordCount manifest → (out : List ℕ) → Awaited n out → out ≡ awaitedAll manifest
 unfolding awaitedAll
-all-awaited list n e out u =
+all-awaited manifest n e out u =
     sym (tab-self 512 out 0 (u .len))
-    ∙ tab-cong 512 (λ k. getD out k 0) (λ k. digit (ltb k (recordCount list)))
+    ∙ tab-cong 512 (λ k. getD out k 0) (λ k. digit (ltb k (recordCount manifest)))
     (λ k h. ⊎-elim
-    (λ l. u .done k (omega arith) ∙ ap digit (sym (lt-ltb k (recordCount list) l)))
-    (λ l. u .rest k (omega arith) ∙ getD-replicate 512 k 0 0 h ∙ ap digit (sym (le-ltb k (recordCount list) l)))
-    (lt-or-le k (recordCount list)))
+    (λ l. u .done k (omega arith) ∙ ap digit (sym (lt-ltb k (recordCount manifest) l)))
+    (λ l. u .rest k (omega arith) ∙ getD-replicate 512 k 0 0 h ∙ ap digit (sym (le-ltb k (recordCount manifest) l)))
+    (lt-or-le k (recordCount manifest)))

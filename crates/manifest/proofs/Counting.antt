@@ -1,4 +1,5 @@
--- Counting the things of a list that have a property: one more, two lists, several properties, and the numbers below n without one of them.
+-- Counting the things of a list that have a property: one more, two lists, several properties, and the numbers below n
+-- without one of them.
 -- Assumes nothing.
 use mathlib.Core.Path.{_≡_, refl, sym, ap, ap₂, _∙_}
 use mathlib.Core.Bool.{Bool, true, false, cond, not, _&&_}
@@ -40,7 +41,7 @@ pub digit-one : (b : Bool) → digit b ≤ 1
 digit-one true = omega arith
 digit-one false = omega arith
 
--- one more where a condition holds
+-- one more if a condition holds
 pub add-digit : (b : Bool) (n : ℕ) → cond b (suc n) n ≡ digit b + n
 add-digit true n = omega arith
 add-digit false n = omega arith
@@ -82,14 +83,14 @@ module _ {A : Type 0} where
   count-most p [] = omega arith
   count-most p (x ∷ xs) = omega (arith, count-cons p x xs, digit-one (p x), count-most p xs)
 
-  -- all, where all have the property
+  -- all, if all have the property
   pub count-all : (xs : List A) → howMany (λ x. true) xs ≡ length xs
   count-all [] = refl
   count-all (x ∷ xs) = ap suc (count-all xs)
 
 -- ---- the numbers below n
 
--- how many of them have a property
+-- the number of them that have a property
 abbrev pub countBelow : (ℕ → Bool) → ℕ → ℕ
 countBelow p n = howMany p (tab n (λ k. k))
 
@@ -101,7 +102,7 @@ count-below n = count-all (tab n (λ k. k)) ∙ length-tab n (λ k. k)
 pub count-suc : (p : ℕ → Bool) (n : ℕ) → countBelow p (suc n) ≡ countBelow p n + digit (p n)
 count-suc p n = ap (howMany p) (tab-snoc n (λ k. k)) ∙ count-snoc p (tab n (λ k. k)) n
 
--- below a higher number as many or more, and more where a number between has the property
+-- below a higher number as many or more, and more if a number between has the property
 pub count-mono : (p : ℕ → Bool) (m n : ℕ) → m ≤ n → countBelow p m ≤ countBelow p n
 count-mono p m zero h = let e : m ≡ 0 = omega arith in rw e (omega arith)
 count-mono p m (suc n) h =

@@ -1,4 +1,5 @@
--- An installation of two axes and its list, which passes; the records the other way round, and one number twice, which are refused with 14.
+-- An installation of two axes and its list, which passes; the records the other way round, and one number twice, which
+-- are refused with 14.
 -- Assumes nothing.
 use mathlib.Core.Path.{_≡_, refl, sym, ap, subst, fun-ext, _∙_}
 use mathlib.Core.Bool.{true, false, cond}
@@ -12,7 +13,7 @@ use lib.ListN.{getD, replicate, List·getD-eq-default}
 use borrow.Author.Tests.{eqb-true, eqb-false}
 use Rattle.answers.specs.declared.Refusal.the-variants.{BadRecord, NotRising}
 use Rattle.answers.specs.declared.Status.the-variants.{Done, Refused}
-use Rattle.answers.specs.Numbers.{Bytes, bigEndian, inBytes}
+use Rattle.bytes.specs.Numbers.{Bytes, bigEndian, inBytes}
 use Rattle.standard.specs.Variants.{variant}
 use Rattle.standard.proofs.Tests.{either, lt-or-le, bound-below}
 use Rattle.manifest.specs.Records.{isManifest, recordCount, axisAt, digestAt, fillerAt, risesAt, recordChecks, manifestStatus}
@@ -91,8 +92,8 @@ pub filler-first : manifestStatus (recordOf 7 seven ++ recordOf 7 (record { vari
 unfolding manifestStatus isManifest recordChecks risesAt fillerAt recordOf inBytes bigEndian variant
 filler-first = refl
 
--- but one that does not rise comes before a wrong record after it; that record alone, of a variant that is not known, is
--- refused with 13
+-- but one that does not rise comes before a wrong record after it; that record alone, of a variant that is not known,
+-- is refused with 13
 pub earlier-first : manifestStatus (recordOf 7 seven ++ recordOf 7 seven ++ recordOf 8 unknown) ≡ Refused NotRising
 unfolding manifestStatus isManifest recordChecks risesAt fillerAt recordOf inBytes bigEndian variant
 earlier-first = refl

@@ -7,7 +7,6 @@ pub mod AxisLaws
 pub mod ListWritten
 pub mod OneList
 pub mod KnownLists
-pub mod CompareLaws
 pub mod AwaitedLaws
 pub mod StrideLaws
 pub mod Sums

@@ -1,4 +1,5 @@
--- The list of an installation: each axis that is there stands after as many records as there are lower axes, the list passes, and it holds the installation.
+-- The list of an installation: each axis that is there stands after as many records as there are lower axes, the list
+-- passes, and it holds the installation.
 -- Assumes nothing.
 use mathlib.Core.Path.{_≡_, refl, sym, ap, subst, _∙_}
 use mathlib.Core.List.{List}
@@ -10,8 +11,8 @@ use native.Mathlib.Omega.{arith}
 use lib.ListN.{length, length-append}
 use borrow.Author.Tests.{eq-eqb, le-leb}
 use Rattle.answers.specs.declared.Status.the-variants.{Done}
-use Rattle.answers.specs.Numbers.{Bytes}
-use Rattle.answers.proofs.ByteLaws.{append-bytes}
+use Rattle.bytes.specs.Numbers.{Bytes}
+use Rattle.bytes.proofs.ByteLaws.{append-bytes}
 use Rattle.answers.proofs.Rows.{passed-all, each-done}
 use Rattle.standard.specs.Bits.{digit}
 use Rattle.standard.specs.Variants.{known}
@@ -25,11 +26,11 @@ use Rattle.manifest.proofs.OrderLaws.{Rising, rises-each, record-none, 
 use Rattle.manifest.proofs.AxisLaws.{held-there, held-none}
 use Rattle.manifest.proofs.RecordBytes.{rowAt, Says, row-before, row-last, row-says, record-length, record-bytes}
 
--- how many axes below n are there
+-- the number of axes below n that are there
 abbrev pub countOf : Axes → ℕ → ℕ
 countOf axes n = countBelow (λ axis. isThere (axes axis)) n
 
--- what is expected of an axis, where something is
+-- what is expected of an axis, if something is
 pub record There (o : Option Expected) : Type 0 where
   pub expected : Expected
   pub is : o ≡ some expected
@@ -92,8 +93,8 @@ module _ (axes : Axes) (sound : (axis : ℕ) (e : Expected) → axes axis ≡ so
   -- ---- the records of the axes below n
 
   module _ (n : ℕ) (small : n ≤ 65536) where
-    abbrev list : List ℕ
-    list = listBelow n axes
+    abbrev manifest : List ℕ
+    manifest = listBelow n axes
 
     count-is : recordCount (listBelow n axes) ≡ countOf axes n
     count-is = omega (arith, below-length n)
@@ -102,7 +103,7 @@ module _ (axes : Axes) (sound : (axis : ℕ) (e : Expected) → axes axis ≡ so
     says : (axis : ℕ) (e : Expected) → axis < n → axes axis ≡ some e → Says (listBelow n axes) (countOf axes axis) axis e
     says axis e h is =
         let more : countOf axes axis < countOf axes n = count-more (λ a. isThere (axes a)) axis n h (ap isThere is) in
-        row-says axis e (sound axis e is) (omega arith) list (countOf axes axis) (omega (arith, more, count-is)) (row-of n axis e h is)
+        row-says axis e (sound axis e is) (omega arith) manifest (countOf axes axis) (omega (arith, more, count-is)) (row-of n axis e h is)
 
     -- and what record k says
     line : (k : ℕ) → k < recordCount (listBelow n axes) → RecordOf n k
@@ -111,12 +112,12 @@ module _ (axes : Axes) (sound : (axis : ℕ) (e : Expected) → axes axis ≡ so
     line-says : (k : ℕ) (h : k < recordCount (listBelow n axes)) → Says (listBelow n axes) k (line k h .axis) (line k h .there .expected)
     line-says k h =
         let w = line k h in
-        subst (λ (j : ℕ). Says list j (w .axis) (w .there .expected)) (w .place) (says (w .axis) (w .there .expected) (w .below) (w .there .is))
+        subst (λ (j : ℕ). Says manifest j (w .axis) (w .there .expected)) (w .place) (says (w .axis) (w .there .expected) (w .below) (w .there .is))
 
     -- the numbers rise
     list-rises : Rising (listBelow n axes)
     list-rises j k l h =
-        let i : j < recordCount list = omega arith in
+        let i : j < recordCount manifest = omega arith in
         let x = line j i in
         let y = line k h in
         ⊎-elim
@@ -128,12 +129,12 @@ module _ (axes : Axes) (sound : (axis : ℕ) (e : Expected) → axes axis ≡ so
     pub list-passes : countOf axes n ≤ 512 → manifestStatus (listBelow n axes) ≡ Done
     unfolding manifestStatus recordChecks isManifest
     list-passes few =
-        rw (eq-eqb (length list % 35) 0 (omega (arith, below-length n)), le-leb (length list) 17920 (omega (arith, below-length n)))
-        (each-done (recordCount list) (recordChecks list)
+        rw (eq-eqb (length manifest % 35) 0 (omega (arith, below-length n)), le-leb (length manifest) 17920 (omega (arith, below-length n)))
+        (each-done (recordCount manifest) (recordChecks manifest)
         (λ k h. let w = line k h in
         let s = sound (w .axis) (w .there .expected) (w .there .is) in
-        passed-all (recordChecks list k)
-        (ap (λ (e : Expected). known (e .variant)) (line-says k h .expected-is) ∙ s .named, (line-says k h .filled, (rises-each list list-rises k h, tt)))))
+        passed-all (recordChecks manifest k)
+        (ap (λ (e : Expected). known (e .variant)) (line-says k h .expected-is) ∙ s .named, (line-says k h .filled, (rises-each manifest list-rises k h, tt)))))
 
     -- and holds what the axes below n should hold
     pub list-holds : (axis : ℕ) → axis < n → held (listBelow n axes) axis ≡ axes axis
@@ -141,25 +142,25 @@ module _ (axes : Axes) (sound : (axis : ℕ) (e : Expected) → axes axis ≡ so
       where
         by : (o : Option Expected) → axes axis ≡ o → held (listBelow n axes) axis ≡ o
         by none q =
-            held-none list axis
-            (none-listed list axis (recordCount list)
-            (sym (record-none list axis
+            held-none manifest axis
+            (none-listed manifest axis (recordCount manifest)
+            (sym (record-none manifest axis
             (λ k l e. let w = line k l in
             Option·none-ne-some (w .there .expected) (sym q ∙ ap axes (sym e ∙ line-says k l .axis-is) ∙ w .there .is))))
             (omega arith))
         by (some e) q =
             let s = says axis e h q in
-            let here : countOf axes axis < recordCount list = omega (arith, count-is, count-more (λ a. isThere (axes a)) axis n h (ap isThere q)) in
-            let only : countOf axes axis ≡ recordFor list axis = record-only list axis list-rises (countOf axes axis) here (s .axis-is) in
-            held-there list axis (found-listed list axis (countOf axes axis) only here)
-            ∙ ap (λ (k : ℕ). some (expectedAt list k)) (sym only)
+            let here : countOf axes axis < recordCount manifest = omega (arith, count-is, count-more (λ a. isThere (axes a)) axis n h (ap isThere q)) in
+            let only : countOf axes axis ≡ recordFor manifest axis = record-only manifest axis list-rises (countOf axes axis) here (s .axis-is) in
+            held-there manifest axis (found-listed manifest axis (countOf axes axis) only here)
+            ∙ ap (λ (k : ℕ). some (expectedAt manifest k)) (sym only)
             ∙ ap some (s .expected-is)
 
     -- and nothing of any other
     pub list-none : (axis : ℕ) → n ≤ axis → held (listBelow n axes) axis ≡ none
     list-none axis h =
-        held-none list axis
-        (none-listed list axis (recordCount list)
-        (sym (record-none list axis
+        held-none manifest axis
+        (none-listed manifest axis (recordCount manifest)
+        (sym (record-none manifest axis
         (λ k l e. omega (arith, e, line-says k l .axis-is, line k l .below))))
         (omega arith))

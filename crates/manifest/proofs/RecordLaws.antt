@@ -1,4 +1,4 @@
--- Manifests: how many records they have, zeros from a byte on, and what holds of every number below n or of the least one.
+-- Manifests: how many records they have, and what holds of every number below n or of the least one.
 -- Assumes nothing.
 use mathlib.Core.Path.{_≡_, refl, ap, _∙_}
 use mathlib.Core.Bool.{Bool, true, false, _&&_}
@@ -7,46 +7,33 @@ use mathlib.Core.Logic.{⊎-elim}
 use mathlib.Core.Option.{none, some, Option·map}
 use Prim.Native.Nat.{ℕ, zero, suc, _+_, _*_, _%_, _≤_, _<_}
 use native.Mathlib.Nat.{le-of-suc-le-suc, not-suc-le-zero}
-use native.Mathlib.Numerals.{add-one}
 use native.Mathlib.Omega.{arith}
 use lib.Dec.{eqb, leb}
-use lib.ListN.{length, drop, getD, length-drop, drop-of-length-le}
-use lib.Seq.{drop-cons, length-take-le}
-use borrow.Author.Tests.{leb-true, eq-eqb, ne-eqb, lt-ltb, le-ltb}
+use lib.ListN.{length, drop, length-drop}
+use lib.Seq.{length-take-le}
+use borrow.Author.Tests.{leb-true, lt-ltb, le-ltb}
 use Rattle.answers.specs.declared.Status.the-variants.{Done}
 use Rattle.answers.proofs.Rows.{passing-says}
 use Rattle.standard.proofs.Tests.{and-true, either}
 use Rattle.manifest.specs.Lists.{firstBelow}
-use Rattle.manifest.specs.Records.{isManifest, recordCount, filledAt, zeros, manifestChecks, manifestStatus}
+use Rattle.manifest.specs.Records.{isManifest, recordCount, digestFieldAt, manifestChecks, manifestStatus}
 use Rattle.manifest.specs.Lookups.{everyBelow, leastBelow, recordFor, isListed}
 use Rattle.manifest.proofs.Counting.{and-no}
 
 -- a manifest has no more than 512 records
-pub manifest-few : (list : List ℕ) → isManifest list ≡ true → recordCount list ≤ 512
+pub manifest-few : (manifest : List ℕ) → isManifest manifest ≡ true → recordCount manifest ≤ 512
 unfolding isManifest
-manifest-few list e =
-    let l : length list ≤ 17920 = leb-true (length list) 17920 (and-true (eqb (length list % 35) 0) (leb (length list) 17920) e .1) in omega arith
+manifest-few manifest e =
+    let l : length manifest ≤ 17920 = leb-true (length manifest) 17920 (and-true (eqb (length manifest % 35) 0) (leb (length manifest) 17920) e .1) in omega arith
 
 -- what passes is one
-pub passing-manifest : (list : List ℕ) → manifestStatus list ≡ Done → isManifest list ≡ true
+pub passing-manifest : (manifest : List ℕ) → manifestStatus manifest ≡ Done → isManifest manifest ≡ true
 unfolding manifestStatus
-passing-manifest list e = passing-says (manifestChecks list) e .0
+passing-manifest manifest e = passing-says (manifestChecks manifest) e .0
 
 -- the digest and its filler have 32 bytes
-pub filled-length : (list : List ℕ) (k : ℕ) → k < recordCount list → length (filledAt list k) ≡ 32
-filled-length list k h = length-take-le 32 (drop (35 * k + 3) list) (omega (arith, length-drop (35 * k + 3) list))
-
--- ---- zeros from a byte on
-
-module _ (bytes : List ℕ) (i : ℕ) where
-  pub zeros-stopped : i < length bytes → (getD bytes i 0 ≡ 0 → ⊥) → zeros (drop i bytes) ≡ false
-  zeros-stopped h n = rw (drop-cons bytes i 0 h, ne-eqb (getD bytes i 0) 0 n)
-
-  pub zeros-passed : i < length bytes → getD bytes i 0 ≡ 0 → zeros (drop i bytes) ≡ zeros (drop (i + 1) bytes)
-  zeros-passed h e = rw (add-one, drop-cons bytes i 0 h, eq-eqb (getD bytes i 0) 0 e)
-
-  pub zeros-past : length bytes ≤ i → zeros (drop i bytes) ≡ true
-  zeros-past h = ap zeros (drop-of-length-le bytes h)
+pub filled-length : (manifest : List ℕ) (k : ℕ) → k < recordCount manifest → length (digestFieldAt manifest k) ≡ 32
+filled-length manifest k h = length-take-le 32 (drop (35 * k + 3) manifest) (omega (arith, length-drop (35 * k + 3) manifest))
 
 -- ---- every number below n, and the least one
 
@@ -92,7 +79,7 @@ least-first (suc n) p (suc k) h e =
     (λ (t : p 0 ≡ false). rw t (omega (arith, least-first n (λ j. p (suc j)) k (le-of-suc-le-suc h) e)))
     (either (p 0))
 
--- the first number that has a property is the least one, where one has it
+-- the first number that has a property is the least one, if one has it
 pub first-found : (n : ℕ) (p : ℕ → Bool) → leastBelow n p < n → firstBelow n p ≡ some (leastBelow n p)
 first-found zero p h = absurd (not-suc-le-zero h)
 first-found (suc n) p h =
@@ -110,11 +97,11 @@ first-none (suc n) p h =
     (either (p 0))
 
 -- whether there is one, as the code asks it
-module _ (list : List ℕ) (axis : ℕ) where
-  pub found-listed : (k : ℕ) → k ≡ recordFor list axis → k < recordCount list → isListed list axis ≡ true
+module _ (manifest : List ℕ) (axis : ℕ) where
+  pub found-listed : (k : ℕ) → k ≡ recordFor manifest axis → k < recordCount manifest → isListed manifest axis ≡ true
   unfolding isListed
-  found-listed k e h = rw (← e, lt-ltb k (recordCount list) h)
+  found-listed k e h = rw (← e, lt-ltb k (recordCount manifest) h)
 
-  pub none-listed : (k : ℕ) → k ≡ recordFor list axis → recordCount list ≤ k → isListed list axis ≡ false
+  pub none-listed : (k : ℕ) → k ≡ recordFor manifest axis → recordCount manifest ≤ k → isListed manifest axis ≡ false
   unfolding isListed
-  none-listed k e h = rw (← e, le-ltb k (recordCount list) h)
+  none-listed k e h = rw (← e, le-ltb k (recordCount manifest) h)

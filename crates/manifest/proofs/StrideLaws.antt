@@ -15,7 +15,7 @@ use Rattle.hasher.specs.Pieces.{withByte}
 use Rattle.manifest.specs.declared.tally.Tally.{Tally}
 use Rattle.manifest.specs.declared.current.Current.{Current}
 use Rattle.manifest.specs.declared.report.Report.{Report}
-use Rattle.manifest.specs.Tables.{mostTables}
+use Rattle.manifest.specs.Tables.{maxTables}
 use Rattle.manifest.specs.Progress.{headerByte, contentByte, tableByte, isComplete, tallied, settled, byteTaken}
 use Rattle.manifest.specs.Strides.{Stride}
 
@@ -34,16 +34,16 @@ part-length piece i n h = length-take-le (i + n - i) (drop i piece) (omega (arit
 abbrev pub reportWith : Bool → Tally → Current → Report
 reportWith p y c = record { passed = p; tally = y; current = c }
 
-module _ (list : List ℕ) where
+module _ (manifest : List ℕ) where
   -- a byte of the header
-  pub advance-header : (c : Current) (part : List ℕ) → Stride c (length part) → c .got < 6 → foldl (tableByte list) c part ≡ headerByte list c (getD part 0 0)
+  pub advance-header : (c : Current) (part : List ℕ) → Stride c (length part) → c .got < 6 → foldl (tableByte manifest) c part ≡ headerByte manifest c (getD part 0 0)
   unfolding tableByte
   advance-header c [] s l = absurd (omega (arith, s .header l))
   advance-header c (b ∷ []) s l = rw (lt-ltb (c .got) 6 l)
   advance-header c (b ∷ d ∷ part) s l = absurd (omega (arith, s .header l))
 
   -- bytes of the contents, hashed one by one
-  pub advance-bytes : (part : List ℕ) (c : Current) → 6 ≤ c .got → foldl (tableByte list) c part ≡ further c (c .left - length part) (foldl withByte (c .hasher) part)
+  pub advance-bytes : (part : List ℕ) (c : Current) → 6 ≤ c .got → foldl (tableByte manifest) c part ≡ further c (c .left - length part) (foldl withByte (c .hasher) part)
   unfolding tableByte contentByte
   advance-bytes [] c h = let e : c .left ≡ c .left - 0 = omega arith in ap (λ (n : ℕ). further c n (c .hasher)) e
   advance-bytes (b ∷ part) c h =
@@ -51,31 +51,31 @@ module _ (list : List ℕ) where
       rw (le-ltb (c .got) 6 h)
       (advance-bytes part (contentByte c b) h ∙ ap (λ (n : ℕ). further c n (foldl withByte (c .hasher) (b ∷ part))) e)
 
-  module _ (y : Tally) (few : tallied y < mostTables) where
+  module _ (y : Tally) (few : tallied y < maxTables) where
     -- one byte
-    one-byte : (p : Bool) (c : Current) (b : ℕ) → byteTaken list (reportWith p y c) b ≡ settled list y (tableByte list c b)
+    one-byte : (p : Bool) (c : Current) (b : ℕ) → byteTaken manifest (reportWith p y c) b ≡ settled manifest y (tableByte manifest c b)
     unfolding byteTaken
-    one-byte p c b = rw (lt-ltb (tallied y) mostTables few)
+    one-byte p c b = rw (lt-ltb (tallied y) maxTables few)
 
     -- a byte inside the contents ends no table
     inside-byte : (p : Bool) (c : Current) (b : ℕ) → 6 ≤ c .got → 1 < c .left
-        → byteTaken list (reportWith p y c) b ≡ reportWith true y (contentByte c b)
+        → byteTaken manifest (reportWith p y c) b ≡ reportWith true y (contentByte c b)
     unfolding settled tableByte isComplete contentByte
     inside-byte p c b h l = one-byte p c b ∙ rw (le-ltb (c .got) 6 h, le-leb 6 (c .got) h, ne-eqb (c .left - 1) 0 (λ e. omega arith))
 
     -- so bytes of the contents end one by their last alone
     inside : (part : List ℕ) (p : Bool) (c : Current) (b : ℕ) → 6 ≤ c .got → suc (length part) ≤ c .left
-        → foldl (byteTaken list) (reportWith p y c) (b ∷ part) ≡ settled list y (foldl (tableByte list) c (b ∷ part))
+        → foldl (byteTaken manifest) (reportWith p y c) (b ∷ part) ≡ settled manifest y (foldl (tableByte manifest) c (b ∷ part))
     unfolding tableByte contentByte
     inside [] p c b h l = one-byte p c b
     inside (d ∷ part) p c b h l =
-        ap (λ (r : Report). foldl (byteTaken list) r (d ∷ part)) (inside-byte p c b h (omega arith))
+        ap (λ (r : Report). foldl (byteTaken manifest) r (d ∷ part)) (inside-byte p c b h (omega arith))
         ∙ inside part true (contentByte c b) d h (omega arith)
-        ∙ ap (λ (e : Current). settled list y (foldl (tableByte list) e (d ∷ part))) {x = contentByte c b} {y = tableByte list c b} (rw (le-ltb (c .got) 6 h))
+        ∙ ap (λ (e : Current). settled manifest y (foldl (tableByte manifest) e (d ∷ part))) {x = contentByte c b} {y = tableByte manifest c b} (rw (le-ltb (c .got) 6 h))
 
     -- a stride
     pub stride-settled : (p : Bool) (c : Current) (part : List ℕ) → Stride c (length part)
-        → foldl (byteTaken list) (reportWith p y c) part ≡ settled list y (foldl (tableByte list) c part)
+        → foldl (byteTaken manifest) (reportWith p y c) part ≡ settled manifest y (foldl (tableByte manifest) c part)
     stride-settled p c [] s = absurd (omega (arith, s .some))
     stride-settled p c (b ∷ []) s = one-byte p c b
     stride-settled p c (b ∷ d ∷ part) s =
@@ -86,18 +86,18 @@ module _ (list : List ℕ) where
         contents (inr h) = h
 
   -- after the last table nothing changes
-  full-byte : (r : Report) → mostTables ≤ tallied (r .tally) → (b : ℕ) → byteTaken list r b ≡ r
+  full-byte : (r : Report) → maxTables ≤ tallied (r .tally) → (b : ℕ) → byteTaken manifest r b ≡ r
   unfolding byteTaken
-  full-byte r h b = rw (le-ltb (tallied (r .tally)) mostTables h)
+  full-byte r h b = rw (le-ltb (tallied (r .tally)) maxTables h)
 
-  pub full-stays : (r : Report) → mostTables ≤ tallied (r .tally) → (part : List ℕ) → foldl (byteTaken list) r part ≡ r
+  pub full-stays : (r : Report) → maxTables ≤ tallied (r .tally) → (part : List ℕ) → foldl (byteTaken manifest) r part ≡ r
   full-stays r h [] = refl
-  full-stays r h (b ∷ part) = ap (λ (q : Report). foldl (byteTaken list) q part) (full-byte r h b) ∙ full-stays r h part
+  full-stays r h (b ∷ part) = ap (λ (q : Report). foldl (byteTaken manifest) q part) (full-byte r h b) ∙ full-stays r h part
 
   -- the bytes from i on: the part of n of them, then those from i + n on
-  pub stream-stepped : (r s : Report) (piece : List ℕ) (i n : ℕ) → s ≡ foldl (byteTaken list) r (partOf piece i n)
-      → foldl (byteTaken list) r (drop i piece) ≡ foldl (byteTaken list) s (drop (i + n) piece)
+  pub stream-stepped : (r s : Report) (piece : List ℕ) (i n : ℕ) → s ≡ foldl (byteTaken manifest) r (partOf piece i n)
+      → foldl (byteTaken manifest) r (drop i piece) ≡ foldl (byteTaken manifest) s (drop (i + n) piece)
   stream-stepped r s piece i n e =
       let l : i + n - i ≡ n = omega arith in
-      sym (rw (e, l, ← drop-drop n i piece) (sym (foldl-append (byteTaken list) r (take n (drop i piece)) (drop n (drop i piece))))
-      ∙ ap (foldl (byteTaken list) r) (take-append-drop n (drop i piece)))
+      sym (rw (e, l, ← drop-drop n i piece) (sym (foldl-append (byteTaken manifest) r (take n (drop i piece)) (drop n (drop i piece))))
+      ∙ ap (foldl (byteTaken manifest) r) (take-append-drop n (drop i piece)))

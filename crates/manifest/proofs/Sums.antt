@@ -1,37 +1,18 @@
--- What the counts of a report say of one another, for every map from axis numbers and every stream; and two rows of bytes that
--- are the same are equal.
+-- What the counts of a report say of one another, for every map from axis numbers and every stream.
 -- Assumes nothing.
-use mathlib.Core.Path.{_≡_, refl, ap₂}
-use mathlib.Core.Bool.{Bool, true, false, cond, false≢true}
+use mathlib.Core.Path.{_≡_, refl}
+use mathlib.Core.Bool.{Bool, true, false, cond}
 use mathlib.Core.List.{List, [], _∷_}
 use Prim.Native.Nat.{ℕ, zero, suc, _+_, _≤_}
 use native.Mathlib.Omega.{arith}
-use lib.Dec.{eqb}
 use lib.ListN.{length, drop}
-use borrow.Author.Tests.{eqb-true, eq-eqb}
 use Rattle.standard.specs.Bits.{digit}
 use Rattle.standard.specs.Variants.{known}
-use Rattle.standard.proofs.Tests.{and-true}
-use Rattle.manifest.specs.Lists.{same}
 use Rattle.manifest.specs.Installations.{Expected, Axes, isThere, allAxes, axisCount}
-use Rattle.manifest.specs.Tables.{Table, isWhole, firstTable, spanOf, tablesUpTo, mostTables, tablesIn}
+use Rattle.manifest.specs.Tables.{Table, isWhole, firstTable, spanOf, tablesUpTo, maxTables, tablesIn}
 use Rattle.manifest.specs.Counts.{Verdict, equal, unequal, unlisted, isExpected, verdictOf, sameVerdict, judged, isTold, untold, countsOf}
 use Rattle.manifest.specs.Promises.{ToldAddUp, UntoldAtMost, TablesAtMost}
 use Rattle.manifest.proofs.Counting.{count-three, count-part}
-
--- ---- two rows of bytes
-
-pub same-is : (x y : List ℕ) → same x y ≡ true → x ≡ y
-same-is [] [] e = refl
-same-is [] (b ∷ y) e = absurd (false≢true e)
-same-is (a ∷ x) [] e = absurd (false≢true e)
-same-is (a ∷ x) (b ∷ y) e =
-    let both = and-true (eqb a b) (same x y) e in
-    ap₂ _∷_ (eqb-true a b (both .0)) (same-is x y (both .1))
-
-pub same-refl : (x : List ℕ) → same x x ≡ true
-same-refl [] = refl
-same-refl (a ∷ x) = rw (eq-eqb a a refl, same-refl x)
 
 -- ---- the tables that are told
 
@@ -70,9 +51,9 @@ up-to zero stream = omega arith
 up-to (suc n) stream = one-more (isWhole stream) (firstTable stream) (tablesUpTo n (drop (spanOf stream) stream)) n (up-to n (drop (spanOf stream) stream))
 
 -- No more tables count than a report looks at.
-pub few-tables : (stream : List ℕ) → length (tablesIn stream) ≤ mostTables
+pub few-tables : (stream : List ℕ) → length (tablesIn stream) ≤ maxTables
 unfolding tablesIn
-few-tables stream = up-to mostTables stream
+few-tables stream = up-to maxTables stream
 
 pub tables-at-most : TablesAtMost
 unfolding countsOf

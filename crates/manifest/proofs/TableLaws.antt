@@ -1,4 +1,5 @@
--- The first table of a stream: it stands there whatever follows it, and a byte more of one that is cut short ends it or leaves it cut short.
+-- The first table of a stream: it stands there whatever follows it, and a byte more of one that is cut short ends it or
+-- leaves it cut short.
 -- Assumes nothing.
 use mathlib.Core.Path.{_≡_, refl, ap, _∙_}
 use mathlib.Core.Bool.{true, false}
@@ -9,7 +10,7 @@ use native.Mathlib.Omega.{arith}
 use lib.ListN.{length, take, drop, length-append, length-drop}
 use lib.Seq.{take-all, take-append-le, drop-append-le, drop-at}
 use borrow.Author.Tests.{leb-true, leb-false, le-leb}
-use Rattle.answers.specs.Numbers.{bigEndian}
+use Rattle.bytes.specs.Numbers.{bigEndian}
 use Rattle.standard.proofs.Tests.{lt-or-le}
 use Rattle.manifest.specs.Tables.{axisIn, lengthIn, spanOf, isWhole, firstTable, tablesUpTo}
 

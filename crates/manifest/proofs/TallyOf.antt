@@ -29,50 +29,50 @@ use Rattle.manifest.proofs.AxisLaws.{held-there, held-none}
 
 -- no table of record k's axis has come
 abbrev pub awaits : List ℕ → List Table → ℕ → Bool
-awaits list ts k = not (isTold ts (axisAt list k))
+awaits manifest ts k = not (isTold ts (axisAt manifest k))
 
 -- the same as the report keeps it
 abbrev pub awaitedBy : List ℕ → (ℕ → Bool) → List ℕ
-awaitedBy list p = tab 512 (λ k. digit (ltb k (recordCount list) && p k))
+awaitedBy manifest p = tab 512 (λ k. digit (ltb k (recordCount manifest) && p k))
 
 -- the tally of a row of tables
 unfoldable pub tallyOf : List ℕ → List Table → Tally
-tallyOf list ts =
+tallyOf manifest ts =
     record {
-      listed = recordCount list;
-      untold = countBelow (awaits list ts) (recordCount list);
-      equal = judged equal (held list) ts;
-      unequal = judged unequal (held list) ts;
-      unlisted = judged unlisted (held list) ts;
-      awaited = awaitedBy list (awaits list ts);
+      listed = recordCount manifest;
+      untold = countBelow (awaits manifest ts) (recordCount manifest);
+      equal = judged equal (held manifest) ts;
+      unequal = judged unequal (held manifest) ts;
+      unlisted = judged unlisted (held manifest) ts;
+      awaited = awaitedBy manifest (awaits manifest ts);
     }
 
 -- it tells as many tables as there are
-pub tallied-all : (list : List ℕ) (ts : List Table) → tallied (tallyOf list ts) ≡ length ts
+pub tallied-all : (manifest : List ℕ) (ts : List Table) → tallied (tallyOf manifest ts) ≡ length ts
 unfolding tallyOf
-tallied-all list ts = each-counts-once (held list) ts
+tallied-all manifest ts = each-counts-once (held manifest) ts
 
 -- its parts, for one manifest
 abbrev parts : List ℕ → ℕ → ℕ → ℕ → ℕ → List ℕ → Tally
-parts list u e n x a = record { listed = recordCount list; untold = u; equal = e; unequal = n; unlisted = x; awaited = a }
+parts manifest u e n x a = record { listed = recordCount manifest; untold = u; equal = e; unequal = n; unlisted = x; awaited = a }
 
 -- equal parts, equal tallies
-parts-same : (list : List ℕ) {u u′ e e′ n n′ x x′ : ℕ} {a a′ : List ℕ} → u ≡ u′ → e ≡ e′ → n ≡ n′ → x ≡ x′ → a ≡ a′
-    → parts list u e n x a ≡ parts list u′ e′ n′ x′ a′
-parts-same list pu pe pn px pa = rw (pu, pe, pn, px, pa)
+parts-same : (manifest : List ℕ) {u u′ e e′ n n′ x x′ : ℕ} {a a′ : List ℕ} → u ≡ u′ → e ≡ e′ → n ≡ n′ → x ≡ x′ → a ≡ a′
+    → parts manifest u e n x a ≡ parts manifest u′ e′ n′ x′ a′
+parts-same manifest pu pe pn px pa = rw (pu, pe, pn, px, pa)
 
 -- ---- what is awaited
 
 -- what agrees on a record is kept alike
-kept-alike : (list : List ℕ) (p q : ℕ → Bool) (k : ℕ) → (k < recordCount list → p k ≡ q k)
-    → digit (ltb k (recordCount list) && p k) ≡ digit (ltb k (recordCount list) && q k)
-kept-alike list p q k h =
+kept-alike : (manifest : List ℕ) (p q : ℕ → Bool) (k : ℕ) → (k < recordCount manifest → p k ≡ q k)
+    → digit (ltb k (recordCount manifest) && p k) ≡ digit (ltb k (recordCount manifest) && q k)
+kept-alike manifest p q k h =
     ⊎-elim
-    (λ e. ap (λ (b : Bool). digit (ltb k (recordCount list) && b)) (h (ltb-true k (recordCount list) e)))
+    (λ e. ap (λ (b : Bool). digit (ltb k (recordCount manifest) && b)) (h (ltb-true k (recordCount manifest) e)))
     (λ e. rw e)
-    (either (ltb k (recordCount list)))
+    (either (ltb k (recordCount manifest)))
 
--- none of so many and perhaps one
+-- none of these and perhaps one
 told-more : (n : ℕ) (b : Bool) → not (ltb 0 (n + digit b)) ≡ (not (ltb 0 n) && not b)
 told-more n true = rw (lt-ltb 0 (n + 1) (omega arith), and-no)
 told-more n false = let e : n + 0 ≡ n = omega arith in rw (e, and-yes)
@@ -115,93 +115,93 @@ not-unlisted false = refl
 
 -- ---- a table more
 
-module _ (list : List ℕ) (rising : Rising list) (ts : List Table) (t : Table) where
+module _ (manifest : List ℕ) (rising : Rising manifest) (ts : List Table) (t : Table) where
   -- the record of its axis
   abbrev k : ℕ
-  k = recordFor list (t .axis)
+  k = recordFor manifest (t .axis)
 
   -- a record awaits a table: as before, and it is not the one for this axis
-  awaits-snoc : (i : ℕ) → i < recordCount list → awaits list (ts ++ t ∷ []) i ≡ (awaits list ts i && not (eqb i (recordFor list (t .axis))))
+  awaits-snoc : (i : ℕ) → i < recordCount manifest → awaits manifest (ts ++ t ∷ []) i ≡ (awaits manifest ts i && not (eqb i (recordFor manifest (t .axis))))
   awaits-snoc i h =
-      told-snoc ts t (axisAt list i) ∙ ap (λ (b : Bool). awaits list ts i && not b) (record-is list (t .axis) rising i h)
+      told-snoc ts t (axisAt manifest i) ∙ ap (λ (b : Bool). awaits manifest ts i && not b) (record-is manifest (t .axis) rising i h)
 
   -- every other record awaits as before
-  awaits-other : (i : ℕ) → i < recordCount list → (i ≡ recordFor list (t .axis) → ⊥) → awaits list (ts ++ t ∷ []) i ≡ awaits list ts i
+  awaits-other : (i : ℕ) → i < recordCount manifest → (i ≡ recordFor manifest (t .axis) → ⊥) → awaits manifest (ts ++ t ∷ []) i ≡ awaits manifest ts i
   awaits-other i h n = awaits-snoc i h ∙ rw (ne-eqb i k n, and-yes)
 
   -- ---- of no listed axis
 
-  module _ (not-listed : isListed list (t .axis) ≡ false) where
+  module _ (not-listed : isListed manifest (t .axis) ≡ false) where
     -- every record awaits as before
-    as-before : (i : ℕ) → i < recordCount list → awaits list (ts ++ t ∷ []) i ≡ awaits list ts i
+    as-before : (i : ℕ) → i < recordCount manifest → awaits manifest (ts ++ t ∷ []) i ≡ awaits manifest ts i
     unfolding isListed
-    as-before i h = awaits-other i h (λ e. omega (arith, ltb-false k (recordCount list) not-listed))
+    as-before i h = awaits-other i h (λ e. omega (arith, ltb-false k (recordCount manifest) not-listed))
 
-    on-no-axis : verdictOf (held list) t ≡ unlisted
+    on-no-axis : verdictOf (held manifest) t ≡ unlisted
     unfolding verdictOf
-    on-no-axis = ap (λ (o : Option Expected). verdictBy o (t .contents)) (held-none list (t .axis) not-listed)
+    on-no-axis = ap (λ (o : Option Expected). verdictBy o (t .contents)) (held-none manifest (t .axis) not-listed)
 
     -- The tally of the tables and this one: one more unlisted.
-    pub unlisted-told : withUnlisted (tallyOf list ts) ≡ tallyOf list (ts ++ t ∷ [])
+    pub unlisted-told : withUnlisted (tallyOf manifest ts) ≡ tallyOf manifest (ts ++ t ∷ [])
     unfolding tallyOf withUnlisted
     unlisted-told =
         sym
-        (parts-same list
-        (count-same (awaits list (ts ++ t ∷ [])) (awaits list ts) (recordCount list) as-before)
-        (judged-more equal (held list) ts t unlisted on-no-axis refl ∙ omega arith)
-        (judged-more unequal (held list) ts t unlisted on-no-axis refl ∙ omega arith)
-        (judged-more unlisted (held list) ts t unlisted on-no-axis refl)
-        (tab-cong 512 _ _ (λ i _. kept-alike list (awaits list (ts ++ t ∷ [])) (awaits list ts) i (as-before i))))
+        (parts-same manifest
+        (count-same (awaits manifest (ts ++ t ∷ [])) (awaits manifest ts) (recordCount manifest) as-before)
+        (judged-more equal (held manifest) ts t unlisted on-no-axis refl ∙ omega arith)
+        (judged-more unequal (held manifest) ts t unlisted on-no-axis refl ∙ omega arith)
+        (judged-more unlisted (held manifest) ts t unlisted on-no-axis refl)
+        (tab-cong 512 _ _ (λ i _. kept-alike manifest (awaits manifest (ts ++ t ∷ [])) (awaits manifest ts) i (as-before i))))
 
   -- ---- of a listed axis
 
-  module _ (is : isListed list (t .axis) ≡ true) (few : recordCount list ≤ 512) where
-    here : recordFor list (t .axis) < recordCount list
+  module _ (is : isListed manifest (t .axis) ≡ true) (few : recordCount manifest ≤ 512) where
+    here : recordFor manifest (t .axis) < recordCount manifest
     unfolding isListed
-    here = ltb-true k (recordCount list) is
+    here = ltb-true k (recordCount manifest) is
 
     -- its record awaits no more
-    awaits-no-more : awaits list (ts ++ t ∷ []) (recordFor list (t .axis)) ≡ false
+    awaits-no-more : awaits manifest (ts ++ t ∷ []) (recordFor manifest (t .axis)) ≡ false
     awaits-no-more = awaits-snoc k here ∙ rw (eq-eqb k k refl, and-no)
 
     -- the untold axes are one less if it was awaited
-    one-less : countBelow (awaits list ts) (recordCount list) - getD (awaitedBy list (awaits list ts)) (recordFor list (t .axis)) 0 ≡ countBelow (awaits list (ts ++ t ∷ [])) (recordCount list)
+    one-less : countBelow (awaits manifest ts) (recordCount manifest) - getD (awaitedBy manifest (awaits manifest ts)) (recordFor manifest (t .axis)) 0 ≡ countBelow (awaits manifest (ts ++ t ∷ [])) (recordCount manifest)
     one-less =
-        let told = getD-tab 512 (λ i. digit (ltb i (recordCount list) && awaits list ts i)) k 0 (omega (arith, here)) in
-        let fewer = count-same (awaits list (ts ++ t ∷ [])) (λ i. awaits list ts i && not (eqb i k)) (recordCount list) awaits-snoc in
-        omega (arith, told, fewer, count-without (awaits list ts) k (recordCount list))
+        let told = getD-tab 512 (λ i. digit (ltb i (recordCount manifest) && awaits manifest ts i)) k 0 (omega (arith, here)) in
+        let fewer = count-same (awaits manifest (ts ++ t ∷ [])) (λ i. awaits manifest ts i && not (eqb i k)) (recordCount manifest) awaits-snoc in
+        omega (arith, told, fewer, count-without (awaits manifest ts) k (recordCount manifest))
 
     -- and it is taken out of what is awaited
-    struck : set (awaitedBy list (awaits list ts)) (recordFor list (t .axis)) 0 ≡ awaitedBy list (awaits list (ts ++ t ∷ []))
+    struck : set (awaitedBy manifest (awaits manifest ts)) (recordFor manifest (t .axis)) 0 ≡ awaitedBy manifest (awaits manifest (ts ++ t ∷ []))
     struck =
-        let gone : digit (ltb k (recordCount list) && awaits list (ts ++ t ∷ []) k) ≡ 0 = rw (awaits-no-more, and-no) in
-        set-tab 512 _ _ k 0 gone (λ i n. kept-alike list (awaits list (ts ++ t ∷ [])) (awaits list ts) i (λ h. awaits-other i h n))
+        let gone : digit (ltb k (recordCount manifest) && awaits manifest (ts ++ t ∷ []) k) ≡ 0 = rw (awaits-no-more, and-no) in
+        set-tab 512 _ _ k 0 gone (λ i n. kept-alike manifest (awaits manifest (ts ++ t ∷ [])) (awaits manifest ts) i (λ h. awaits-other i h n))
 
     -- whether it is what its record expects
     abbrev agrees : Bool
-    agrees = isExpected (expectedAt list (recordFor list (t .axis))) (t .contents)
+    agrees = isExpected (expectedAt manifest (recordFor manifest (t .axis))) (t .contents)
 
-    on-its-axis : verdictOf (held list) t ≡ cond agrees equal unequal
+    on-its-axis : verdictOf (held manifest) t ≡ cond agrees equal unequal
     unfolding verdictOf
-    on-its-axis = ap (λ (o : Option Expected). verdictBy o (t .contents)) (held-there list (t .axis) is)
+    on-its-axis = ap (λ (o : Option Expected). verdictBy o (t .contents)) (held-there manifest (t .axis) is)
 
     -- The tally of the tables and this one: one more equal or unequal.
-    pub listed-told : withListed (tallyOf list ts) (recordFor list (t .axis)) (isExpected (expectedAt list (recordFor list (t .axis))) (t .contents))
-        ≡ tallyOf list (ts ++ t ∷ [])
+    pub listed-told : withListed (tallyOf manifest ts) (recordFor manifest (t .axis)) (isExpected (expectedAt manifest (recordFor manifest (t .axis))) (t .contents))
+        ≡ tallyOf manifest (ts ++ t ∷ [])
     unfolding tallyOf withListed
     listed-told =
-        parts-same list
+        parts-same manifest
         one-less
-        (sym (judged-more equal (held list) ts t (cond agrees equal unequal) on-its-axis (is-equal agrees)))
-        (sym (judged-more unequal (held list) ts t (cond agrees equal unequal) on-its-axis (is-unequal agrees)))
-        (sym (judged-more unlisted (held list) ts t (cond agrees equal unequal) on-its-axis (not-unlisted agrees) ∙ omega arith))
+        (sym (judged-more equal (held manifest) ts t (cond agrees equal unequal) on-its-axis (is-equal agrees)))
+        (sym (judged-more unequal (held manifest) ts t (cond agrees equal unequal) on-its-axis (is-unequal agrees)))
+        (sym (judged-more unlisted (held manifest) ts t (cond agrees equal unequal) on-its-axis (not-unlisted agrees) ∙ omega arith))
         struck
 
 -- no table yet
-pub none-told : (list : List ℕ) → freshReport list .tally ≡ tallyOf list []
+pub none-told : (manifest : List ℕ) → freshReport manifest .tally ≡ tallyOf manifest []
 unfolding tallyOf freshReport awaitedAll isTold judged
-none-told list =
-    parts-same list
-    (sym (count-below (recordCount list)))
+none-told manifest =
+    parts-same manifest
+    (sym (count-below (recordCount manifest)))
     refl refl refl
-    (tab-cong 512 _ _ (λ k _. ap digit (sym (and-yes (ltb k (recordCount list))))))
+    (tab-cong 512 _ _ (λ k _. ap digit (sym (and-yes (ltb k (recordCount manifest))))))

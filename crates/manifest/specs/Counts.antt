@@ -6,12 +6,13 @@ use mathlib.Core.Option.{Option, none, some}
 use Prim.Native.Nat.{ℕ}
 use lib.Dec.{eqb, ltb, leb}
 use lib.ListN.{length}
-use Rattle.answers.specs.Outputs.{most}
+use Rattle.answers.specs.Outputs.{maxBytes}
 use Rattle.standard.specs.Chain.{digestOf}
 use Rattle.standard.specs.Messages.{byteBits}
 use Rattle.standard.specs.Variants.{variant, known}
 use Rattle.manifest.specs.declared.report.Summary.{Summary}
-use Rattle.manifest.specs.Lists.{howMany, same}
+use Rattle.manifest.specs.Lists.{howMany}
+use Rattle.bytes.specs.Slices.{same}
 use Rattle.manifest.specs.Tables.{Table, tablesIn}
 use Rattle.manifest.specs.Installations.{Expected, Axes, allAxes, isThere, axisCount}
 
@@ -23,11 +24,11 @@ pub data Verdict : Type 0 where
   unequal : Verdict
   unlisted : Verdict
 
--- a table is what is expected: within the limit of a message, and with the expected digest under the expected variant. Under a
--- variant that is not known nothing has a digest
+-- a table is what is expected: within the limit of a message, and with the expected digest under the expected variant.
+-- Under a variant that is not known nothing has a digest
 unfoldable pub isExpected : Expected → List ℕ → Bool
 isExpected e contents =
-    known (e .variant) && leb (length contents) most
+    known (e .variant) && leb (length contents) maxBytes
     && same (digestOf (variant (e .variant)) (byteBits contents)) (e .digest)
 
 -- the verdict on a table, by what is expected of its axis
@@ -52,7 +53,7 @@ sameVerdict unlisted unlisted = true
 
 -- ---- a row of tables
 
--- how many of them have a verdict
+-- the number of them that have a verdict
 unfoldable pub judged : Verdict → Axes → List Table → ℕ
 judged v axes ts = howMany (λ t. sameVerdict v (verdictOf axes t)) ts
 
@@ -60,7 +61,7 @@ judged v axes ts = howMany (λ t. sameVerdict v (verdictOf axes t)) ts
 unfoldable pub isTold : List Table → ℕ → Bool
 isTold ts axis = ltb 0 (howMany (λ (t : Table). eqb (t .axis) axis) ts)
 
--- how many axes are there of which no table came
+-- the number of axes that are there and of which no table came
 unfoldable pub untold : Axes → List Table → ℕ
 untold axes ts = howMany (λ axis. isThere (axes axis) && not (isTold ts axis)) allAxes
 

@@ -1,4 +1,5 @@
--- Installations (document 02, Q-5: rig): which table each axis should hold, the manifest that says so, and what a manifest holds.
+-- Installations (document 02, Q-5: rig): which table each axis should hold, the manifest that says so, and what a
+-- manifest holds.
 -- Assumes nothing.
 use mathlib.Core.Path.{_≡_}
 use mathlib.Core.Bool.{Bool, true, false}
@@ -7,12 +8,12 @@ use mathlib.Core.Option.{Option, none, some, Option·map}
 use Prim.Native.Nat.{ℕ, zero, suc, _-_, _≤_}
 use lib.Dec.{eqb}
 use lib.ListN.{length, replicate}
-use Rattle.answers.specs.Numbers.{Bytes, inBytes}
+use Rattle.bytes.specs.Numbers.{Bytes, inBytes}
 use Rattle.standard.specs.Grid.{tab}
 use Rattle.standard.specs.Variants.{known}
 use Rattle.standard.specs.Layout.{digestRoom}
 use Rattle.manifest.specs.Lists.{howMany, firstBelow}
-use Rattle.manifest.specs.Records.{mostRecords, recordCount, axisAt, variantAt, digestBytes, digestAt}
+use Rattle.manifest.specs.Records.{maxRecords, recordCount, axisAt, variantAt, digestBytes, digestAt}
 
 -- what the table of an axis should be: one that has this digest under this variant
 pub record Expected : Type 0 where
@@ -36,7 +37,7 @@ abbrev pub isThere : Option Expected → Bool
 isThere none = false
 isThere (some e) = true
 
--- how many axes a map has
+-- the number of axes of a map
 unfoldable pub axisCount : Axes → ℕ
 axisCount axes = howMany (λ axis. isThere (axes axis)) allAxes
 
@@ -49,7 +50,7 @@ pub record IsSound (e : Expected) : Type 0 where
 -- an installation: a map of axis numbers, up to 512 of them, to sound variants and digests
 pub record IsInstallation (axes : Axes) : Type 0 where
   pub numbered : (axis : ℕ) → axisNumbers ≤ axis → axes axis ≡ none
-  pub few : axisCount axes ≤ mostRecords
+  pub few : axisCount axes ≤ maxRecords
   pub sound : (axis : ℕ) (e : Expected) → axes axis ≡ some e → IsSound e
 
 -- ---- written as a manifest
@@ -76,8 +77,9 @@ listOf axes = listBelow axisNumbers axes
 
 -- what record k says of its axis
 abbrev pub expectedAt : List ℕ → ℕ → Expected
-expectedAt list k = record { variant = variantAt list k; digest = digestAt list k }
+expectedAt manifest k = record { variant = variantAt manifest k; digest = digestAt manifest k }
 
--- what a manifest holds of an axis: what the first record with its number says, and nothing where none has it
+-- what a manifest holds of an axis: what the first record with its number says, and nothing if none has it
 unfoldable pub held : List ℕ → Axes
-held list axis = Option·map (expectedAt list) (firstBelow (recordCount list) (λ k. eqb (axisAt list k) axis))
+held manifest axis =
+    Option·map (expectedAt manifest) (firstBelow (recordCount manifest) (λ k. eqb (axisAt manifest k) axis))

@@ -1,5 +1,6 @@
--- Need not be believed: held-there and held-none say that what is looked up so is what the manifest holds, and in-pieces what a
--- report comes to that looks axes up. Manifests in which an axis can be looked up by its number, and the number of its record.
+-- Need not be believed: held-there and held-none say that what is looked up so is what the manifest holds, and
+-- in-pieces what a report comes to that looks axes up. Manifests in which an axis can be looked up by its number, and
+-- the number of its record.
 -- Assumes nothing.
 use mathlib.Core.Bool.{Bool, true, cond, _&&_}
 use mathlib.Core.List.{List}
@@ -14,18 +15,18 @@ everyBelow (suc n) p = p 0 && everyBelow n (λ k. p (suc k))
 
 -- whole records, 512 at most, whose axis numbers rise; what else they hold does not matter
 unfoldable pub isOrdered : List ℕ → Bool
-isOrdered list = isManifest list && everyBelow (recordCount list) (risesAt list)
+isOrdered manifest = isManifest manifest && everyBelow (recordCount manifest) (risesAt manifest)
 
--- the least number below n of which p holds, and n where it holds of none
+-- the least number below n of which p holds, and n if it holds of none
 abbrev pub leastBelow : ℕ → (ℕ → Bool) → ℕ
 leastBelow zero p = 0
 leastBelow (suc n) p = cond (p 0) 0 (suc (leastBelow n (λ k. p (suc k))))
 
--- the record of an axis, which has its number; the record count where there is none. In a manifest that passes no second record
--- has it.
+-- the record of an axis, which has its number; the record count if there is none. In a manifest that passes no second
+-- record has it.
 unfoldable pub recordFor : List ℕ → ℕ → ℕ
-recordFor list axis = leastBelow (recordCount list) (λ k. eqb (axisAt list k) axis)
+recordFor manifest axis = leastBelow (recordCount manifest) (λ k. eqb (axisAt manifest k) axis)
 
 -- an axis has a record
 unfoldable pub isListed : List ℕ → ℕ → Bool
-isListed list axis = ltb (recordFor list axis) (recordCount list)
+isListed manifest axis = ltb (recordFor manifest axis) (recordCount manifest)

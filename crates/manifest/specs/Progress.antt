@@ -1,13 +1,13 @@
 -- Need not be believed: in-pieces says what the three calls in a row come to.
--- A report in progress: what each byte of the stream makes of it, for the contracts of a report's calls. Total: a report that
--- no stream leads to has its next one too.
+-- A report in progress: what each byte of the stream makes of it, for the contracts of a report's calls. Total: a
+-- report that no stream leads to has its next one too.
 -- Assumes nothing.
 use mathlib.Core.Bool.{Bool, true, false, cond, not, _&&_}
 use mathlib.Core.List.{List, foldl}
 use Prim.Native.Nat.{ℕ, _+_, _-_}
 use lib.Dec.{eqb, ltb, leb}
 use lib.ListN.{replicate, getD, set}
-use Rattle.answers.specs.Outputs.{whenDone, most}
+use Rattle.answers.specs.Outputs.{whenDone, maxBytes}
 use Rattle.standard.specs.Bits.{digit}
 use Rattle.standard.specs.Grid.{tab}
 use Rattle.standard.specs.Layout.{digestRoom}
@@ -21,9 +21,9 @@ use Rattle.manifest.specs.declared.current.Current.{Current}
 use Rattle.manifest.specs.declared.report.Report.{Report}
 use Rattle.manifest.specs.declared.report.Beginning.{Beginning}
 use Rattle.manifest.specs.declared.report.Summary.{Summary}
-use Rattle.manifest.specs.Lists.{same}
-use Rattle.manifest.specs.Records.{mostRecords, recordCount, variantAt, filledAt, manifestStatus}
-use Rattle.manifest.specs.Tables.{headerBytes, axisIn, lengthIn, mostTables}
+use Rattle.bytes.specs.Slices.{same}
+use Rattle.manifest.specs.Records.{maxRecords, recordCount, variantAt, digestFieldAt, manifestStatus}
+use Rattle.manifest.specs.Tables.{headerBytes, axisIn, lengthIn, maxTables}
 use Rattle.manifest.specs.Lookups.{isOrdered, recordFor, isListed}
 
 -- ---- the table that is being read
@@ -32,28 +32,35 @@ use Rattle.manifest.specs.Lookups.{isOrdered, recordFor, isListed}
 abbrev pub unread : Current
 unread = record { header = replicate headerBytes 0; got = 0; left = 0; hasher = blank 0 }
 
--- the variant under which a table is hashed: that of its axis's record; 0, under which nothing is, where the axis is not listed or the table past the limit
-unfoldable pub hashedUnder : List ℕ → ℕ → ℕ → ℕ
-hashedUnder list axis n = cond (isListed list axis && leb n most) (variantAt list (recordFor list axis)) 0
+-- the variant under which a table is hashed: that of its axis's record; 0, under which nothing is, if the axis is not
+-- listed or the table is past the limit
+unfoldable pub variantFor : List ℕ → ℕ → ℕ → ℕ
+variantFor manifest axis n =
+    cond (isListed manifest axis && leb n maxBytes) (variantAt manifest (recordFor manifest axis)) 0
 
 -- its header is there, and the contents are to come
 unfoldable pub openedTable : List ℕ → List ℕ → Current
-openedTable list header =
-    record { header = header; got = headerBytes; left = lengthIn header; hasher = started (hashedUnder list (axisIn header) (lengthIn header)) .hasher }
+openedTable manifest header =
+    record {
+      header = header;
+      got = headerBytes;
+      left = lengthIn header;
+      hasher = started (variantFor manifest (axisIn header) (lengthIn header)) .hasher;
+    }
 
 -- a byte of the header
 unfoldable pub headerByte : List ℕ → Current → ℕ → Current
-headerByte list c b =
+headerByte manifest c b =
     cond (ltb (c .got + 1) headerBytes)
     (record { header = set (c .header) (c .got) b; got = c .got + 1; left = c .left; hasher = c .hasher })
-    (openedTable list (set (c .header) (c .got) b))
+    (openedTable manifest (set (c .header) (c .got) b))
 
 -- a byte of the contents
 unfoldable pub contentByte : Current → ℕ → Current
 contentByte c b = record { header = c .header; got = c .got; left = c .left - 1; hasher = withByte (c .hasher) b }
 
 unfoldable pub tableByte : List ℕ → Current → ℕ → Current
-tableByte list c b = cond (ltb (c .got) headerBytes) (headerByte list c b) (contentByte c b)
+tableByte manifest c b = cond (ltb (c .got) headerBytes) (headerByte manifest c b) (contentByte c b)
 
 -- its last byte was read
 unfoldable pub isComplete : Current → Bool
@@ -67,8 +74,11 @@ tallied y = y .equal + y .unequal + y .unlisted
 
 -- a running hash can be closed and read, and its digest with zeros after it is what record k holds
 unfoldable pub matches : List ℕ → ℕ → Hasher → Bool
-matches list k h =
-    whenDone (readStatus (finished h .hasher) Digest digestRoom) (same (readInto (finished h .hasher) Digest (replicate digestRoom 0)) (filledAt list k)) false
+matches manifest k h =
+    whenDone
+    (readStatus (finished h .hasher) Digest digestRoom)
+    (same (readInto (finished h .hasher) Digest (replicate digestRoom 0)) (digestFieldAt manifest k))
+    false
 
 -- a table of record k: its axis is no longer awaited
 unfoldable pub withListed : Tally → ℕ → Bool → Tally
@@ -85,50 +95,78 @@ withListed y k agrees =
 -- a table of no listed axis
 unfoldable pub withUnlisted : Tally → Tally
 withUnlisted y =
-    record { listed = y .listed; untold = y .untold; equal = y .equal; unequal = y .unequal; unlisted = y .unlisted + 1; awaited = y .awaited }
+    record {
+      listed = y .listed;
+      untold = y .untold;
+      equal = y .equal;
+      unequal = y .unequal;
+      unlisted = y .unlisted + 1;
+      awaited = y .awaited;
+    }
 
 -- the table that was read
 unfoldable pub withTable : List ℕ → Tally → Current → Tally
-withTable list y c =
-    cond (isListed list (axisIn (c .header)))
-    (withListed y (recordFor list (axisIn (c .header))) (matches list (recordFor list (axisIn (c .header))) (c .hasher)))
+withTable manifest y c =
+    cond (isListed manifest (axisIn (c .header)))
+    (withListed y (recordFor manifest (axisIn (c .header)))
+    (matches manifest (recordFor manifest (axisIn (c .header))) (c .hasher)))
     (withUnlisted y)
 
 -- ---- the report
 
 -- the table goes into the tally once it is over
 unfoldable pub settled : List ℕ → Tally → Current → Report
-settled list y c =
-    cond (isComplete c) (record { passed = true; tally = withTable list y c; current = unread }) (record { passed = true; tally = y; current = c })
+settled manifest y c =
+    cond (isComplete c)
+    (record { passed = true; tally = withTable manifest y c; current = unread })
+    (record { passed = true; tally = y; current = c })
 
 -- a byte of the stream; none is looked at after the last table
 unfoldable pub byteTaken : List ℕ → Report → ℕ → Report
-byteTaken list r b = cond (ltb (tallied (r .tally)) mostTables) (settled list (r .tally) (tableByte list (r .current) b)) r
+byteTaken manifest r b =
+    cond (ltb (tallied (r .tally)) maxTables) (settled manifest (r .tally) (tableByte manifest (r .current) b)) r
 
--- each byte of a piece in turn; after a beginning that was refused, and with bytes that are not whole records or do not rise, nothing is read
+-- each byte of a piece in turn; after a beginning that was refused, and with bytes that are not whole records or do not
+-- rise, nothing is read
 unfoldable pub pieceTaken : List ℕ → Report → List ℕ → Report
-pieceTaken list r piece = cond (r .passed && isOrdered list) (foldl (byteTaken list) r piece) r
+pieceTaken manifest r piece = cond (r .passed && isOrdered manifest) (foldl (byteTaken manifest) r piece) r
 
 -- every axis awaited, by its record
 unfoldable pub awaitedAll : List ℕ → List ℕ
-awaitedAll list = tab mostRecords (λ k. digit (ltb k (recordCount list)))
+awaitedAll manifest = tab maxRecords (λ k. digit (ltb k (recordCount manifest)))
 
 -- no table read yet
 unfoldable pub freshReport : List ℕ → Report
-freshReport list =
+freshReport manifest =
     record {
       passed = true;
-      tally = record { listed = recordCount list; untold = recordCount list; equal = 0; unequal = 0; unlisted = 0; awaited = awaitedAll list };
+      tally =
+          record {
+            listed = recordCount manifest;
+            untold = recordCount manifest;
+            equal = 0;
+            unequal = 0;
+            unlisted = 0;
+            awaited = awaitedAll manifest;
+          };
       current = unread;
     }
 
 -- a report of nothing: what a refused manifest yields
-abbrev pub empty : Report
-empty =
-    record { passed = false; tally = record { listed = 0; untold = 0; equal = 0; unequal = 0; unlisted = 0; awaited = replicate mostRecords 0 }; current = unread }
+abbrev pub emptyReport : Report
+emptyReport =
+    record {
+      passed = false;
+      tally = record { listed = 0; untold = 0; equal = 0; unequal = 0; unlisted = 0; awaited = replicate maxRecords 0 };
+      current = unread;
+    }
 
 unfoldable pub begun : List ℕ → Beginning
-begun list = record { status = manifestStatus list; report = whenDone (manifestStatus list) (freshReport list) empty }
+begun manifest =
+    record {
+      status = manifestStatus manifest;
+      report = whenDone (manifestStatus manifest) (freshReport manifest) emptyReport;
+    }
 
 -- ---- the counts
 

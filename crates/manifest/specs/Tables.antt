@@ -5,7 +5,7 @@ use mathlib.Core.List.{List, [], _∷_}
 use Prim.Native.Nat.{ℕ, zero, suc, _+_}
 use lib.Dec.{leb}
 use lib.ListN.{length, take, drop}
-use Rattle.answers.specs.Numbers.{bigEndian}
+use Rattle.bytes.specs.Numbers.{bigEndian}
 
 -- a table of an axis
 pub record Table : Type 0 where
@@ -39,10 +39,10 @@ abbrev pub tablesUpTo : ℕ → List ℕ → List Table
 tablesUpTo zero stream = []
 tablesUpTo (suc n) stream = cond (isWhole stream) (firstTable stream ∷ tablesUpTo n (drop (spanOf stream) stream)) []
 
--- the most tables that a report looks at
-abbrev pub mostTables : ℕ
-mostTables = 65535
+-- the maximum number of tables that a report looks at
+abbrev pub maxTables : ℕ
+maxTables = 65535
 
 -- the tables of a stream
 unfoldable pub tablesIn : List ℕ → List Table
-tablesIn stream = tablesUpTo mostTables stream
+tablesIn stream = tablesUpTo maxTables stream

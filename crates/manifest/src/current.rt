@@ -4,23 +4,25 @@ ghost use mathlib.Core.Bool.{true};
 ghost use mathlib.Core.List.{foldl};
 ghost use Prim.Native.Nat.{_+_, _-_, _*_, _≤_, _<_};
 ghost use lib.ListN.{length};
-ghost use Rattle.answers.specs.Outputs.{mostBits};
+ghost use Rattle.answers.specs.Outputs.{maxBits};
 ghost use Rattle.hasher.specs.Pieces.{withByte};
 ghost use Rattle.manifest.specs.Lookups.{isOrdered};
 ghost use Rattle.manifest.specs.Tables.{headerBytes, axisIn, lengthIn};
-ghost use Rattle.manifest.specs.Progress.{unread, hashedUnder, openedTable, headerByte, tableByte, isComplete};
+ghost use Rattle.manifest.specs.Progress.{unread, variantFor, openedTable, headerByte, tableByte, isComplete};
 ghost use Rattle.manifest.specs.Strides.{Stride};
 use crate::records;
 use crate::records::RECORD_BYTES;
-use answers::MOST;
-use answers::MOST_BITS;
+use answers::MAX_MESSAGE_BITS;
+use answers::MAX_MESSAGE_BYTES;
+use bytes::compare::min;
 use hasher::Hasher;
 
 // Two bytes of axis number and four of length.
 const HEADER_BYTES: usize = 6;
 
-// The table that is being read: so many bytes of its header; once all of it is there, how much of the contents is still to come, and
-// the running hash of what came. A table that need not be hashed has one of variant 0, which takes nothing.
+// The table that is being read: its header and how many bytes of it came; after the last of them, the number of bytes
+// of the contents that are still to come, and the running hash of those that came. A table that need not be hashed has
+// one of variant 0, which takes nothing.
 pub struct Current {
     pub header: [u8; HEADER_BYTES],
     pub got: u8,
@@ -42,16 +44,16 @@ pub fn unread() -> Current
     }
 }
 
-// The variant under which a table of n bytes is hashed: 0, under which nothing is, where it need not be.
-fn hashed_under(manifest: &[u8], axis: u16, n: u32) -> u32
+// The variant under which a table of n bytes is hashed: 0, under which nothing is, if it need not be.
+fn variant_for(manifest: &[u8], axis: u16, n: u32) -> u32
     requires { ⌜ isOrdered (now manifest) ≡ true ⌝ }
-    ensures { λ r. ⌜ r ≡ hashedUnder (now (manifest .entry)) axis n ⌝ }
+    ensures { λ r. ⌜ r ≡ variantFor (now (manifest .entry)) axis n ⌝ }
 {
     let k = records::record_for(manifest, axis);
     if manifest.len() / RECORD_BYTES <= k {
         return 0;
     }
-    if MOST < n as usize {
+    if MAX_MESSAGE_BYTES < n as usize {
         return 0;
     }
     records::variant_at(manifest, k) as u32
@@ -60,13 +62,13 @@ fn hashed_under(manifest: &[u8], axis: u16, n: u32) -> u32
 pub fn axis_in(header: [u8; HEADER_BYTES]) -> u16
     ensures { λ r. ⌜ r ≡ axisIn header ⌝ }
 {
-    answers::u16_at(&header, 0)
+    bytes::numbers::u16_at(&header, 0)
 }
 
 fn length_in(header: [u8; HEADER_BYTES]) -> u32
     ensures { λ r. ⌜ r ≡ lengthIn header ⌝ }
 {
-    answers::u32_at(&header, 2)
+    bytes::numbers::u32_at(&header, 2)
 }
 
 // The header is there, and the contents are to come.
@@ -75,7 +77,7 @@ fn open_table(manifest: &[u8], header: [u8; HEADER_BYTES]) -> Current
     ensures { λ r. ⌜ r ≡ openedTable (now (manifest .entry)) header ⌝ }
 {
     let n = length_in(header);
-    let started = hasher::start(hashed_under(manifest, axis_in(header), n));
+    let started = hasher::start(variant_for(manifest, axis_in(header), n));
     let h = started.hasher;
     Current {
         header: header,
@@ -105,24 +107,20 @@ fn header_byte(manifest: &[u8], c: Current, b: u8) -> Current
     open_table(manifest, header)
 }
 
-fn least(a: usize, b: usize) -> usize
-    ensures { λ r. ⌜ (r ≤ a) × (r ≤ b) × (1 ≤ a → 1 ≤ b → 1 ≤ r) ⌝ }
-{
-    if a < b { a } else { b }
-}
-
-// The bytes that a running hash of so many bits can still take; any number where it can take none, since it then refuses them all.
+// The number of bytes that a running hash of `total` bits can still take; any number if it can take none, since it then
+// refuses them all.
 fn room(total: u32) -> usize
-    ensures { λ r. ⌜ (1 ≤ r) × (total + 8 ≤ mostBits → total + 8 * r ≤ mostBits) ⌝ }
+    ensures { λ r. ⌜ (1 ≤ r) × (total + 8 ≤ maxBits → total + 8 * r ≤ maxBits) ⌝ }
 {
-    if total <= MOST_BITS - 8 {
-        ((MOST_BITS - total) / 8) as usize
+    if total <= MAX_MESSAGE_BITS - 8 {
+        ((MAX_MESSAGE_BITS - total) / 8) as usize
     } else {
-        MOST
+        MAX_MESSAGE_BYTES
     }
 }
 
-// How many of the bytes that are there are read at once: one of a header, of contents all that the table has and its running hash can take.
+// The number of the available bytes that are read at once: one of a header; of contents all that the table has and its
+// running hash can take.
 pub fn stride(c: Current, available: usize) -> usize
     requires { ⌜ 1 ≤ available ⌝ }
     ensures { λ r. ⌜ (r ≤ available) × Stride c r ⌝ }
@@ -134,10 +132,10 @@ pub fn stride(c: Current, available: usize) -> usize
     if c.left == 0 {
         return 1;
     }
-    least(least(available, c.left as usize), room(c.hasher.total))
+    min(min(available, c.left as usize), room(c.hasher.total))
 }
 
-// What is left of a when b is taken away, and 0 where b is more.
+// What is left of a when b is taken away, and 0 if b is more.
 pub fn minus(a: u32, b: u32) -> u32
     ensures { λ r. ⌜ r ≡ a - b ⌝ }
 {
@@ -147,7 +145,7 @@ pub fn minus(a: u32, b: u32) -> u32
 // The running hash after some bytes more, which it takes whole or not at all.
 fn with_bytes(h: Hasher, part: &[u8]) -> Hasher
     requires { ⌜ 1 ≤ length (now part) ⌝ }
-    requires { ⌜ (h .total + 8 ≤ mostBits → h .total + 8 * length (now part) ≤ mostBits) ⌝ }
+    requires { ⌜ (h .total + 8 ≤ maxBits → h .total + 8 * length (now part) ≤ maxBits) ⌝ }
     ensures { λ r. ⌜ r ≡ foldl withByte h (now (part .entry)) ⌝ }
 {
     let u = hasher::update(h, part);

@@ -4,11 +4,11 @@ mod records;
 mod report;
 mod tally;
 
-pub use records::MOST_RECORDS;
+pub use records::MAX_RECORDS;
 pub use records::RECORD_BYTES;
 pub use records::check;
 pub use report::Beginning;
-pub use report::MOST_TABLES;
+pub use report::MAX_TABLES;
 pub use report::Report;
 pub use report::Summary;
 pub use report::start;

@@ -2,32 +2,32 @@
 ghost use mathlib.Core.Path.{_≡_};
 ghost use mathlib.Core.Bool.{true};
 ghost use Prim.Native.Nat.{_*_, _+_, _≤_, _<_};
-ghost use lib.ListN.{drop};
 ghost use Rattle.answers.specs.Checks.{firstRefusal};
-ghost use Rattle.manifest.specs.Records.{isManifest, recordCount, axisAt, variantAt, filledAt, zeros, risesAt, recordChecks, manifestStatus};
+ghost use Rattle.manifest.specs.Records.{isManifest, recordCount, axisAt, variantAt, digestFieldAt, risesAt, recordChecks, manifestStatus};
 ghost use Rattle.manifest.specs.Lookups.{isOrdered, recordFor};
 ghost use Rattle.manifest.specs.Places.{Place};
 use answers::Refusal;
 use answers::Status;
+use bytes::compare::zero_from;
 use chain::DIGEST_BYTES;
 
 // A record: two bytes of axis number, one of variant, and 32 of the digest and the filler after it.
 pub const RECORD_BYTES: usize = 35;
 
-pub const MOST_RECORDS: usize = 512;
+pub const MAX_RECORDS: usize = 512;
 
 // Whole records, and no more than 512 of them.
 fn is_manifest(manifest: &[u8]) -> bool
     ensures { λ r. ⌜ r ≡ isManifest (now (manifest .entry)) ⌝ }
 {
-    manifest.len() % RECORD_BYTES == 0 && manifest.len() <= MOST_RECORDS * RECORD_BYTES
+    manifest.len() % RECORD_BYTES == 0 && manifest.len() <= MAX_RECORDS * RECORD_BYTES
 }
 
 fn axis_at(manifest: &[u8], k: usize) -> u16
     requires { ⌜ k < recordCount (now manifest) ⌝ }
     ensures { λ r. ⌜ r ≡ axisAt (now (manifest .entry)) k ⌝ }
 {
-    answers::u16_at(manifest, RECORD_BYTES * k)
+    bytes::numbers::u16_at(manifest, RECORD_BYTES * k)
 }
 
 pub fn variant_at(manifest: &[u8], k: usize) -> u8
@@ -37,27 +37,13 @@ pub fn variant_at(manifest: &[u8], k: usize) -> u8
     manifest[RECORD_BYTES * k + 2]
 }
 
-// The digest of record k and its filler, where they lie in the manifest.
-pub fn filled_at<'a>(manifest: &'a [u8], k: usize) -> &'a [u8]
+// The 32 bytes of record k's digest and of the filler after it, in the manifest itself.
+pub fn digest_field_at<'a>(manifest: &'a [u8], k: usize) -> &'a [u8]
     requires { ⌜ k < recordCount (now manifest) ⌝ }
-    ensures { λ r. ⌜ now r ≡ filledAt (now (manifest .entry)) k ⌝ }
+    ensures { λ r. ⌜ now r ≡ digestFieldAt (now (manifest .entry)) k ⌝ }
 {
     let a = RECORD_BYTES * k + 3;
     &manifest[a..a + DIGEST_BYTES]
-}
-
-// Whether every byte from `from` on is zero.
-fn zero_from(bytes: &[u8], from: usize) -> bool
-    ensures { λ r. ⌜ r ≡ zeros (drop from (now (bytes .entry))) ⌝ }
-{
-    let mut i = from;
-    while i < bytes.len() {
-        if bytes[i] != 0 {
-            return false;
-        }
-        i += 1;
-    }
-    true
 }
 
 // Whether the axis number of record k is above the one before it.
@@ -80,7 +66,7 @@ fn check_record(manifest: &[u8], k: usize) -> Status
     if !chain::sizes::is_known(v as u32) {
         return Status::Refused(Refusal::BadRecord);
     }
-    if !zero_from(filled_at(manifest, k), chain::sizes::digest_bytes(v)) {
+    if !zero_from(digest_field_at(manifest, k), chain::sizes::digest_bytes(v)) {
         return Status::Refused(Refusal::BadRecord);
     }
     if !rises_at(manifest, k) {
@@ -100,11 +86,10 @@ pub fn check(manifest: &[u8]) -> Status
     let mut k = 0;
     while k < n {
         let s = check_record(manifest, k);
-        if let Status::Done = s {
-            k += 1;
-        } else {
+        let Status::Done = s else {
             return s;
-        }
+        };
+        k += 1;
     }
     Status::Done
 }
@@ -127,7 +112,7 @@ pub fn is_ordered(manifest: &[u8]) -> bool
     true
 }
 
-// Where an axis stands, or would stand: by bisection, since the numbers rise.
+// The place at which an axis stands, or would stand: by bisection, since the numbers rise.
 fn place_of(manifest: &[u8], axis: u16) -> usize
     requires { ⌜ isOrdered (now manifest) ≡ true ⌝ }
     ensures { λ r. ⌜ Place (now (manifest .entry)) axis r ⌝ }
@@ -145,7 +130,7 @@ fn place_of(manifest: &[u8], axis: u16) -> usize
     low
 }
 
-// The record of an axis; the record count where there is none.
+// The record of an axis; the record count if there is none.
 pub fn record_for(manifest: &[u8], axis: u16) -> usize
     requires { ⌜ isOrdered (now manifest) ≡ true ⌝ }
     ensures { λ r. ⌜ (r ≡ recordFor (now (manifest .entry)) axis) × (r ≤ recordCount (now (manifest .entry))) ⌝ }

@@ -1,4 +1,5 @@
-// The report of an installation: its tables come as a stream, in pieces cut anywhere, and each is hashed as its bytes come.
+// The report of an installation: its tables come as a stream, in pieces cut anywhere, and each is hashed as its bytes
+// come.
 ghost use mathlib.Core.Path.{_≡_};
 ghost use mathlib.Core.Bool.{true};
 ghost use mathlib.Core.List.{foldl};
@@ -6,21 +7,21 @@ ghost use Prim.Native.Nat.{_<_};
 ghost use lib.ListN.{length};
 ghost use Rattle.manifest.specs.Records.{isManifest};
 ghost use Rattle.manifest.specs.Lookups.{isOrdered};
-ghost use Rattle.manifest.specs.Tables.{mostTables};
-ghost use Rattle.manifest.specs.Progress.{tallied, settled, byteTaken, pieceTaken, freshReport, begun, countsSoFar};
+ghost use Rattle.manifest.specs.Tables.{maxTables};
+ghost use Rattle.manifest.specs.Progress.{tallied, settled, byteTaken, pieceTaken, freshReport, emptyReport, begun, countsSoFar};
 ghost use Rattle.manifest.specs.Strides.{Stride};
 use crate::current;
 use crate::current::Current;
 use crate::records;
-use crate::records::MOST_RECORDS;
+use crate::records::MAX_RECORDS;
 use crate::tally;
 use crate::tally::Tally;
 use answers::Status;
 
-// The most tables that a report looks at.
-pub const MOST_TABLES: u32 = 65535;
+// The maximum number of tables that a report looks at.
+pub const MAX_TABLES: u32 = 65535;
 
-// A report in progress. Where the manifest was refused at its beginning, it takes nothing.
+// A report in progress. If the manifest was refused at its beginning, it takes nothing.
 pub struct Report {
     pub passed: bool,
     pub tally: Tally,
@@ -63,38 +64,45 @@ fn fresh_report(manifest: &[u8]) -> Report
     }
 }
 
+// The report of a manifest that was refused.
+fn empty_report() -> Report
+    ensures { λ r. ⌜ r ≡ emptyReport ⌝ }
+{
+    Report {
+        passed: false,
+        tally: Tally {
+            listed: 0,
+            untold: 0,
+            equal: 0,
+            unequal: 0,
+            unlisted: 0,
+            awaited: [0u8; MAX_RECORDS],
+        },
+        current: current::unread(),
+    }
+}
+
 // A report with no table read yet: refusals 12, 13, 14.
 pub fn start(manifest: &[u8]) -> Beginning
     ensures { λ r. ⌜ r ≡ begun (now (manifest .entry)) ⌝ }
 {
     let status = records::check(manifest);
-    if let Status::Done = status {
+    let Status::Done = status else {
         return Beginning {
-            status: Status::Done,
-            report: fresh_report(manifest),
+            status: status,
+            report: empty_report(),
         };
-    }
+    };
     Beginning {
-        status: status,
-        report: Report {
-            passed: false,
-            tally: Tally {
-                listed: 0,
-                untold: 0,
-                equal: 0,
-                unequal: 0,
-                unlisted: 0,
-                awaited: [0u8; MOST_RECORDS],
-            },
-            current: current::unread(),
-        },
+        status: Status::Done,
+        report: fresh_report(manifest),
     }
 }
 
 // A table that is complete goes into the tally.
 fn settle(manifest: &[u8], y: Tally, c: Current) -> Report
     requires { ⌜ isOrdered (now manifest) ≡ true ⌝ }
-    requires { ⌜ tallied y < mostTables ⌝ }
+    requires { ⌜ tallied y < maxTables ⌝ }
     ensures { λ r. ⌜ r ≡ settled (now (manifest .entry)) y c ⌝ }
 {
     if current::is_complete(c) {
@@ -114,7 +122,7 @@ fn settle(manifest: &[u8], y: Tally, c: Current) -> Report
 // Some bytes of the stream, of which only the last can end a table.
 fn stepped(manifest: &[u8], r: Report, part: &[u8]) -> Report
     requires { ⌜ isOrdered (now manifest) ≡ true ⌝ }
-    requires { ⌜ tallied (r .tally) < mostTables ⌝ }
+    requires { ⌜ tallied (r .tally) < maxTables ⌝ }
     requires { ⌜ Stride (r .current) (length (now part)) ⌝ }
     ensures { λ s. ⌜ s ≡ foldl (byteTaken (now (manifest .entry))) r (now (part .entry)) ⌝ }
 {
@@ -138,7 +146,7 @@ pub fn update(manifest: &[u8], report: Report, piece: &[u8]) -> Report
         return latest;
     }
     let mut i = 0;
-    while i < piece.len() && tally::tallied(latest.tally) < MOST_TABLES {
+    while i < piece.len() && tally::tallied(latest.tally) < MAX_TABLES {
         let n = current::stride(latest.current, piece.len() - i);
         let next = stepped(manifest, latest, &piece[i..i + n]);
         latest = next;

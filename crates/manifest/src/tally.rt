@@ -2,34 +2,33 @@
 ghost use mathlib.Core.Path.{_≡_};
 ghost use mathlib.Core.Bool.{true};
 ghost use Prim.Native.Nat.{_≤_, _<_};
-ghost use lib.ListN.{length};
 ghost use Rattle.standard.specs.Bits.{digit};
-ghost use Rattle.manifest.specs.Lists.{same};
-ghost use Rattle.manifest.specs.Records.{mostRecords, isManifest, recordCount};
+ghost use Rattle.manifest.specs.Records.{maxRecords, isManifest, recordCount};
 ghost use Rattle.manifest.specs.Lookups.{isOrdered};
-ghost use Rattle.manifest.specs.Tables.{mostTables};
+ghost use Rattle.manifest.specs.Tables.{maxTables};
 ghost use Rattle.manifest.specs.Progress.{tallied, matches, withListed, withUnlisted, withTable, awaitedAll};
 use crate::current::Current;
 use crate::current::axis_in;
 use crate::current::minus;
 use crate::records;
-use crate::records::MOST_RECORDS;
+use crate::records::MAX_RECORDS;
 use crate::records::RECORD_BYTES;
 use answers::Status;
-use hasher::Hasher;
+use bytes::compare::is_same;
 use chain::DIGEST_BYTES;
+use hasher::Hasher;
 
-// The tables read so far. Where no table of record k's axis has come, awaited[k] is 1.
+// The tables read so far. As long as no table of record k's axis has come, awaited[k] is 1.
 pub struct Tally {
     pub listed: u16,
     pub untold: u16,
     pub equal: u16,
     pub unequal: u16,
     pub unlisted: u16,
-    pub awaited: [u8; MOST_RECORDS],
+    pub awaited: [u8; MAX_RECORDS],
 }
 
-// 1 where the condition holds.
+// 1 if the condition holds, and 0 if not.
 fn one_if(b: bool) -> u8
     ensures { λ r. ⌜ (r ≡ digit b) × (r ≤ 1) ⌝ }
 {
@@ -37,12 +36,12 @@ fn one_if(b: bool) -> u8
 }
 
 // At the beginning every axis is awaited, by its record.
-pub fn awaited_all(manifest: &[u8]) -> [u8; MOST_RECORDS]
+pub fn awaited_all(manifest: &[u8]) -> [u8; MAX_RECORDS]
     requires { ⌜ isManifest (now manifest) ≡ true ⌝ }
     ensures { λ r. ⌜ r ≡ awaitedAll (now (manifest .entry)) ⌝ }
 {
     let n = manifest.len() / RECORD_BYTES;
-    let mut out = [0u8; MOST_RECORDS];
+    let mut out = [0u8; MAX_RECORDS];
     let mut k = 0;
     while k < n {
         out[k] = 1;
@@ -51,7 +50,7 @@ pub fn awaited_all(manifest: &[u8]) -> [u8; MOST_RECORDS]
     out
 }
 
-// How many axes are listed: each record has its own.
+// The number of axes that are listed: each record has its own.
 pub fn listed(manifest: &[u8]) -> u16
     requires { ⌜ isManifest (now manifest) ≡ true ⌝ }
     ensures { λ r. ⌜ r ≡ recordCount (now (manifest .entry)) ⌝ }
@@ -59,26 +58,12 @@ pub fn listed(manifest: &[u8]) -> u16
     (manifest.len() / RECORD_BYTES) as u16
 }
 
-// How many tables were read. Since none of the three counts is above it, none passes its type while this is below the most tables.
+// The number of tables that were read. None of the three counts is above it, so none outgrows its type while this is
+// below the maximum.
 pub fn tallied(y: Tally) -> u32
     ensures { λ r. ⌜ r ≡ tallied y ⌝ }
 {
     y.equal as u32 + y.unequal as u32 + y.unlisted as u32
-}
-
-// Whether two rows of bytes are the same.
-fn is_same(a: &[u8], b: &[u8]) -> bool
-    requires { ⌜ length (now a) ≡ length (now b) ⌝ }
-    ensures { λ r. ⌜ r ≡ same (now (a .entry)) (now (b .entry)) ⌝ }
-{
-    let mut i = 0;
-    while i < a.len() {
-        if a[i] != b[i] {
-            return false;
-        }
-        i += 1;
-    }
-    true
 }
 
 // Whether a running hash ends in the digest of record k.
@@ -89,16 +74,17 @@ fn matches(manifest: &[u8], k: usize, h: Hasher) -> bool
     let mut digest = [0u8; DIGEST_BYTES];
     let ended = hasher::finish(h);
     let status = hasher::digest(ended.hasher, &mut digest);
-    if let Status::Done = status {
-        return is_same(&digest, records::filled_at(manifest, k));
-    }
-    false
+    let Status::Done = status else {
+        return false;
+    };
+    is_same(&digest, records::digest_field_at(manifest, k))
 }
 
-// The tally with a table of record k. Its axis is awaited no longer, so that a second table of it leaves the untold ones as they are.
+// The tally with a table of record k. Its axis is awaited no longer, so that a second table of it leaves `untold` as it
+// is.
 fn with_listed(y: Tally, k: usize, agrees: bool) -> Tally
-    requires { ⌜ k < mostRecords ⌝ }
-    requires { ⌜ tallied y < mostTables ⌝ }
+    requires { ⌜ k < maxRecords ⌝ }
+    requires { ⌜ tallied y < maxTables ⌝ }
     ensures { λ r. ⌜ r ≡ withListed y k agrees ⌝ }
 {
     let mut awaited = y.awaited;
@@ -120,7 +106,7 @@ fn with_listed(y: Tally, k: usize, agrees: bool) -> Tally
 
 // The tally with a table of no listed axis.
 fn with_unlisted(y: Tally) -> Tally
-    requires { ⌜ tallied y < mostTables ⌝ }
+    requires { ⌜ tallied y < maxTables ⌝ }
     ensures { λ r. ⌜ r ≡ withUnlisted y ⌝ }
 {
     let awaited = y.awaited;
@@ -137,7 +123,7 @@ fn with_unlisted(y: Tally) -> Tally
 // The tally with the table that was read.
 pub fn with_table(manifest: &[u8], y: Tally, c: Current) -> Tally
     requires { ⌜ isOrdered (now manifest) ≡ true ⌝ }
-    requires { ⌜ tallied y < mostTables ⌝ }
+    requires { ⌜ tallied y < maxTables ⌝ }
     ensures { λ r. ⌜ r ≡ withTable (now (manifest .entry)) y c ⌝ }
 {
     let header = c.header;

@@ -12,7 +12,7 @@ use Rattle.standard.specs.Chain.{blockCount}
 use Rattle.standard.specs.Messages.{Given, givenBits}
 use Rattle.standard.specs.Variants.{variant}
 use Rattle.chain.specs.Messages.{messageChecks, Alike}
-use Rattle.chain.proofs.PartBytes.{alike-asked}
+use Rattle.chain.proofs.MessageLaws.{alike-asked}
 use Rattle.recover.specs.Recovering.{placedChecks, foundChecks, recoveredBlock, recoverStatus, recoverInto}
 use Rattle.recover.specs.Promises.{RecoverAlike}
 

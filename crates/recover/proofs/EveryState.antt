@@ -25,7 +25,7 @@ use Rattle.standard.proofs.OneBlock.{block-length}
 use Rattle.standard.proofs.ImageStates.{state-image}
 use Rattle.standard.proofs.Variants.{streams}
 use Rattle.chain.specs.Messages.{messageChecks}
-use Rattle.chain.proofs.PartBytes.{message-passes}
+use Rattle.chain.proofs.MessageLaws.{message-passes}
 use Rattle.chain.proofs.ImageOfState.{image-is-image}
 use Rattle.recover.specs.Leading.{endStateWith, NoneLeads, OnlyLeads}
 use Rattle.recover.specs.Difference.{difference}

@@ -22,7 +22,7 @@ use Rattle.standard.specs.Layout.{clear}
 use Rattle.bytes.proofs.Clear.{clear-zeros, zeros-clear}
 use Rattle.chain.proofs.ImageLaws.{image-state}
 use Rattle.chain.specs.Messages.{messageChecks}
-use Rattle.chain.proofs.PartBytes.{message-passed}
+use Rattle.chain.proofs.MessageLaws.{message-passed}
 use Rattle.recover.specs.Leading.{leading, NoneLeads, OnlyLeads}
 use Rattle.recover.specs.Difference.{difference}
 use Rattle.recover.specs.Recovering.{isEmpty, blockSize, placedChecks, leadingTo, foundChecks, recoveredBlock, askedChecks, recoverStatus}

@@ -17,7 +17,7 @@ use Rattle.standard.specs.Messages.{givenBits}
 use Rattle.standard.specs.Variants.{variant}
 use Rattle.standard.proofs.Streaming.{block-count}
 use Rattle.chain.specs.Messages.{messageChecks}
-use Rattle.chain.proofs.PartBytes.{message-passes}
+use Rattle.chain.proofs.MessageLaws.{message-passes}
 use Rattle.recover.specs.Recovering.{searchable, placedChecks, foundChecks, recoverStatus}
 use Rattle.recover.specs.Promises.{OtherPlace}
 

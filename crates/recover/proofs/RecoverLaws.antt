@@ -17,7 +17,7 @@ use Rattle.answers.specs.Checks.{Check, firstRefusal}
 use Rattle.answers.specs.Outputs.{written}
 use Rattle.answers.proofs.Statuses.{kept}
 use Rattle.answers.proofs.Rows.{passing-says, row-first, row-second}
-use Rattle.answers.proofs.ByteLaws.{take-bytes}
+use Rattle.bytes.proofs.ByteLaws.{take-bytes}
 use Rattle.standard.specs.Bits.{high-first, bitsIn, pack, unpack}
 use Rattle.standard.specs.Families.{Variant, order, stateIn}
 use Rattle.standard.specs.Chain.{blocksOf, blockCount}

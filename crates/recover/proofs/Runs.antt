@@ -26,9 +26,10 @@ use Rattle.standard.specs.Layout.{stateRoom, packedState, packedBlock}
 use Rattle.chain.specs.Holding.{blockIn, Holds}
 use Rattle.chain.specs.TakenBack.{permutedState, unstep, unrun}
 use Rattle.chain.proofs.TakenBack.{unrun-one, unrun-none, unrun-length, wanted-length}
-use Rattle.chain.specs.Blocks.{heldThen, firstBlocks}
+use Rattle.chain.specs.Blocks.{noneHeld, bitsAfter, blockFrom, firstBlocks, afterBlocks}
+use Rattle.chain.specs.declared.blocks.Held.{Held}
 use Rattle.chain.proofs.BlockRows.{withOne, length-first, first-take, marked-at, marked-blocks, heldThen-alone}
-use Rattle.chain.specs.Endings.{markedCount, lengthBlocks}
+use Rattle.chain.specs.Padding.{dataBlocks, lengthBlocks}
 use Rattle.chain.proofs.LastBlocks.{ending-blocks, place-marked, count-most}
 use Rattle.chain.proofs.BlockRuns.{block-read, block-is, place-le}
 use Rattle.bytes.proofs.LayoutLaws.{packed-bits, holds}
@@ -36,8 +37,8 @@ use Rattle.chain.proofs.States.{stored, stored-ready}
 use Rattle.recover.specs.Difference.{stateBefore, stateBehind, between, difference}
 use Rattle.recover.proofs.Searching.{between-sponge}
 use Rattle.standard.specs.Lesamnta.{cipher}
-use Rattle.chain.specs.Parts.{messageIn, HoldsMessage}
-use Rattle.chain.proofs.PartBytes.{held-length}
+use Rattle.chain.specs.MessageBytes.{messageIn, HoldsMessage}
+use Rattle.chain.proofs.MessageLaws.{held-length}
 
 -- the blocks of a message of n bits that the code holds
 pub count-held : (v : ℕ) {front : List ℕ} {last n count : ℕ} → HoldsMessage front last n → count ≡ blockCount (variant v) n → count ≡ length (blocksOf (variant v) (messageIn front last n))
@@ -74,7 +75,7 @@ module _ (v : ℕ) (k : known v ≡ true) {front : List ℕ} {last n : ℕ} (h :
   unfolding blocksOf padded
   first-blocks j l =
       let n : ℕ = length M in
-      let c : ℕ = markedCount H n in
+      let c : ℕ = dataBlocks H n in
       let among : j ≤ c = place-marked v k n j (subst (λ (m : ℕ). j < m) (block-count H M) l) in
       ap (take j) (ending-blocks v k M n refl)
       ∙ take-append-le j (firstBlocks (H .r) c (withOne M)) (lengthBlocks H n) (omega (arith, length-first (H .r) (withOne M) c))
@@ -83,11 +84,14 @@ module _ (v : ℕ) (k : known v ≡ true) {front : List ℕ} {last n : ℕ} (h :
 
   -- ---- run forward, with nothing held before the message
 
-  run-before : (s x held : List ℕ) (j : ℕ) → j < length bs → s ≡ packedState H (startState H)
-      → x ≡ packedState H (run H (stateIn H s) (firstBlocks (H .r) j (heldThen held 0 bytes))) → x ≡ packedState H (run H (startState H) (take j bs))
-  run-before s x held j l es ex =
+  alone : (held : Held) → held ≡ noneHeld → bitsAfter held bytes ≡ bitsIn high-first bytes
+  alone held eh = ap (λ (x : Held). bitsAfter x bytes) eh ∙ heldThen-alone _ bytes
+
+  run-before : (s x : List ℕ) (held : Held) → held ≡ noneHeld → (j : ℕ) → j < length bs → s ≡ packedState H (startState H)
+      → x ≡ packedState H (afterBlocks H (stateIn H s) held bytes j) → x ≡ packedState H (run H (startState H) (take j bs))
+  run-before s x held eh j l es ex =
       ex
-      ∙ ap₂ (λ (y z : List Bool). packedState H (run H y (firstBlocks (H .r) j z))) (stored v k s (startState H) (streams v k .start-length) es) (heldThen-alone held bytes)
+      ∙ ap₂ (λ (y z : List Bool). packedState H (run H y (firstBlocks (H .r) j z))) (stored v k s (startState H) (streams v k .start-length) es) (alone held eh)
       ∙ ap (λ (z : List (List Bool)). packedState H (run H (startState H) z)) (sym (first-blocks j l))
 
   -- ---- of a sponge, taken back from the state e
@@ -113,20 +117,20 @@ module _ (v : ℕ) (k : known v ≡ true) {front : List ℕ} {last n : ℕ} (h :
     pub back-start : (j : ℕ) → j ≡ length bs → e ≡ before j
     back-start j p = sym (ap before p ∙ ap (unrun H e) (drop-length bs) ∙ unrun-none H (is-sponge v q) e)
 
-    -- the same place, as the loop counts it before and behind a turn
+    -- the same place, as the loop counts it before and after a turn
     pub back-at : (i j : ℕ) → i ≡ j → (s : List ℕ) → s ≡ packedState H (before i) → s ≡ packedState H (before j)
     back-at i j p s z = z ∙ ap (λ (n : ℕ). packedState H (before n)) p
 
     pub back-ready : (j : ℕ) (s : List ℕ) → s ≡ packedState H (before j) → Holds v s
     back-ready j s z = stored-ready v k s (before j) (before-size j) z
 
-    pub back-more : (w : ℕ) → w ≡ H .r / 4 → (j : ℕ) (s held x next : List ℕ) → j < length bs → s ≡ packedState H (before (j + 1))
-        → x ≡ packedBlock (filled (4 * w) (drop (4 * (j * w)) (heldThen held 0 bytes)))
+    pub back-more : (w : ℕ) → w ≡ H .r / 4 → (j : ℕ) (s x next : List ℕ) (held : Held) → held ≡ noneHeld → j < length bs → s ≡ packedState H (before (j + 1))
+        → x ≡ packedBlock (blockFrom held bytes (j * w) w)
         → next ≡ packedState H (unstep H (stateIn H s) (blockIn H x)) → next ≡ packedState H (before j)
-    back-more w ew j s held x next l es ex en =
+    back-more w ew j s x next held eh l es ex en =
         let B : List Bool = filled (H .r) (drop (j * H .r) (bitsIn high-first bytes)) in
         let block : x ≡ packedBlock B =
-        ex ∙ ap packedBlock (block-is v k w ew (heldThen held 0 bytes) j) ∙ ap (λ (z : List Bool). packedBlock (filled (H .r) (drop (j * H .r) z))) (heldThen-alone held bytes) in
+        ex ∙ ap packedBlock (block-is v k w ew (bitsAfter held bytes) j) ∙ ap (λ (z : List Bool). packedBlock (filled (H .r) (drop (j * H .r) z))) (alone held eh) in
         en
         ∙ ap₂ (λ (y z : List Bool). packedState H (unstep H y z)) (stored v k s (before (j + 1)) (before-size (j + 1)) es)
         (block-read v k x B (length-filled (H .r) (drop (j * H .r) (bitsIn high-first bytes))) block ∙ sym (block-at j l))
@@ -151,7 +155,7 @@ states-xored v k p q x S Z lS lZ hx lx ep eq ex =
     ∙ xorInto-append S (replicate (288 - t) false) Z (replicate (288 - t) false) (lS ∙ sym lZ)
     ∙ ap (λ (l : List Bool). xorInto S Z ++ l) (xorInto-zeros (replicate (288 - t) false) (288 - t)))
 
--- what lies between the state before the place, run forward, and the state behind it
+-- what lies between the state before the place, run forward, and the state after it
 module _ (v : ℕ) (k : known v ≡ true) {front : List ℕ} {last n : ℕ} (h : HoldsMessage front last n) (e : List Bool) (le : length e ≡ variant v .t)
     (place : ℕ) (within : place < length (blocksOf (variant v) (messageIn front last n))) where
   abbrev K : Variant
@@ -163,10 +167,10 @@ module _ (v : ℕ) (k : known v ≡ true) {front : List ℕ} {last n : ℕ} (h :
   before-long : length (stateBefore K m place) ≡ K .t
   before-long = run-length K (streams v k) (take place (blocksOf K m)) (startState K) (streams v k .start-length)
 
-  module _ (s x held : List ℕ) (es : s ≡ packedState (variant v) (startState (variant v)))
-      (ex : x ≡ packedState (variant v) (run (variant v) (stateIn (variant v) s) (firstBlocks (variant v .r) place (heldThen held 0 (front ++ last ∷ []))))) where
+  module _ (s x : List ℕ) (es : s ≡ packedState (variant v) (startState (variant v))) (held : Held) (eh : held ≡ noneHeld)
+      (ex : x ≡ packedState (variant v) (afterBlocks (variant v) (stateIn (variant v) s) held (front ++ last ∷ []) place)) where
     before-held : x ≡ packedState K (stateBefore K m place)
-    before-held = run-before v k h s x held place within es ex
+    before-held = run-before v k h s x held eh place within es ex
 
     pub before-ready : Holds v x
     before-ready = stored-ready v k x (stateBefore K m place) before-long before-held
@@ -185,7 +189,7 @@ module _ (v : ℕ) (k : known v ≡ true) {front : List ℕ} {last n : ℕ} (h :
         er
         ∙ ap (packedState K) (sym (between-sponge (K .family) q K (stateBefore K m place) (stateBehind K m place e)))
 
-    -- of what is no sponge, at the last place: no block is behind it
+    -- of what is no sponge, at the last place: no block is after it
     pub last-held : suc place ≡ length (blocksOf (variant v) (messageIn front last n)) → (r : List ℕ) → r ≡ packedState K (between (K .family) K (stateIn K x) e) → r ≡ packedState K (difference K m place e)
     unfolding unrun
     last-held final r er =

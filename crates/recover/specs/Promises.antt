@@ -9,7 +9,7 @@ use lib.ListN.{length, drop, getD}
 use Rattle.answers.specs.declared.Refusal.the-variants.{NoBlock, NotSponge}
 use Rattle.answers.specs.declared.Status.the-variants.{Done, Refused}
 use Rattle.answers.specs.Checks.{firstRefusal}
-use Rattle.answers.specs.Outputs.{mostBits}
+use Rattle.answers.specs.Outputs.{maxBits}
 use Rattle.standard.specs.Bits.{high-first, pack}
 use Rattle.standard.specs.Families.{isSponge, imageOf, stateIn}
 use Rattle.standard.specs.Chain.{blocksOf, endState}
@@ -41,7 +41,7 @@ BlockGiven =
 pub record Searched (v : ℕ) (g : Given) (place : ℕ) (out : List ℕ) : Type 0 where
   pub named : known v ≡ true
   pub fits : Fits g
-  pub few : length (givenBits (variant v) g) ≤ mostBits
+  pub few : length (givenBits (variant v) g) ≤ maxBits
   pub within : place < length (blocksOf (variant v) (givenBits (variant v) g))
   pub way : searchable (variant v) (length (blocksOf (variant v) (givenBits (variant v) g))) place ≡ true
   pub room : blockSize (variant v) ≤ length out
@@ -100,7 +100,7 @@ LastWay = (v count place : ℕ) → suc place ≡ count → searchable (variant 
 -- Of what is no sponge, a place below the block count that is not the last gives 17, whatever the image and the output are.
 abbrev pub OtherPlace : Type 0
 OtherPlace =
-    (v : ℕ) → known v ≡ true → isSponge (variant v) ≡ false → (g : Given) → Fits g → length (givenBits (variant v) g) ≤ mostBits
+    (v : ℕ) → known v ≡ true → isSponge (variant v) ≡ false → (g : Given) → Fits g → length (givenBits (variant v) g) ≤ maxBits
     → (place : ℕ) → place < length (blocksOf (variant v) (givenBits (variant v) g)) → (suc place ≡ length (blocksOf (variant v) (givenBits (variant v) g)) → ⊥)
     → (image : List ℕ) (n : ℕ) → recoverStatus v g place image n ≡ Refused NotSponge
 

@@ -14,16 +14,19 @@ ghost use Rattle.answers.specs.Checks.{firstRefusal};
 ghost use Rattle.answers.specs.Outputs.{written};
 ghost use Rattle.standard.specs.Layout.{packedState};
 ghost use Rattle.chain.specs.Holding.{Holds};
-ghost use Rattle.chain.specs.Parts.{given, messageIn, HoldsMessage};
+ghost use Rattle.chain.specs.MessageBytes.{given, messageIn, HoldsMessage};
 ghost use Rattle.recover.specs.Difference.{stateBehind, between, difference};
 ghost use Rattle.recover.specs.Recovering.{blockSize, searchable, placedChecks, foundChecks, recoveredBlock, recoverStatus, recoverInto};
 use answers::Refusal;
 use answers::Status;
 use chain::STATE_BYTES;
 use chain::blocks;
+use chain::blocks::Held;
 use chain::images;
-use chain::parts;
-use chain::parts::Ending;
+use chain::message;
+use chain::message::Ending;
+use chain::outcome;
+use chain::padding;
 use chain::plain;
 use chain::sizes;
 use chain::state;
@@ -36,7 +39,7 @@ pub fn block_bytes(v: u8) -> usize
     (sizes::block_bits(v) as usize + 7) / 8
 }
 
-// The state of a sponge behind block `place` if the message ends in the state `end`: the blocks behind it taken back, the last first.
+// The state of a sponge after block `place` if the message ends in the state `end`: the blocks after it taken back, the last first.
 fn run_back(
     v: u8,
     front: &[u8],
@@ -52,18 +55,19 @@ fn run_back(
     ensures { λ r. ⌜ r ≡ packedState (variant v) (stateBehind (variant v) (messageIn (now (front .entry)) last bits) place (stateIn (variant v) end)) ⌝ }
 {
     let q = (sizes::block_bits(v) / 4) as usize;
-    let n = sizes::block_count(v, bits);
+    let n = padding::block_count(v, bits);
+    let none = Held::none();
     let mut s = end;
     for i in place + 1..n {
         let j = place + n - i;
-        let block = blocks::block_at(b"", 0, front, last, j * q, q);
+        let block = blocks::block_at(none, front, last, j * q, q);
         let before = plain::unstepped(v, s, block);
         s = before;
     }
     s
 }
 
-// The second half of a state of Lesamnta-LW, behind zeros.
+// The second half of a state of Lesamnta-LW, after zeros.
 fn second_half(s: [u8; STATE_BYTES]) -> [u8; STATE_BYTES]
     ensures { λ r. ⌜ r ≡ replicate 16 0 ++ drop 16 s ⌝ }
 {
@@ -76,7 +80,8 @@ fn second_half(s: [u8; STATE_BYTES]) -> [u8; STATE_BYTES]
     out
 }
 
-// What lies between two states of Lesamnta-LW: what was enciphered under the key in the first, with the half of it that went in beside the block xored out.
+// What lies between two states of Lesamnta-LW: what was enciphered under the key in the first, with the half of it that went in beside the block
+// xored out.
 fn cipher_difference(s: [u8; STATE_BYTES], end: [u8; STATE_BYTES]) -> [u8; STATE_BYTES]
     requires { ⌜ Holds 11 s ⌝ }
     ensures { λ r. ⌜ r ≡ packedState (variant 11) (between (variant 11 .family) (variant 11) (stateIn (variant 11) s) (stateIn (variant 11) end)) ⌝ }
@@ -87,8 +92,8 @@ fn cipher_difference(s: [u8; STATE_BYTES], end: [u8; STATE_BYTES]) -> [u8; STATE
     plain::xored(enciphered, &half)
 }
 
-// What lies between the states on both sides of the place. For a sponge it is the state before the block, and the one that the permutation has to take to the state behind
-// it, xored.
+// What lies between the states on both sides of the place. For a sponge it is the state before the block, and the one that the permutation has to take
+// to the state after it, xored.
 fn difference(
     v: u8,
     front: &[u8],
@@ -105,16 +110,16 @@ fn difference(
     ensures { λ r. ⌜ r ≡ packedState (variant v) (difference (variant v) (messageIn (now (front .entry)) last bits) place (stateIn (variant v) end)) ⌝ }
 {
     let start = state::start(v);
-    let before = chain::outcome::run_blocks(v, start, b"", 0, front, last, place);
+    let before = outcome::run_blocks(v, start, Held::none(), front, last, place);
     if !sizes::is_sponge(v) {
         return cipher_difference(before, end);
     }
-    let behind = run_back(v, front, last, bits, place, end);
-    let wanted = state::permuted(v, behind, Direction::Backward);
+    let after = run_back(v, front, last, bits, place, end);
+    let wanted = state::permuted(v, after, Direction::Backward);
     plain::xored(before, &wanted)
 }
 
-// The block that leads to the state of an image, written over the front of the output: refusal 8 where none does.
+// The block that leads to the state of an image, written over the front of the output: refusal 8 if none does.
 fn put_block(
     v: u8,
     front: &[u8],
@@ -139,7 +144,7 @@ fn put_block(
     Status::Done
 }
 
-// Whether a place among so many blocks may be searched: of Lesamnta-LW the last alone, since no block behind it can be taken back.
+// Whether a place among `count` blocks may be searched: of Lesamnta-LW the last alone, since no block after it can be taken back.
 fn is_searchable(v: u8, count: usize, place: usize) -> bool
     requires { ⌜ place < count ⌝ }
     ensures { λ r. ⌜ r ≡ searchable (variant v) count place ⌝ }
@@ -150,7 +155,7 @@ fn is_searchable(v: u8, count: usize, place: usize) -> bool
     place + 1 == count
 }
 
-// Whether the place is among so many blocks and may be searched, the image is one, and n bytes of output hold a block: refusals 7, 17, 6, 5.
+// Whether the place is among `count` blocks and may be searched, the image is one, and n bytes of output hold a block: refusals 7, 17, 6, 5.
 fn check_place(v: u8, count: usize, place: usize, image: &[u8], n: usize) -> Status
     requires { ⌜ known v ≡ true ⌝ }
     ensures { λ r. ⌜ r ≡ firstRefusal (placedChecks (variant v) count place (now (image .entry)) n) ⌝ }
@@ -186,7 +191,7 @@ fn recover_at(
         ++ foundChecks v (messageIn (now (front .entry)) last bits) place (now (image .entry))))
         × (now (out .exit) ≡ written r (recoveredBlock v (messageIn (now (front .entry)) last bits) place (now (image .entry))) (now (out .entry))) ⌝ }
 {
-    let count = sizes::block_count(v, bits);
+    let count = padding::block_count(v, bits);
     let s = check_place(v, count, place, image, out.len());
     let Status::Done = s else {
         return s;
@@ -206,12 +211,12 @@ pub fn recover_with(
     ensures { λ r. ⌜ (r ≡ recoverStatus variant (given (now (message .entry)) ending) place (now (image .entry)) (length (now (out .entry))))
         × (now (out .exit) ≡ recoverInto variant (given (now (message .entry)) ending) place (now (image .entry)) (now (out .entry))) ⌝ }
 {
-    let s = parts::check_message(variant, message, ending);
+    let s = message::check_message(variant, message, ending);
     let Status::Done = s else {
         return s;
     };
     let v = variant as u8;
-    let m = parts::split_of(v, message, ending);
+    let m = padding::split_of(v, message, ending);
     recover_at(v, &message[..m.front], m.last, m.bits, place, image, out)
 }
 

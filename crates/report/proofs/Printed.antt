@@ -8,4 +8,4 @@ use Rattle.report.specs.Promises.{CountsPrinted}
 
 pub counts-printed : CountsPrinted
 unfolding countsOver
-counts-printed list small passes pieces = rw passes (ap linesOf (in-pieces list small passes pieces))
+counts-printed manifest small passes pieces = rw passes (ap linesOf (in-pieces manifest small passes pieces))

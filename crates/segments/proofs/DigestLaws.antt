@@ -13,8 +13,8 @@ use Rattle.answers.specs.declared.Refusal.the-variants.{UnknownVariant, TooLong
 use Rattle.answers.specs.declared.Status.{Status}
 use Rattle.answers.specs.declared.Status.the-variants.{Done, Refused}
 use Rattle.answers.specs.Checks.{Check, unless, when, firstRefusal}
-use Rattle.answers.specs.Numbers.{inBytes}
-use Rattle.answers.specs.Outputs.{written, most, mostBits}
+use Rattle.bytes.specs.Numbers.{inBytes}
+use Rattle.answers.specs.Outputs.{written, maxBytes, maxBits}
 use Rattle.answers.proofs.Statuses.{not-done}
 use Rattle.answers.proofs.Rows.{passed-all, passing-says, row-first, row-second, row-both}
 use Rattle.standard.specs.Chain.{endState}
@@ -26,14 +26,14 @@ use Rattle.standard.specs.declared.Wanted.{Wanted}
 use Rattle.hasher.specs.Sized.{Sized}
 use Rattle.hasher.specs.Running.{wholeSoFar, started, updated, finished, stateOf}
 use Rattle.hasher.specs.ForCode.{Open}
-use Rattle.hasher.specs.Reading.{resultOf, roomChecks, readStatus, readInto, wholeStatus, wholeInto}
+use Rattle.hasher.specs.Reading.{resultOf, roomChecks, readStatus, readInto, hashStatus, hashInto}
 use Rattle.hasher.proofs.Calls.{start-done, Hashable, whole-says, update-done}
 use Rattle.hasher.proofs.Message.{fresh-sized, fresh-open, fresh-whole, calls-read}
 use Rattle.hasher.proofs.UpdateAppend.{update-twice}
 use Rattle.standard.specs.Bits.{high-first, bitsIn}
 use Rattle.standard.proofs.BitLaws.{length-bitsIn}
-use Rattle.chain.specs.declared.parts.Ending.the-variants.{Whole}
-use Rattle.chain.proofs.PartBytes.{given-limit}
+use Rattle.chain.specs.declared.message.Ending.the-variants.{Whole}
+use Rattle.chain.proofs.MessageLaws.{given-limit}
 use Rattle.hasher.proofs.Owned.{Owned}
 use Rattle.hasher.proofs.WellFormed.{facts, state-kept, held-kept}
 use Rattle.hasher.proofs.Next.{onward-none, onward, onward-total, onward-whole, onward-open, onward-append}
@@ -44,7 +44,7 @@ use Rattle.segments.specs.Promises.{SameMessage}
 use Rattle.segments.proofs.ListLaws.{segments-length, message-length, segmentsUpTo, segments-suc, segments-up-to-within, segment-there}
 
 module _ (h : Hasher) (w : Owned h) (o : Open h) (list buffer : List ℕ) (whole : isList list ≡ true) (all-fit : entriesStatus list (length buffer) ≡ Done)
-    (ends : wholeSoFar h ≡ true) (few : h .total + 8 * length (segmentsOf list buffer) ≤ mostBits) where
+    (ends : wholeSoFar h ≡ true) (few : h .total + 8 * length (segmentsOf list buffer) ≤ maxBits) where
   -- the running hash after the first k segments
   abbrev pub after : ℕ → Hasher
   after k = onward h (segmentsUpTo list buffer k)
@@ -59,7 +59,7 @@ module _ (h : Hasher) (w : Owned h) (o : Open h) (list buffer : List ℕ) (whole
       let m : List ℕ = segmentsUpTo list buffer k in
       let t : List ℕ = segmentIn list buffer k in
       let j : segmentsUpTo list buffer (k + 1) ≡ m ++ t = ap (segmentsUpTo list buffer) (add-one k) ∙ segments-suc list buffer k in
-      let room : h .total + 8 * (length m + length t) ≤ mostBits = omega (arith, length-append m t, ap length j, segments-up-to-within list buffer (k + 1) (omega arith)) in
+      let room : h .total + 8 * (length m + length t) ≤ maxBits = omega (arith, length-append m t, ap length j, segments-up-to-within list buffer (k + 1) (omega arith)) in
       ap (λ (a : Advanced). a .hasher)
       (ap₂ (λ (x : Hasher) (y : List ℕ). updated x (bytes y)) eg (es ∙ segment-there list buffer whole all-fit k l)
       ∙ update-done (after k) (bytes t) (onward-open h (w .sized) o m (omega arith)) refl (onward-whole h ends m) (omega (arith, onward-total h m, length-bitsIn high-first t)))
@@ -77,7 +77,7 @@ abbrev before : ℕ → List ℕ → List Check
 before v list = unless (known v) UnknownVariant ∷ unless (isList list) BadList ∷ []
 
 abbrev behind : ℕ → List ℕ → Wanted → ℕ → List Check
-behind v m wanted n = when (ltb most (length m)) TooLong ∷ roomChecks (variant v) wanted n
+behind v m wanted n = when (ltb maxBytes (length m)) TooLong ∷ roomChecks (variant v) wanted n
 
 module _ (v : ℕ) (list buffer : List ℕ) (wanted : Wanted) (n : ℕ) where
   -- the first refusal of an entry is the list's
@@ -93,8 +93,8 @@ module _ (v : ℕ) (list buffer : List ℕ) (wanted : Wanted) (n : ℕ) where
 
 module _ (v : ℕ) (list buffer : List ℕ) (wanted : Wanted) (l : isList list ≡ true) (e : entriesStatus list (length buffer) ≡ Done) where
   -- A list whose entries pass is refused as the whole message that it makes is, or neither is refused.
-  pub list-whole-status : (n : ℕ) → listStatus v list buffer wanted n ≡ wholeStatus v (bytes (messageOf list buffer)) wanted n
-  unfolding listStatus wholeStatus
+  pub list-whole-status : (n : ℕ) → listStatus v list buffer wanted n ≡ hashStatus v (bytes (messageOf list buffer)) wanted n
+  unfolding listStatus hashStatus
   list-whole-status n =
       ap₂ (λ (b : Bool) (s : Status). cond (known v) (cond b s (Refused BadList)) (Refused UnknownVariant)) l
       (row-second (entriesChecks list (length buffer)) (behind v (messageOf list buffer) wanted n) e
@@ -102,26 +102,26 @@ module _ (v : ℕ) (list buffer : List ℕ) (wanted : Wanted) (l : isList list �
 
   -- the answers behind those of the entries, for a message of as many bytes as the header has and the entries name together
   pub list-message : known v ≡ true → (n t : ℕ) → t ≡ length (headerOf list) + totalOf list
-      → firstRefusal (when (ltb most t) TooLong ∷ roomChecks (variant v) wanted n) ≡ listStatus v list buffer wanted n
+      → firstRefusal (when (ltb maxBytes t) TooLong ∷ roomChecks (variant v) wanted n) ≡ listStatus v list buffer wanted n
   unfolding listStatus
   list-message k n t et =
-      ap (λ (i : ℕ). firstRefusal (when (ltb most i) TooLong ∷ roomChecks (variant v) wanted n)) (et ∙ sym (message-length list buffer e))
+      ap (λ (i : ℕ). firstRefusal (when (ltb maxBytes i) TooLong ∷ roomChecks (variant v) wanted n)) (et ∙ sym (message-length list buffer e))
       ∙ sym (row-second (before v list) (entriesChecks list (length buffer) ++ behind v (messageOf list buffer) wanted n) (passed-all (before v list) (k, (l, tt)))
       ∙ row-second (entriesChecks list (length buffer)) (behind v (messageOf list buffer) wanted n) e)
 
   -- And the output is that of the whole message.
-  pub list-whole-into : (out : List ℕ) → listInto v list buffer wanted out ≡ wholeInto v (bytes (messageOf list buffer)) wanted out
-  unfolding listInto wholeInto
+  pub list-whole-into : (out : List ℕ) → listInto v list buffer wanted out ≡ hashInto v (bytes (messageOf list buffer)) wanted out
+  unfolding listInto hashInto
   list-whole-into out =
       ap (λ (s : Status). written s (resultOf (variant v) wanted (endState (variant v) (byteBits (messageOf list buffer)))) out) (list-whole-status (length out))
 
 pub same-message : SameMessage
 same-message v list buffer list′ buffer′ wanted out a a′ same = (
   list-whole-status v list buffer wanted (a .0) (a .1) (length out)
-      ∙ ap (λ (x : List ℕ). wholeStatus v (bytes x) wanted (length out)) same
+      ∙ ap (λ (x : List ℕ). hashStatus v (bytes x) wanted (length out)) same
       ∙ sym (list-whole-status v list′ buffer′ wanted (a′ .0) (a′ .1) (length out)),
   list-whole-into v list buffer wanted (a .0) (a .1) out
-      ∙ ap (λ (x : List ℕ). wholeInto v (bytes x) wanted out) same
+      ∙ ap (λ (x : List ℕ). hashInto v (bytes x) wanted out) same
       ∙ sym (list-whole-into v list′ buffer′ wanted (a′ .0) (a′ .1) out),
 )
 
@@ -135,7 +135,7 @@ module _ (v : ℕ) (list buffer : List ℕ) (wanted : Wanted) (n : ℕ) where
     pub message : Hashable v (bytes (messageOf list buffer)) wanted n
 
   pub accepted : (s : Status) → s ≡ listStatus v list buffer wanted n → s ≡ Done → Accepted
-  unfolding listStatus wholeStatus
+  unfolding listStatus hashStatus
   accepted s es d =
       let e : listStatus v list buffer wanted n ≡ Done = sym es ∙ d in
       let m = messageOf list buffer in
@@ -155,7 +155,7 @@ start-ready : (v : ℕ) → known v ≡ true → (s : Advanced) → s ≡ starte
 start-ready v k s e = subst Ready (sym (ap (λ (a : Advanced). a .hasher) (e ∙ start-done v k))) (fresh-sized v k, fresh-open v k, fresh-whole v k, refl)
 
 -- the number of entries and then the list
-pub header-taken : (h : Hasher) → Sized h → Open h → (list : List ℕ) → (wholeSoFar h ≡ true) × (h .total + 8 * length (headerOf list) ≤ mostBits)
+pub header-taken : (h : Hasher) → Sized h → Open h → (list : List ℕ) → (wholeSoFar h ≡ true) × (h .total + 8 * length (headerOf list) ≤ maxBits)
     → (two : List ℕ) (counted listed : Advanced) → two ≡ inBytes 2 (count list) → counted ≡ updated h (bytes two) → listed ≡ updated (counted .hasher) (bytes list)
     → listed .hasher ≡ updated h (bytes (headerOf list)) .hasher
 unfolding headerOf
@@ -167,16 +167,16 @@ module _ (v : ℕ) (list buffer : List ℕ) (wanted : Wanted) (n : ℕ) (a : Acc
   ready : Ready (begun .hasher)
   ready = start-ready v (a .message .asked .named) begun eb
 
-  few : length (headerOf list) + length (segmentsOf list buffer) ≤ most
+  few : length (headerOf list) + length (segmentsOf list buffer) ≤ maxBytes
   few = omega (arith, a .message .asked .few, length-bitsIn high-first (messageOf list buffer), message-length list buffer (a .all-fit), segments-length list buffer (a .all-fit))
 
   -- the header fits
-  pub header-fits : Open (begun .hasher) × ((isList list ≡ true) × ((wholeSoFar (begun .hasher) ≡ true) × (begun .hasher .total + 8 * length (headerOf list) ≤ mostBits)))
+  pub header-fits : Open (begun .hasher) × ((isList list ≡ true) × ((wholeSoFar (begun .hasher) ≡ true) × (begun .hasher .total + 8 * length (headerOf list) ≤ maxBits)))
   header-fits = (ready .1, (a .whole, (ready .2, omega (arith, ready .3, few))))
 
   -- and the segments behind it
   pub segments-fit : (led : Hasher) → led ≡ updated (begun .hasher) (bytes (headerOf list)) .hasher
-      → Open led × (((isList list ≡ true) × (entriesStatus list (length buffer) ≡ Done)) × ((wholeSoFar led ≡ true) × (led .total + 8 * length (segmentsOf list buffer) ≤ mostBits)))
+      → Open led × (((isList list ≡ true) × (entriesStatus list (length buffer) ≡ Done)) × ((wholeSoFar led ≡ true) × (led .total + 8 * length (segmentsOf list buffer) ≤ maxBits)))
   segments-fit led e =
       let h : Hasher = begun .hasher in
       let m : List ℕ = headerOf list in
@@ -196,7 +196,7 @@ module _ (v : ℕ) (list buffer : List ℕ) (wanted : Wanted) (n : ℕ) (a : Acc
       → h ≡ updated (begun .hasher) (bytes (messageOf list buffer)) .hasher
   unfolding messageOf
   message-taken led h e eh =
-      let room : begun .hasher .total + 8 * length (headerOf list ++ segmentsOf list buffer) ≤ mostBits = omega (arith, ready .3, few, length-append (headerOf list) (segmentsOf list buffer)) in
+      let room : begun .hasher .total + 8 * length (headerOf list ++ segmentsOf list buffer) ≤ maxBits = omega (arith, ready .3, few, length-append (headerOf list) (segmentsOf list buffer)) in
       eh ∙ ap (λ (g : Hasher). updated g (bytes (segmentsOf list buffer)) .hasher) e ∙ update-twice (begun .hasher) (ready .0) (headerOf list) (segmentsOf list buffer) (ready .1) (ready .2) room
 
 module _ (v : ℕ) (list buffer : List ℕ) (wanted : Wanted) (out : List ℕ) where
@@ -209,6 +209,6 @@ module _ (v : ℕ) (list buffer : List ℕ) (wanted : Wanted) (out : List ℕ) w
       → (s : Status) (after : List ℕ) → (s ≡ readStatus (last .hasher) wanted (length out)) × (after ≡ readInto (last .hasher) wanted out) → Left s after
   left-hashed a begun h last eb eh el s after er =
       let m : List ℕ = messageOf list buffer in
-      let few : length m ≤ most = omega (arith, a .message .asked .few, length-bitsIn high-first m) in
+      let few : length m ≤ maxBytes = omega (arith, a .message .asked .few, length-bitsIn high-first m) in
       let r = calls-read v (a .message .asked .named) m few wanted out begun (updated (begun .hasher) (bytes m)) last s after eb refl (el ∙ ap finished eh) er in
       (r .0 ∙ sym (list-whole-status v list buffer wanted (a .whole) (a .all-fit) (length out)), r .1 ∙ sym (list-whole-into v list buffer wanted (a .whole) (a .all-fit) out))

@@ -10,8 +10,8 @@ use lib.ListN.{length, take, drop}
 use lib.Seq.{take-at, drop-at, take-add, drop-drop}
 use borrow.Author.Tests.{le-ltb}
 use Rattle.answers.specs.declared.Status.the-variants.{Done}
-use Rattle.answers.specs.Numbers.{bigEndian, inBytes}
-use Rattle.answers.proofs.NumberLaws.{length-inBytes, bigEndian-inBytes}
+use Rattle.bytes.specs.Numbers.{bigEndian, inBytes}
+use Rattle.bytes.proofs.NumberLaws.{length-inBytes, bigEndian-inBytes}
 use Rattle.standard.proofs.Tests.{lt-or-le}
 use Rattle.segments.specs.Entries.{offsetOf, lengthOf, endOf, isList, count, segmentIn, segmentChecks, segmentOf, entriesStatus, segmentsOf, headerOf, messageOf}
 use Rattle.segments.specs.Cuts.{Passes, SameSegments, BorderMoved}

@@ -3,7 +3,7 @@
 use mathlib.Core.Path.{_≡_, refl}
 use mathlib.Core.List.{_++_, flatMap}
 use native.Mathlib.Omega.{arith}
-use Rattle.answers.specs.Numbers.{bigEndian, inBytes}
+use Rattle.bytes.specs.Numbers.{bigEndian, inBytes}
 use Rattle.standard.specs.KnownValues as standard
 use Rattle.standard.specs.KnownValues.{AllHold}
 use Rattle.standard.proofs.KnownValues as proved

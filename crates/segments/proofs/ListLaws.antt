@@ -13,10 +13,10 @@ use Rattle.answers.specs.declared.Refusal.{Refusal}
 use Rattle.answers.specs.declared.Status.{Status}
 use Rattle.answers.specs.declared.Status.the-variants.{Done, Refused}
 use Rattle.answers.specs.Checks.{firstRefusal}
-use Rattle.answers.specs.Numbers.{inBytes}
+use Rattle.bytes.specs.Numbers.{inBytes}
 use Rattle.answers.specs.Outputs.{whenDone}
 use Rattle.answers.specs.Refusals.{entry}
-use Rattle.answers.proofs.NumberLaws.{length-inBytes}
+use Rattle.bytes.proofs.NumberLaws.{length-inBytes}
 use Rattle.answers.proofs.Statuses.{not-done}
 use Rattle.answers.proofs.Rows.{by-ways, each-done, done-each, each-first, First, first-of}
 use Rattle.standard.specs.Grid.{tab}

@@ -10,9 +10,9 @@ use lib.ListN.{length, take, drop, length-append, length-take, length-drop}
 use lib.Seq.{drop-append-add, take-add, drop-drop, take-at, drop-at}
 use mathlib.Core.Bool.{true}
 use Rattle.answers.specs.declared.Status.the-variants.{Done}
-use Rattle.answers.specs.Numbers.{Bytes, inBytes}
+use Rattle.bytes.specs.Numbers.{Bytes, inBytes}
 use Rattle.answers.proofs.Rows.{done-each}
-use Rattle.answers.proofs.ByteLaws.{take-bytes, drop-bytes, append-bytes, number-bytes}
+use Rattle.bytes.proofs.ByteLaws.{take-bytes, drop-bytes, append-bytes, number-bytes}
 use Rattle.standard.specs.Values.{DifferWithin, inOneBlock}
 use Rattle.standard.proofs.CutLaws.{take-drop-take}
 use Rattle.standard.proofs.OneValue.{differ-part, differ-append, differ-behind, one-changed-row}

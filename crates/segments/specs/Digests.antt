@@ -7,7 +7,7 @@ use lib.ListN.{length}
 use Rattle.answers.specs.declared.Refusal.the-variants.{UnknownVariant, TooLong, BadList}
 use Rattle.answers.specs.declared.Status.{Status}
 use Rattle.answers.specs.Checks.{Check, unless, when, firstRefusal}
-use Rattle.answers.specs.Outputs.{written, most}
+use Rattle.answers.specs.Outputs.{written, maxBytes}
 use Rattle.standard.specs.Chain.{endState}
 use Rattle.standard.specs.Messages.{byteBits}
 use Rattle.standard.specs.Variants.{variant, known}
@@ -21,7 +21,7 @@ listChecks v list buffer wanted n =
     unless (known v) UnknownVariant
     ∷ unless (isList list) BadList
     ∷ (entriesChecks list (length buffer)
-    ++ when (ltb most (length (messageOf list buffer))) TooLong
+    ++ when (ltb maxBytes (length (messageOf list buffer))) TooLong
     ∷ roomChecks (variant v) wanted n)
 
 -- its answer

@@ -8,7 +8,7 @@ use lib.ListN.{length, take, drop}
 use Rattle.answers.specs.declared.Refusal.the-variants.{OutOfRange, BadList, Misordered, PastEnd}
 use Rattle.answers.specs.declared.Status.{Status}
 use Rattle.answers.specs.Checks.{Check, unless, when, firstRefusal, each}
-use Rattle.answers.specs.Numbers.{bigEndian, inBytes}
+use Rattle.bytes.specs.Numbers.{bigEndian, inBytes}
 use Rattle.answers.specs.Outputs.{whenDone}
 use Rattle.standard.specs.Grid.{tab}
 

@@ -4,7 +4,7 @@ use mathlib.Core.List.{List, [], _∷_, _++_}
 use Prim.Native.Nat.{ℕ, _/_, _%_}
 use lib.ListN.{length}
 use Rattle.answers.specs.declared.Status.{Status}
-use Rattle.answers.specs.Numbers.{inBytes}
+use Rattle.bytes.specs.Numbers.{inBytes}
 use Rattle.answers.specs.Refusals.{answer}
 use Rattle.standard.specs.KnownValues as standard
 use Rattle.standard.specs.KnownValues.{Row}

@@ -7,14 +7,14 @@ ghost use denote.Ref.{ptr};
 ghost use Rattle.standard.specs.Messages.{bytes};
 ghost use Rattle.answers.specs.declared.Status.the-variants.{Done};
 ghost use Rattle.answers.specs.Checks.{firstRefusal};
-ghost use Rattle.answers.specs.Outputs.{mostBits};
+ghost use Rattle.answers.specs.Outputs.{maxBits};
 ghost use Rattle.hasher.specs.Running.{wholeSoFar, updated};
 ghost use Rattle.hasher.specs.ForCode.{Open};
 ghost use Rattle.segments.specs.Entries.{offsetOf, lengthOf, endOf, formerEnd, isList, count, entryChecks, segmentStatus, segmentOf, segmentAt, further, entriesStatus, segmentsOf, headerOf};
 ghost use Rattle.segments.specs.Steps.{stepStatus, foundAt};
 ghost use Rattle.segments.specs.Cuts.{totalOf};
 ghost use Rattle.segments.specs.Digests.{listStatus, listInto};
-use answers::MOST;
+use answers::MAX_MESSAGE_BYTES;
 use answers::Refusal;
 use answers::Status;
 use hasher::Hasher;
@@ -24,14 +24,14 @@ pub fn offset_at(list: &[u8], k: usize) -> u32
     requires { ⌜ k < count (now list) ⌝ }
     ensures { λ r. ⌜ r ≡ offsetOf (now (list .entry)) k ⌝ }
 {
-    answers::u32_at(list, 8 * k)
+    bytes::numbers::u32_at(list, 8 * k)
 }
 
 pub fn length_at(list: &[u8], k: usize) -> u32
     requires { ⌜ k < count (now list) ⌝ }
     ensures { λ r. ⌜ r ≡ lengthOf (now (list .entry)) k ⌝ }
 {
-    answers::u32_at(list, 8 * k + 4)
+    bytes::numbers::u32_at(list, 8 * k + 4)
 }
 
 // Where entry k ends.
@@ -102,7 +102,7 @@ pub fn entry_at(list: &[u8], k: usize) -> Found
 }
 
 // Refusals 10, 11 of one entry.
-fn check_entry(list: &[u8], buffer: &[u8], k: usize) -> Status
+fn check_bounds(list: &[u8], buffer: &[u8], k: usize) -> Status
     requires { ⌜ isList (now list) ≡ true ⌝ }
     requires { ⌜ k < count (now list) ⌝ }
     ensures { λ r. ⌜ r ≡ firstRefusal (entryChecks (now (list .entry)) (length (now (buffer .entry))) k) ⌝ }
@@ -117,14 +117,14 @@ fn check_entry(list: &[u8], buffer: &[u8], k: usize) -> Status
 }
 
 // Whether entry k names a segment of the buffer: refusals 9, 7, 10, 11.
-pub fn check(list: &[u8], buffer: &[u8], k: usize) -> Status
+pub fn check_entry(list: &[u8], buffer: &[u8], k: usize) -> Status
     ensures { λ r. ⌜ r ≡ segmentStatus (now (list .entry)) (length (now (buffer .entry))) k ⌝ }
 {
     let s = check_step(list, k);
     let Status::Done = s else {
         return s;
     };
-    check_entry(list, buffer, k)
+    check_bounds(list, buffer, k)
 }
 
 // The bytes that entry k names, where they lie in the buffer; none where the check refuses.
@@ -149,7 +149,7 @@ fn check_all(list: &[u8], buffer: &[u8]) -> Status
     let n = list.len() / 8;
     let mut k = 0;
     while k < n {
-        let s = check_entry(list, buffer, k);
+        let s = check_bounds(list, buffer, k);
         if let Status::Done = s {
             k += 1;
         } else {
@@ -188,7 +188,7 @@ fn check_list(variant: u32, list: &[u8], buffer: &[u8], wanted: Wanted, n: usize
     let Status::Done = s else {
         return s;
     };
-    if MOST < message_length(list) {
+    if MAX_MESSAGE_BYTES < message_length(list) {
         return Status::Refused(Refusal::TooLong);
     }
     hasher::check_room(variant as u8, wanted, n)
@@ -198,10 +198,10 @@ fn check_list(variant: u32, list: &[u8], buffer: &[u8], wanted: Wanted, n: usize
 fn update_header(h: Hasher, list: &[u8]) -> Hasher
     requires { ⌜ Open h ⌝ }
     requires { ⌜ isList (now list) ≡ true ⌝ }
-    requires { ⌜ (wholeSoFar h ≡ true) × (h .total + 8 * length (headerOf (now list)) ≤ mostBits) ⌝ }
+    requires { ⌜ (wholeSoFar h ≡ true) × (h .total + 8 * length (headerOf (now list)) ≤ maxBits) ⌝ }
     ensures { λ r. ⌜ r ≡ updated h (bytes (headerOf (now (list .entry)))) .hasher ⌝ }
 {
-    let count = answers::u16_bytes((list.len() / 8) as u16);
+    let count = bytes::numbers::u16_bytes((list.len() / 8) as u16);
     let counted = hasher::update(h, &count);
     let listed = hasher::update(counted.hasher, list);
     listed.hasher
@@ -211,7 +211,7 @@ fn update_header(h: Hasher, list: &[u8]) -> Hasher
 fn update_all(h: Hasher, list: &[u8], buffer: &[u8]) -> Hasher
     requires { ⌜ Open h ⌝ }
     requires { ⌜ (isList (now list) ≡ true) × (entriesStatus (now list) (length (now buffer)) ≡ Done) ⌝ }
-    requires { ⌜ (wholeSoFar h ≡ true) × (h .total + 8 * length (segmentsOf (now list) (now buffer)) ≤ mostBits) ⌝ }
+    requires { ⌜ (wholeSoFar h ≡ true) × (h .total + 8 * length (segmentsOf (now list) (now buffer)) ≤ maxBits) ⌝ }
     ensures { λ r. ⌜ r ≡ updated h (bytes (segmentsOf (now (list .entry)) (now (buffer .entry)))) .hasher ⌝ }
 {
     let n = list.len() / 8;
@@ -226,7 +226,7 @@ fn update_all(h: Hasher, list: &[u8], buffer: &[u8]) -> Hasher
 }
 
 // The digest over a list and its segments, or the image of the end state: refusals 1, 9, 10, 11, 4, 5. A refusal leaves every byte.
-pub fn digest_list(
+pub fn hash_list(
     variant: u32,
     list: &[u8],
     buffer: &[u8],

@@ -27,7 +27,7 @@ fn whole_into(wanted: Wanted, v: u32, message: &[u8], bits: u32, out: &mut [u8])
     show::variant(v);
     given(message, bits);
     show::space();
-    let status = hasher::whole_bits(v, message, bits, wanted, out);
+    let status = hasher::hash_bits(v, message, bits, wanted, out);
     whole::result(wanted, v, status, out);
 }
 
@@ -93,7 +93,7 @@ fn recovered(v: u32, message: &[u8], bits: u32, place: usize, image: [u8; 36], k
 // The end state of a message, zeros behind it.
 fn end_of(v: u32, message: &[u8], bits: u32) -> [u8; 36] {
     let mut end = [0u8; 36];
-    hasher::whole_bits(v, message, bits, Wanted::EndState, &mut end);
+    hasher::hash_bits(v, message, bits, Wanted::EndState, &mut end);
     end
 }
 

@@ -14,7 +14,7 @@ fn segment(list: &[u8], buffer: &[u8], k: usize) {
     show::show(b"+");
     show::decimal(k as u64);
     show::space();
-    show::status(segments::check(list, buffer, k));
+    show::status(segments::check_entry(list, buffer, k));
     show::bytes(segments::segment(list, buffer, k));
     show::newline();
 }
@@ -27,7 +27,7 @@ fn digest_into(wanted: Wanted, v: u32, list: &[u8], buffer: &[u8], out: &mut [u8
     show::show(b"+");
     show::bytes(buffer);
     show::space();
-    let status = segments::digest_list(v, list, buffer, wanted, out);
+    let status = segments::hash_list(v, list, buffer, wanted, out);
     whole::result(wanted, v, status, out);
 }
 

@@ -33,7 +33,7 @@ fn lost(v: u32, message: &[u8], place: usize, image: [u8; 36], k: usize, n: usiz
 // The end state of a message, zeros behind it.
 pub fn end_of(v: u32, message: &[u8]) -> [u8; 36] {
     let mut end = [0u8; 36];
-    hasher::whole(v, message, Wanted::EndState, &mut end);
+    hasher::hash(v, message, Wanted::EndState, &mut end);
     end
 }
 

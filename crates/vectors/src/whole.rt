@@ -28,7 +28,7 @@ fn whole_into(wanted: Wanted, v: u32, message: &[u8], out: &mut [u8]) {
     show::variant(v);
     show::bytes(message);
     show::space();
-    let status = hasher::whole(v, message, wanted, out);
+    let status = hasher::hash(v, message, wanted, out);
     result(wanted, v, status, out);
 }
 

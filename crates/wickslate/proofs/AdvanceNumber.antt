@@ -1,5 +1,8 @@
--- An advance by number: the walk by hand of the MIR that `wickslate_start`, `wickslate_update`, `wickslate_update_bits` and `wickslate_finish` have but for what they are passed beside the running hash, and the functions that they call.
--- What is lent is lent on for good, and the answer's number returned. All that is known of the callees is their contracts. Assumes nothing.
+-- An advance by number: the walk by hand of the MIR of `wickslate_start`, `wickslate_update`, `wickslate_update_bits`
+-- and
+-- `wickslate_finish`. They differ only in what they are passed beside the running hash and in the functions that they
+-- call. What is lent is lent on for good, and the answer's number returned. All that is known of the callees is their
+-- contracts. Assumes nothing.
 use mathlib.Core.Path.{_≡_, refl}
 use Prim.Native.Nat.{ℕ, suc}
 use mathlib.Core.List.{[], _∷_, List}
@@ -24,21 +27,21 @@ use denote.Triple.Table.{cited}
 use denote.Triple.Walked.{Stays, gave-ref, goes-gave-ref}
 use denote.Signature.{typesAt}
 use Rattle.lent.proofs.Passed.{kept, Promises, calls, ends, Walk, Coded, Meets, proved}
-use Rattle.lent.proofs.Locals.{copies, function, from-behind, load-all, enters, leaves}
+use Rattle.lent.proofs.Locals.{copies, function, from-after, load-all, enters, leaves}
 use Rattle.lent.proofs.Beside.{Beside, vals, row, Own}
-use Rattle.lent.proofs.Advancing.{Lent, reference, lent-on, advancing, behind-all}
+use Rattle.lent.proofs.Advancing.{Lent, reference, lent-on, advancing, after-all}
 use Rattle.wickslate.proofs.Number.{Answer, Numbered, numbers}
 
 -- the MIR, with the name of the function that it calls
 abbrev code : {n : ℕ} → Lent n → Answer → Beside (suc n) → Name → Fn
 code {n} L N X name =
     function (tyInt w32) (reference L ∷ []) (X .types) (N .mir ∷ lent-on L ∷ []) (suc n) (boundsOf (suc n) (L .outlives))
-    (seq (assign (place (behind-all L X 1) []) (addrOf (place 1 (deref (L .mir) ∷ []))))
-    (seq (call name (copy (place (behind-all L X 1) []) ∷ copies (tyInt w32 ∷ reference L ∷ []) (X .types)) (place (behind-all L X 0) []))
-    (seq (call (N .by) (copy (place (behind-all L X 0) []) ∷ []) (place 0 []))
+    (seq (assign (place (after-all L X 1) []) (addrOf (place 1 (deref (L .mir) ∷ []))))
+    (seq (call name (copy (place (after-all L X 1) []) ∷ copies (tyInt w32 ∷ reference L ∷ []) (X .types)) (place (after-all L X 0) []))
+    (seq (call (N .by) (copy (place (after-all L X 0) []) ∷ []) (place 0 []))
     return)))
 
--- where Q is promised of the callee's answer and of what is lent, at last
+-- if Q is promised of the callee's answer and of what is lent, at last
 module _ {n : ℕ} (L : Lent n) (N : Answer) (X : Beside (suc n)) (Q : L .Value × X .Value → N .row .Denot → L .Value → Type 0) where
   -- its contract
   abbrev pub Called : {M : Type 1} (𝓤 : URA M) (H : Heap 𝓤) (A : Atoms 𝓤) → Contract 𝓤
@@ -61,13 +64,15 @@ module _ {n : ℕ} (L : Lent n) (N : Answer) (X : Beside (suc n)) (Q : L .Value 
         let E : List (Ty × ℕ) = (N .mir, l₂) ∷ (lent-on L, l₃) ∷ [] in
         -- what is beside is Copy: one copy of what it owns is kept for the exit
         move ! (10 ∷ []) $ fsplit ! $ move ! (1 ∷ []) $ use1 W (‵ (Own X κs x) ⊛ ‵ (Own X κs x)) (X .twice 𝓤 H A W κs x (vals X κs x)) $ split ! $ move ! (2 ∷ 0 ∷ []) $ fjoin ! $ move ! (11 ∷ 0 ∷ 2 ∷ []) $
-        -- [the tokens; what is lent; the cells beside; what is beside; room for the reference lent on; …; room for the answer; …; _1; …; room for _0; …]
-        assigns ! (addr ! (from ! (hop ! (look ! 8 refl) (stop !)))) (from-behind ! F (X .types) ls E 1 (stop !)) (init ! 4 refl (tt, tt)) $
+        -- [the tokens; what is lent; the cells beside; what is beside; room for the reference lent on; …; room for the
+        -- answer; …; _1; …; room for _0; …]
+        assigns ! (addr ! (from ! (hop ! (look ! 8 refl) (stop !)))) (from-after ! F (X .types) ls E 1 (stop !)) (init ! 4 refl (tt, tt)) $
         calls (advancing L X) (N .row) Q ! (fmOf 𝓤 H (W .laws) 𝓣) known κs qs bounds a (ptr-vals (a .0), vals X κs x)
-        (and-then ! (load ! (from-behind ! F (X .types) ls E 1 (stop !)) (look ! 3 refl)) (load-all ! F (X .types) ls E (row X κs x) (X .typed κs x (are .1)))) (λ w r zs e is.
-        -- [the answer; the tokens; the last value; the cells beside; what is beside; the reference lent on; …; room for the answer; …; _1; …; room for _0; …]
-        land ! (from-behind ! F (X .types) ls E 0 (stop !)) (init ! 7 refl (N .typed M 𝓤 H A W r w is)) $
-        numbers N ! (fmOf 𝓤 H (W .laws) 𝓣) known-number r w (and-then ! (load ! (from-behind ! F (X .types) ls E 0 (stop !)) (look ! 7 refl)) (no-more !)) (λ k u e′ is′.
+        (and-then ! (load ! (from-after ! F (X .types) ls E 1 (stop !)) (look ! 3 refl)) (load-all ! F (X .types) ls E (row X κs x) (X .typed κs x (are .1)))) (λ w r zs e is.
+        -- [the answer; the tokens; the last value; the cells beside; what is beside; the reference lent on; …; room for
+        -- the answer; …; _1; …; room for _0; …]
+        land ! (from-after ! F (X .types) ls E 0 (stop !)) (init ! 7 refl (N .typed M 𝓤 H A W r w is)) $
+        numbers N ! (fmOf 𝓤 H (W .laws) 𝓣) known-number r w (and-then ! (load ! (from-after ! F (X .types) ls E 0 (stop !)) (look ! 7 refl)) (no-more !)) (λ k u e′ is′.
         land ! (from ! (stop !)) (init ! 11 refl (uint-lawful 𝓤 H A W w32 .typed k _ is′ .0)) $
         move ! (11 ∷ 12 ∷ 9 ∷ 10 ∷ 3 ∷ 7 ∷ 8 ∷ 5 ∷ 6 ∷ []) $ leaves ! (X .types) ls (row X κs x) (X .typed κs x (are .1)) $
         -- [the number; the tokens; the last value; what is beside]

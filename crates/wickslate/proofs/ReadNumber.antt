@@ -1,5 +1,7 @@
--- A read by number: the walk by hand of the MIR that `wickslate_digest` and `wickslate_end_state` have but for the function that they call.
--- The running hash is lent on, and the output for good; the answer's number is returned. All that is known of the callees is their contracts. Assumes nothing.
+-- A read by number: the walk by hand of the MIR of `wickslate_digest` and `wickslate_end_state`, which differ only in
+-- the
+-- function that they call. The running hash is lent on, and the output for good; the answer's number is returned.
+-- All that is known of the callees is their contracts. Assumes nothing.
 use mathlib.Core.Path.{_≡_, refl}
 use Prim.Native.Nat.{ℕ, suc}
 use mathlib.Core.List.{[], _∷_, List}
@@ -33,22 +35,22 @@ use Rattle.answers.proofs.Status.Laws as S′
 use Rattle.hasher.specs.declared.Hasher.{Hasher}
 use Rattle.hasher.proofs.Hasher as T
 use Rattle.lent.proofs.Passed.{values, Promises, calls, ends, Walk, Coded, Meets, proved}
-use Rattle.lent.proofs.Locals.{copies, function, from-behind, load-all, alloc-all, pass-all, free-all}
+use Rattle.lent.proofs.Locals.{copies, function, from-after, load-all, alloc-all, pass-all, free-all}
 use Rattle.lent.proofs.Beside.{Beside, vals, row, Own}
-use Rattle.lent.proofs.ReadThrough.{reading, had, goes, reference, output, front, behind}
+use Rattle.lent.proofs.ReadThrough.{reading, had, goes, reference, output, front, local-after}
 use Rattle.wickslate.proofs.Number.{status, Numbered, numbers}
 
 -- the MIR, with the name of the function that it calls
 abbrev code : {n : ℕ} → Beside (suc (suc n)) → Name → Fn
 code {n} X name =
     function (tyInt w32) (reference ∷ sliceTy (output (named 1)) ∷ []) (X .types) (S′.mir ∷ output erased ∷ sliceTy (output erased) ∷ []) (suc (suc n)) []
-    (seq (assign (place (behind X 1) []) (addrOf (place 2 (field 0 ∷ deref (tyInt w8) ∷ []))))
-    (seq (assign (place (behind X 2) []) (aggregate (copy (place (behind X 1) []) ∷ copy (place 2 (field 1 ∷ [])) ∷ [])))
-    (seq (call name (copy (place 1 []) ∷ copy (place (behind X 2) []) ∷ copies (front (tyInt w32)) (X .types)) (place (behind X 0) []))
-    (seq (call (status .by) (copy (place (behind X 0) []) ∷ []) (place 0 []))
+    (seq (assign (place (local-after X 1) []) (addrOf (place 2 (field 0 ∷ deref (tyInt w8) ∷ []))))
+    (seq (assign (place (local-after X 2) []) (aggregate (copy (place (local-after X 1) []) ∷ copy (place 2 (field 1 ∷ [])) ∷ [])))
+    (seq (call name (copy (place 1 []) ∷ copy (place (local-after X 2) []) ∷ copies (front (tyInt w32)) (X .types)) (place (local-after X 0) []))
+    (seq (call (status .by) (copy (place (local-after X 0) []) ∷ []) (place 0 []))
     return))))
 
--- where Q is promised of the callee's status and of the last output
+-- if Q is promised of the callee's status and of the last output
 module _ {n : ℕ} (X : Beside (suc (suc n))) (Q : Hasher × (List ℕ × X .Value) → Status → List ℕ → Type 0) where
   -- its contract
   abbrev pub Called : {M : Type 1} (𝓤 : URA M) (H : Heap 𝓤) (A : Atoms 𝓤) → Contract 𝓤
@@ -71,18 +73,21 @@ module _ {n : ℕ} (X : Beside (suc (suc n))) (Q : Hasher × (List ℕ × X .Val
         let F : List (Ty × ℕ) = (tyInt w32, l₀) ∷ (reference, l₁) ∷ (sliceTy (output (named 1)), l₂) ∷ [] in
         let E : List (Ty × ℕ) = (S′.mir, l₃) ∷ (output erased, l₄) ∷ (sliceTy (output erased), l₅) ∷ [] in
         params1 ! $ pass1 ! (init ! 9 refl (tt, tt)) $ pass1 ! (init ! 7 refl (mut-slice-lawful 𝓤 H A W (named 1) (κs .1 .0) u8 .typed o (v ∷ []) (are .1 .0) .0)) $ move ! (6 ∷ []) $ pass-all ! (X .types) ls (row X κs x) (X .typed κs x (are .1 .1)) E $
-        -- a `&` and what is behind are Copy: one copy of what they own is kept for the exit
+        -- a `&` and what is behind it are Copy: one copy of what they own is kept for the exit
         move ! (14 ∷ []) $ fsplit ! $ use1 W (‵ Reference ⊛ ‵ Reference) (shr-copy 𝓤 H A W (named 0) (κs .0) T.the-row .twice y (ptr-vals y)) $ split ! $
         move ! (2 ∷ []) $ fsplit ! $ move ! (1 ∷ []) $ use1 W (‵ (Own X κs x) ⊛ ‵ (Own X κs x)) (X .twice 𝓤 H A W κs x (vals X κs x)) $ split ! $ move ! (2 ∷ 0 ∷ []) $ fjoin ! $ move ! (2 ∷ 0 ∷ []) $ fjoin ! $
-        -- [what is passed; what is kept of X; of the reference; the cells of X; room for the lent output; …; for its reference; …; for the answer; …; _2; …; _1; …; for _0; …; the tokens]
+        -- [what is passed; what is kept of X; of the reference; the cells of X; room for the lent output; …; for its
+        -- reference; …; for the answer; …; _2; …; _1; …; for _0; …; the tokens]
         move ! (16 ∷ 0 ∷ 3 ∷ []) $
-        assigns ! (addr ! (from ! (fld ! refl (hop ! (look-in ! 11 (sub ! 0 refl (whole !))) (stop !))))) (from-behind ! F (X .types) ls E 1 (stop !)) (init ! 7 refl (tt, tt)) $
-        assigns ! (agg ! (and-then ! (load ! (from-behind ! F (X .types) ls E 1 (stop !)) (look ! 7 refl)) (and-then ! (load ! (from ! (fld ! refl (stop !))) (look-in ! 11 (sub ! 1 refl (whole !)))) (no-more !)))) (from-behind ! F (X .types) ls E 2 (stop !)) (init ! 5 refl (tt, (tt, (record { fits = are .1 .0 .0 .1 .0 }, tt)))) $
-        -- [the tokens; what is passed; the cells of X; what is kept of X; of the reference; the lent output; …; its reference; …; room for the answer; …; _2; …; _1; …; room for _0; …]
-        calls (reading X) S.the-row Q ! (fmOf 𝓤 H (W .laws) 𝓣) known κs qs tt a (values (reading X) κs a) (and-then ! (load ! (from ! (stop !)) (look ! 12 refl)) (and-then ! (load ! (from-behind ! F (X .types) ls E 2 (stop !)) (look ! 4 refl)) (load-all ! F (X .types) ls E (row X κs x) (X .typed κs x (are .1 .1))))) (λ w r zs e is.
-        -- [the answer; the tokens; the last values; the cells of X; what is kept of X; of the reference; the lent output; …; its reference; …; room for the answer; …; _2; …; _1; …; room for _0; …]
-        land ! (from-behind ! F (X .types) ls E 0 (stop !)) (init ! 10 refl (EL.lawful S.the-type S′.the-laws 𝓤 H A W tt .typed r _ is .0)) $
-        numbers status ! (fmOf 𝓤 H (W .laws) 𝓣) known-number r w (and-then ! (load ! (from-behind ! F (X .types) ls E 0 (stop !)) (look ! 10 refl)) (no-more !)) (λ k u e′ is′.
+        assigns ! (addr ! (from ! (fld ! refl (hop ! (look-in ! 11 (sub ! 0 refl (whole !))) (stop !))))) (from-after ! F (X .types) ls E 1 (stop !)) (init ! 7 refl (tt, tt)) $
+        assigns ! (agg ! (and-then ! (load ! (from-after ! F (X .types) ls E 1 (stop !)) (look ! 7 refl)) (and-then ! (load ! (from ! (fld ! refl (stop !))) (look-in ! 11 (sub ! 1 refl (whole !)))) (no-more !)))) (from-after ! F (X .types) ls E 2 (stop !)) (init ! 5 refl (tt, (tt, (record { fits = are .1 .0 .0 .1 .0 }, tt)))) $
+        -- [the tokens; what is passed; the cells of X; what is kept of X; of the reference; the lent output; …; its
+        -- reference; …; room for the answer; …; _2; …; _1; …; room for _0; …]
+        calls (reading X) S.the-row Q ! (fmOf 𝓤 H (W .laws) 𝓣) known κs qs tt a (values (reading X) κs a) (and-then ! (load ! (from ! (stop !)) (look ! 12 refl)) (and-then ! (load ! (from-after ! F (X .types) ls E 2 (stop !)) (look ! 4 refl)) (load-all ! F (X .types) ls E (row X κs x) (X .typed κs x (are .1 .1))))) (λ w r zs e is.
+        -- [the answer; the tokens; the last values; the cells of X; what is kept of X; of the reference; the lent
+        -- output; …; its reference; …; room for the answer; …; _2; …; _1; …; room for _0; …]
+        land ! (from-after ! F (X .types) ls E 0 (stop !)) (init ! 10 refl (EL.lawful S.the-type S′.the-laws 𝓤 H A W tt .typed r _ is .0)) $
+        numbers status ! (fmOf 𝓤 H (W .laws) 𝓣) known-number r w (and-then ! (load ! (from-after ! F (X .types) ls E 0 (stop !)) (look ! 10 refl)) (no-more !)) (λ k u e′ is′.
         land ! (from ! (stop !)) (init ! 16 refl (uint-lawful 𝓤 H A W w32 .typed k _ is′ .0)) $
         returns ! (look ! 16 refl) $ move ! (16 ∷ 17 ∷ 14 ∷ 15 ∷ 12 ∷ 13 ∷ 3 ∷ 10 ∷ 11 ∷ 8 ∷ 9 ∷ 6 ∷ 7 ∷ []) $ forget ! 0 refl $ free1 ! $ forget ! 0 refl $ free1 ! $ forget ! 0 refl $ free1 ! $
         free-all ! (X .types) ls (row X κs x) (X .typed κs x (are .1 .1)) E $ forget ! 0 refl $ free1 ! $ forget ! 0 refl $ free1 ! $ forget ! 0 refl $ free1 ! $ free0 ! $

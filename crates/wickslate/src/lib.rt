@@ -1,4 +1,6 @@
-// The functions that other languages call: numbers, slices and the running hash, each with one number as the answer: 0 where it is done, else the number of the refusal in the low byte and the entry that it names above it. The two of the cipher never refuse, and answer nothing.
+// The functions that other languages call, with numbers, slices and the running hash.
+// Each answers with one number: 0 if it is done, otherwise the number of the refusal in the low byte, and above it the
+// entry that the refusal names. The two functions of the cipher are never refused, and answer nothing.
 ghost use mathlib.Core.Path.{_≡_};
 ghost use lib.ListN.{length};
 ghost use Rattle.standard.specs.declared.Direction.the-variants.{Forward, Backward};
@@ -8,7 +10,7 @@ ghost use Rattle.chain.specs.Images.{imageStatus, permutedImage};
 ghost use Rattle.standard.specs.Messages.{bytes, partial};
 ghost use Rattle.hasher.specs.Running.{startedOver, updated, finished};
 ghost use Rattle.standard.specs.declared.Wanted.the-variants.{Digest, EndState};
-ghost use Rattle.hasher.specs.Reading.{readStatus, readInto, wholeStatus, wholeInto};
+ghost use Rattle.hasher.specs.Reading.{readStatus, readInto, hashStatus, hashInto};
 ghost use Rattle.recover.specs.Recovering.{recoverStatus, recoverInto};
 ghost use Rattle.segments.specs.Entries.{segmentStatus};
 ghost use Rattle.segments.specs.Steps.{stepAnswer, foundAt};
@@ -18,19 +20,20 @@ ghost use Rattle.lent.specs.Cursors.{movedOn};
 ghost use Rattle.wickslate.specs.Exports.{wantedOf, offsetGiven, lengthGiven};
 use answers::Status;
 use hasher::Hasher;
-use standard::Wanted;
 use lent::Cursor;
 use segments::Step;
+use standard::Wanted;
 
-// Refusal 1.
+// Begins a message: refusal 1.
 #[no_mangle]
 pub extern "C" fn wickslate_start(h: &mut Hasher, variant: u32) -> u32
-    ensures { λ r. ⌜ (r ≡ answer (startedOver (now (h .entry)) variant .status)) × (now (h .exit) ≡ startedOver (now (h .entry)) variant .hasher) ⌝ }
+    ensures { λ r. ⌜ (r ≡ answer (startedOver (now (h .entry)) variant .status))
+        × (now (h .exit) ≡ startedOver (now (h .entry)) variant .hasher) ⌝ }
 {
     answers::answer_of(lent::start(h, variant))
 }
 
-// Refusals 2, 3, 16, 4.
+// Takes a piece: refusals 2, 3, 16, 4.
 #[no_mangle]
 pub extern "C" fn wickslate_update(h: &mut Hasher, piece: &[u8]) -> u32
     ensures { λ r. ⌜ (r ≡ answer (updated (now (h .entry)) (bytes (now (piece .entry))) .status))
@@ -39,7 +42,7 @@ pub extern "C" fn wickslate_update(h: &mut Hasher, piece: &[u8]) -> u32
     answers::answer_of(lent::update(h, piece))
 }
 
-// A piece whose last byte contributes `bits` bits: refusals 2, 3, 15, 16, 4.
+// Takes a piece whose last byte contributes `bits` bits: refusals 2, 3, 15, 16, 4.
 #[no_mangle]
 pub extern "C" fn wickslate_update_bits(h: &mut Hasher, piece: &[u8], bits: u32) -> u32
     ensures { λ r. ⌜ (r ≡ answer (updated (now (h .entry)) (partial (now (piece .entry)) bits) .status))
@@ -48,15 +51,16 @@ pub extern "C" fn wickslate_update_bits(h: &mut Hasher, piece: &[u8], bits: u32)
     answers::answer_of(lent::update_bits(h, piece, bits))
 }
 
-// Refusals 2, 3.
+// Ends the message: refusals 2, 3.
 #[no_mangle]
 pub extern "C" fn wickslate_finish(h: &mut Hasher) -> u32
-    ensures { λ r. ⌜ (r ≡ answer (finished (now (h .entry)) .status)) × (now (h .exit) ≡ finished (now (h .entry)) .hasher) ⌝ }
+    ensures { λ r. ⌜ (r ≡ answer (finished (now (h .entry)) .status))
+        × (now (h .exit) ≡ finished (now (h .entry)) .hasher) ⌝ }
 {
     answers::answer_of(lent::finish(h))
 }
 
-// Refusals 2, 3, 5.
+// Writes the digest: refusals 2, 3, 5.
 #[no_mangle]
 pub extern "C" fn wickslate_digest(h: &Hasher, out: &mut [u8]) -> u32
     ensures { λ r. ⌜ (r ≡ answer (readStatus (now (h .entry)) Digest (length (now (out .entry)))))
@@ -65,7 +69,7 @@ pub extern "C" fn wickslate_digest(h: &Hasher, out: &mut [u8]) -> u32
     answers::answer_of(lent::digest(h, out))
 }
 
-// Refusals 2, 3, 5.
+// Writes the image of the end state: refusals 2, 3, 5.
 #[no_mangle]
 pub extern "C" fn wickslate_end_state(h: &Hasher, out: &mut [u8]) -> u32
     ensures { λ r. ⌜ (r ≡ answer (readStatus (now (h .entry)) EndState (length (now (out .entry)))))
@@ -86,26 +90,30 @@ fn wanted_of(n: u32) -> Wanted
 
 // The digest of a whole message or, if `wanted` is not 0, its end state: refusals 1, 4, 5.
 #[no_mangle]
-pub extern "C" fn wickslate_whole(variant: u32, message: &[u8], wanted: u32, out: &mut [u8]) -> u32
-    ensures { λ r. ⌜ (r ≡ answer (wholeStatus variant (bytes (now (message .entry))) (wantedOf wanted) (length (now (out .entry)))))
-        × (now (out .exit) ≡ wholeInto variant (bytes (now (message .entry))) (wantedOf wanted) (now (out .entry))) ⌝ }
+pub extern "C" fn wickslate_hash(variant: u32, message: &[u8], wanted: u32, out: &mut [u8]) -> u32
+    ensures { λ r. ⌜ (r ≡ answer (hashStatus variant (bytes (now (message .entry))) (wantedOf wanted)
+        (length (now (out .entry)))))
+        × (now (out .exit) ≡ hashInto variant (bytes (now (message .entry))) (wantedOf wanted)
+        (now (out .entry))) ⌝ }
 {
-    answers::answer_of(hasher::whole(variant, message, wanted_of(wanted), out))
+    answers::answer_of(hasher::hash(variant, message, wanted_of(wanted), out))
 }
 
-// The same of a message whose last byte contributes `bits` bits: refusals 1, 15, 4, 5.
+// The same for a message whose last byte contributes `bits` bits: refusals 1, 15, 4, 5.
 #[no_mangle]
-pub extern "C" fn wickslate_whole_bits(
+pub extern "C" fn wickslate_hash_bits(
     variant: u32,
     message: &[u8],
     bits: u32,
     wanted: u32,
     out: &mut [u8],
 ) -> u32
-    ensures { λ r. ⌜ (r ≡ answer (wholeStatus variant (partial (now (message .entry)) bits) (wantedOf wanted) (length (now (out .entry)))))
-        × (now (out .exit) ≡ wholeInto variant (partial (now (message .entry)) bits) (wantedOf wanted) (now (out .entry))) ⌝ }
+    ensures { λ r. ⌜ (r ≡ answer (hashStatus variant (partial (now (message .entry)) bits) (wantedOf wanted)
+        (length (now (out .entry)))))
+        × (now (out .exit) ≡ hashInto variant (partial (now (message .entry)) bits) (wantedOf wanted)
+        (now (out .entry))) ⌝ }
 {
-    answers::answer_of(hasher::whole_bits(variant, message, bits, wanted_of(wanted), out))
+    answers::answer_of(hasher::hash_bits(variant, message, bits, wanted_of(wanted), out))
 }
 
 // The permutation on an image: refusals 1, 17, 6.
@@ -144,7 +152,8 @@ pub extern "C" fn wickslate_lesamnta_decrypt(key: &[u8; 16], state: &mut [u8; 32
     *state = deciphered;
 }
 
-// The block that, at that place among the message's padded blocks, leads to the end state of the image: refusals 1, 4, 7, 17, 6, 5, 8.
+// The block that, at that place among the blocks of the padded message, leads to the end state of the image:
+// refusals 1, 4, 7, 17, 6, 5, 8.
 #[no_mangle]
 pub extern "C" fn wickslate_recover(
     variant: u32,
@@ -153,13 +162,15 @@ pub extern "C" fn wickslate_recover(
     image: &[u8],
     out: &mut [u8],
 ) -> u32
-    ensures { λ r. ⌜ (r ≡ answer (recoverStatus variant (bytes (now (message .entry))) place (now (image .entry)) (length (now (out .entry)))))
-        × (now (out .exit) ≡ recoverInto variant (bytes (now (message .entry))) place (now (image .entry)) (now (out .entry))) ⌝ }
+    ensures { λ r. ⌜ (r ≡ answer (recoverStatus variant (bytes (now (message .entry))) place (now (image .entry))
+        (length (now (out .entry)))))
+        × (now (out .exit) ≡ recoverInto variant (bytes (now (message .entry))) place (now (image .entry))
+        (now (out .entry))) ⌝ }
 {
     answers::answer_of(recover::recover(variant, message, place, image, out))
 }
 
-// The same of a message whose last byte contributes `bits` bits: refusals 1, 15, 4, 7, 17, 6, 5, 8.
+// The same for a message whose last byte contributes `bits` bits: refusals 1, 15, 4, 7, 17, 6, 5, 8.
 #[no_mangle]
 pub extern "C" fn wickslate_recover_bits(
     variant: u32,
@@ -169,8 +180,10 @@ pub extern "C" fn wickslate_recover_bits(
     image: &[u8],
     out: &mut [u8],
 ) -> u32
-    ensures { λ r. ⌜ (r ≡ answer (recoverStatus variant (partial (now (message .entry)) bits) place (now (image .entry)) (length (now (out .entry)))))
-        × (now (out .exit) ≡ recoverInto variant (partial (now (message .entry)) bits) place (now (image .entry)) (now (out .entry))) ⌝ }
+    ensures { λ r. ⌜ (r ≡ answer (recoverStatus variant (partial (now (message .entry)) bits) place (now (image .entry))
+        (length (now (out .entry)))))
+        × (now (out .exit) ≡ recoverInto variant (partial (now (message .entry)) bits) place (now (image .entry))
+        (now (out .entry))) ⌝ }
 {
     answers::answer_of(recover::recover_bits(variant, message, bits, place, image, out))
 }
@@ -180,10 +193,10 @@ pub extern "C" fn wickslate_recover_bits(
 pub extern "C" fn wickslate_check_entry(list: &[u8], buffer: &[u8], k: usize) -> u32
     ensures { λ r. ⌜ r ≡ answer (segmentStatus (now (list .entry)) (length (now (buffer .entry))) k) ⌝ }
 {
-    answers::answer_of(segments::check(list, buffer, k))
+    answers::answer_of(segments::check_entry(list, buffer, k))
 }
 
-// A step's entry, written through two lent numbers, and its answer; a refusal leaves both.
+// Writes a step's entry through two lent numbers, and gives its answer; a refusal leaves both unchanged.
 fn give(s: Step, offset: &mut u32, length: &mut u32) -> u32
     ensures { λ r. ⌜ (r ≡ stepAnswer s)
         × (now (offset .exit) ≡ offsetGiven s (now (offset .entry)))
@@ -199,7 +212,7 @@ fn give(s: Step, offset: &mut u32, length: &mut u32) -> u32
     }
 }
 
-// The offset and length of entry k: refusals 9, 7.
+// Reads the offset and length of entry k: refusals 9, 7.
 #[no_mangle]
 pub extern "C" fn wickslate_entry(list: &[u8], k: usize, offset: &mut u32, length: &mut u32) -> u32
     ensures { λ r. ⌜ (r ≡ stepAnswer (foundAt (now (list .entry)) k .step))
@@ -211,7 +224,8 @@ pub extern "C" fn wickslate_entry(list: &[u8], k: usize, offset: &mut u32, lengt
     give(s, offset, length)
 }
 
-// A step of a cursor: refusals 9, 7. It gives the next entry's offset and length and moves on; where it is refused all three stay.
+// A step of a cursor: refusals 9, 7. It gives the next entry's offset and length and moves on; if it is refused, all
+// three are unchanged.
 #[no_mangle]
 pub extern "C" fn wickslate_advance<'s, 'a>(
     c: &'s mut Cursor<'a>,
@@ -220,31 +234,35 @@ pub extern "C" fn wickslate_advance<'s, 'a>(
 ) -> u32
     ensures { λ r. ⌜ (r ≡ stepAnswer (foundAt (now (now (c .entry) .list)) (now (c .entry) .next) .step))
         × (now (c .exit) ≡ movedOn (now (c .entry)))
-        × (now (offset .exit) ≡ offsetGiven (foundAt (now (now (c .entry) .list)) (now (c .entry) .next) .step) (now (offset .entry)))
-        × (now (length .exit) ≡ lengthGiven (foundAt (now (now (c .entry) .list)) (now (c .entry) .next) .step) (now (length .entry))) ⌝ }
+        × (now (offset .exit)
+        ≡ offsetGiven (foundAt (now (now (c .entry) .list)) (now (c .entry) .next) .step) (now (offset .entry)))
+        × (now (length .exit)
+        ≡ lengthGiven (foundAt (now (now (c .entry) .list)) (now (c .entry) .next) .step) (now (length .entry))) ⌝ }
 {
     give(lent::advance(c), offset, length)
 }
 
 // The digest over a list and its segments or, if `wanted` is not 0, the end state: refusals 1, 9, 10, 11, 4, 5.
 #[no_mangle]
-pub extern "C" fn wickslate_digest_list(
+pub extern "C" fn wickslate_hash_list(
     variant: u32,
     list: &[u8],
     buffer: &[u8],
     wanted: u32,
     out: &mut [u8],
 ) -> u32
-    ensures { λ r. ⌜ (r ≡ answer (listStatus variant (now (list .entry)) (now (buffer .entry)) (wantedOf wanted) (length (now (out .entry)))))
-        × (now (out .exit) ≡ listInto variant (now (list .entry)) (now (buffer .entry)) (wantedOf wanted) (now (out .entry))) ⌝ }
+    ensures { λ r. ⌜ (r ≡ answer (listStatus variant (now (list .entry)) (now (buffer .entry)) (wantedOf wanted)
+        (length (now (out .entry)))))
+        × (now (out .exit) ≡ listInto variant (now (list .entry)) (now (buffer .entry)) (wantedOf wanted)
+        (now (out .entry))) ⌝ }
 {
-    answers::answer_of(segments::digest_list(variant, list, buffer, wanted_of(wanted), out))
+    answers::answer_of(segments::hash_list(variant, list, buffer, wanted_of(wanted), out))
 }
 
-// Whether a report can be made of a manifest: refusals 12, 13, 14.
+// Whether a report can be made with a manifest: refusals 12, 13, 14.
 #[no_mangle]
-pub extern "C" fn wickslate_check_manifest(list: &[u8]) -> u32
-    ensures { λ r. ⌜ r ≡ answer (manifestStatus (now (list .entry))) ⌝ }
+pub extern "C" fn wickslate_check_manifest(manifest: &[u8]) -> u32
+    ensures { λ r. ⌜ r ≡ answer (manifestStatus (now (manifest .entry))) ⌝ }
 {
-    answers::answer_of(manifest::check(list))
+    answers::answer_of(manifest::check(manifest))
 }

@@ -1,4 +1,7 @@
--- `lent::advance` meets its contract: a walk of its MIR, by hand. The borrow of the cursor is opened, the slice and the number are copied out of it and passed to `segments::entry_at`, the next number is stored, and the borrow is closed at the cursor with that number. Assumes nothing.
+-- `lent::advance` meets its contract: a walk of its MIR, by hand. The borrow of the cursor is opened, the slice and the
+-- number are copied out of it and passed to `segments::entry_at`, the next number is stored, and the borrow is closed
+-- at
+-- the cursor with that number. Assumes nothing.
 use mathlib.Core.Path.{_≡_, refl, ap, _∙_}
 use Prim.Native.Nat.{ℕ, _<_, _^_}
 use mathlib.Core.List.{List, [], _∷_}
@@ -74,7 +77,7 @@ place = record {
   after = λ κs e. tt;
 }
 
--- the cursor with another number
+-- the cursor with a different number
 abbrev placed : Cursor → ℕ → Cursor
 placed w k = record { list = w .list; next = k }
 
@@ -128,20 +131,24 @@ module _ {M : Type 1} (𝓤 : URA M) (H : Heap 𝓤) (A : Atoms 𝓤) (W : Given
       opens ! tt (B κ′) {h = h} b o (λ vs. spelt ! (B κ′) (Is (B κ′)) (shows 𝓤 H A (B κ′)) (LL.vals (T.the-type (α κ′)) (T′.the-laws (α κ′))) (LL.tells (T.the-type (α κ′)) (T′.the-laws (α κ′))) fullShare h vs b o $
       use1 W (‵ (fat fullShare (T′.mir erased) b o (mach h))) (W .laws .raw-at fullShare (T′.mir erased) b o (mach h)) $
       move ! (1 ∷ []) $ peeks ! (B κ′) (Is (B κ′)) (shows 𝓤 H A (B κ′)) h (mach h ∷ []) (λ was. move ! (1 ∷ 0 ∷ []) $
-      -- [the struct's cell; what a Cursor owns; the open borrow; obs; auth; 'a's token; …; _4; …; _3; …; _2; …; _1; …; room for _0; …]
+      -- [the struct's cell; what a Cursor owns; the open borrow; obs; auth; 'a's token; …; _4; …; _3; …; _2; …; _1; …;
+      -- room for _0; …]
       assigns ! (of-opd ! (load ! (from ! (hop ! (look ! 13 refl) (fld ! refl (stop !)))) (look-in ! 0 (sub ! 0 refl (whole !))))) (from ! (stop !)) (init ! 9 refl (tt, (tt, (record { fits = room κ′ h was .0 }, tt)))) $
       assigns ! (of-opd ! (load ! (from ! (hop ! (look ! 13 refl) (fld ! refl (stop !)))) (look-in ! 0 (sub ! 1 refl (whole !))))) (from ! (stop !)) (init ! 7 refl (tt, record { fits = n-fits κ′ h was })) $
       -- the struct is Copy: one copy of what it owns is kept, and the other is taken apart for the call
       move ! (1 ∷ []) $ use1 W (‵ Own ⊛ ‵ Own) (LL.copy (T.the-type (α κ′)) (T′.the-copy (α κ′)) 𝓤 H A W .twice h (mach h ∷ [])) $ split ! $
       use1 W (given (mach h ∷ [] ≡ mach h ∷ []) (‵ All)) (own-open 𝓤 H A W (T.the-type (α κ′)) (T′.the-laws (α κ′)) at (mach h)) $ learn ! (λ _. move ! (6 ∷ 0 ∷ []) $
-      -- ['a's token; what is passed; what the struct owns; the cell; the open borrow; obs; auth; …; _4; …; _3; …; _2; …; _1; …; room for _0; …]
+      -- ['a's token; what is passed; what the struct owns; the cell; the open borrow; obs; auth; …; _4; …; _3; …; _2;
+      -- …; _1; …; room for _0; …]
       calls place D.the-row Finds ! (fmOf 𝓤 H (W .laws) 𝓣) known (κs .1) (qs .1) tt at (values place (κs .1) at) (and-then ! (load ! (from ! (stop !)) (look ! 9 refl)) (and-then ! (load ! (from ! (stop !)) (look ! 7 refl)) (no-more !))) (λ u r ws e is. move ! (2 ∷ []) $ drop ! $
-      -- [the answer; 'a's token; what the struct owns; the cell; the open borrow; obs; auth; …; _4; …; _3; …; room for _2; …; _1; …; room for _0; …]
+      -- [the answer; 'a's token; what the struct owns; the cell; the open borrow; obs; auth; …; _4; …; _3; …; room for
+      -- _2; …; _1; …; room for _0; …]
       land ! (from ! (stop !)) (init ! 12 refl (LL.lawful D.the-type D′.the-laws 𝓤 H A W .typed r _ is .0)) $
       rewrite ! 12 (λ (w : Val). ‵ (fat fullShare D′.mir l₂ 0 w)) (ap only (LL.tells D.the-type D′.the-laws r (u ∷ []) is)) refl $
       assigns ! (of-opd ! (load ! (from ! (fld ! refl (stop !))) (look-in ! 12 (sub ! 1 refl (whole !))))) (from ! (hop ! (look ! 14 refl) (fld ! refl (stop !)))) (store-in ! 3 (sub ! 1 refl (whole !)) (tt, record { fits = next-of r u is })) $
       assigns ! (of-opd ! (load ! (from ! (fld ! refl (stop !))) (look-in ! 12 (sub ! 0 refl (whole !))))) (from ! (stop !)) (init ! 16 refl (EL.lawful S.the-type S′.the-laws 𝓤 H A W tt .typed (r .step) _ (step-of r u is) .0)) $
-      -- what the slice owns is kept, and the number's facts are made anew: the struct is put together at the new number, and the borrow is closed
+      -- what the slice owns is kept, and the number's facts are made anew: the struct is put together at the new
+      -- number, and the borrow is closed
       drop ! $ owned ! usize (Is usize) (uint-makes 𝓤 H A W w64) (r .next) _ (refl, next-of r u is) $ move ! (2 ∷ 0 ∷ []) $
       use2 W (‵ (B κ′ .own (placed h (r .next)) (mach (placed h (r .next)) ∷ []))) (own-put 𝓤 H A W (T.the-type (α κ′)) (T′.the-laws (α κ′)) 1 at (r .next) (mach h)) $
       move ! (2 ∷ []) $ use1 W (‵ (cellAt fullShare (B κ′ .mir) (mach (placed h (r .next)) ∷ []) b o)) (W .laws .at-raw fullShare (T′.mir erased) b o (mach (placed h (r .next)))) $

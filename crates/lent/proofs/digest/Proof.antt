@@ -2,7 +2,7 @@
 use contract.Monad.{fact-mono}
 use Rattle.answers.proofs.Status as S
 use Rattle.standard.specs.declared.Wanted.the-variants.{Digest}
-use Rattle.hasher.proofs.digest as callee
+use Rattle.hasher.proofs.results.digest as callee
 use Rattle.lent.proofs.Passed.{Promised}
 use Rattle.lent.proofs.Beside.{none}
 use Rattle.lent.proofs.ReadThrough.{reading, read-meets}

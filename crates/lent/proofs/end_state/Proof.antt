@@ -2,7 +2,7 @@
 use contract.Monad.{fact-mono}
 use Rattle.answers.proofs.Status as S
 use Rattle.standard.specs.declared.Wanted.the-variants.{EndState}
-use Rattle.hasher.proofs.end_state as callee
+use Rattle.hasher.proofs.results.end_state as callee
 use Rattle.lent.proofs.Passed.{Promised}
 use Rattle.lent.proofs.Beside.{none}
 use Rattle.lent.proofs.ReadThrough.{reading, read-meets}

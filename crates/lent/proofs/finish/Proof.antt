@@ -1,7 +1,7 @@
 -- `lent::finish` meets its contract: `hasher::finish` on what is lent. Assumes nothing.
 use contract.Monad.{fact-mono}
 use Rattle.answers.proofs.Status as S
-use Rattle.hasher.proofs.finish as callee
+use Rattle.hasher.proofs.running.finish as callee
 use Rattle.lent.proofs.Passed.{Promised}
 use Rattle.lent.proofs.Beside.{none}
 use Rattle.lent.proofs.Advancing.{hash, advancing}

@@ -1,7 +1,7 @@
 -- `lent::start` meets its contract: `hasher::started_over` on what is lent. Assumes nothing.
 use contract.Monad.{fact-mono}
 use Rattle.answers.proofs.Status as S
-use Rattle.hasher.proofs.started_over as callee
+use Rattle.hasher.proofs.running.started_over as callee
 use Rattle.lent.proofs.Passed.{Promised}
 use Rattle.lent.proofs.Advancing.{hash, advancing}
 use Rattle.lent.proofs.Advances.{Advances, advance-meets}

@@ -1,7 +1,7 @@
 -- `lent::update_bits` meets its contract: `hasher::update_bits` on what is lent. Assumes nothing.
 use contract.Monad.{fact-mono}
 use Rattle.answers.proofs.Status as S
-use Rattle.hasher.proofs.update_bits as callee
+use Rattle.hasher.proofs.running.update_bits as callee
 use Rattle.lent.proofs.Passed.{Promised}
 use Rattle.lent.proofs.Advancing.{hash, advancing}
 use Rattle.lent.proofs.Advances.{Advances, advance-meets}

@@ -1,7 +1,6 @@
 -- `recover::difference` meets its contract: what lies between the states on both sides of the place. Assumes nothing.
 use mathlib.Core.Path.{_≡_, sym, _∙_, subst}
 use mathlib.Core.Bool.{true, false}
-use mathlib.Core.List.{[]}
 use mathlib.Core.Logic.{⊎-elim}
 use Prim.Native.Nat.{ℕ, suc}
 use native.Mathlib.Omega.{arith}
@@ -16,7 +15,8 @@ use Rattle.standard.proofs.Variants.{streams, not-sponge}
 use Rattle.bytes.proofs.Elements.{bytes-lt}
 use Rattle.standard.specs.Layout.{stateRoom, packedState}
 use Rattle.chain.specs.Holding.{Holds}
-use Rattle.chain.specs.Parts.{messageIn}
+use Rattle.chain.specs.MessageBytes.{messageIn}
+use Rattle.chain.proofs.OwnedHeld.{none-few}
 use Rattle.chain.proofs.States.{state-length, stored-ready}
 use Rattle.recover.specs.Difference.{between}
 use Rattle.recover.proofs.Searching.{way}
@@ -30,7 +30,7 @@ run-blocks-requires c κs =
     let v = start .args .v in
     let k = start .pre .0 in
     let s = c .before .start in
-    (k, (stored-ready v k (s .result) _ (streams v k .start-length) (s .ensures), (omega arith, omega (arith, start .pre .1 .1 .0, few v k (start .pre .1 .0)))))
+    (k, (stored-ready v k (s .result) _ (streams v k .start-length) (s .ensures), (none-few (c .none .ensures), omega (arith, start .pre .1 .1 .0, few v k (start .pre .1 .0)))))
 
 -- the number is not a sponge's: it is 11, and the place the last
 module _ (c : tie.Then1) where
@@ -58,14 +58,14 @@ module _ (c : tie.Then1) where
   holds-eleven =
       subst (λ (n : ℕ). Holds n (ran .run-blocks .result)) eleven
       (before-ready (entry .args .v) (entry .pre .0) (entry .pre .1 .0) (stateIn (variant (entry .args .v)) (entry .args .end)) end-long (entry .args .place) (entry .pre .1 .1 .0)
-      (ran .before .before .start .result) (ran .run-blocks .result) [] (ran .before .before .start .ensures) (ran .run-blocks .ensures))
+      (ran .before .before .start .result) (ran .run-blocks .result) (ran .before .before .start .ensures) (ran .before .none .result) (ran .before .none .ensures) (ran .run-blocks .ensures))
 
 returns : tie.Need-returns
 returns c =
     let t = c .before in
     let a = entry t .args in
     last-held (a .v) (entry t .pre .0) (entry t .pre .1 .0) (stateIn (variant (a .v)) (a .end)) (end-long t) (a .place) (entry t .pre .1 .1 .0)
-    (ran t .before .before .start .result) (ran t .run-blocks .result) [] (ran t .before .before .start .ensures) (ran t .run-blocks .ensures) (final t) (c .cipher-difference .result)
+    (ran t .before .before .start .result) (ran t .run-blocks .result) (ran t .before .before .start .ensures) (ran t .before .none .result) (ran t .before .none .ensures) (ran t .run-blocks .ensures) (final t) (c .cipher-difference .result)
     (subst (λ (n : ℕ). c .cipher-difference .result ≡ packedState (variant n) (between (variant n .family) (variant n) (stateIn (variant n) (ran t .run-blocks .result)) (stateIn (variant n) (a .end)))) (sym (eleven t)) (c .cipher-difference .ensures))
 
 -- the number is a sponge's
@@ -98,11 +98,11 @@ returns-2 c =
     let k = start .pre .0 in
     let r = c .xored in
     difference-held (a .v) k (start .pre .1 .0) (stateIn (variant (a .v)) (a .end)) (state-length (a .v) k (a .end) (omega (arith, start .good))) (a .place) (start .pre .1 .1 .0)
-    (begun .start .result) (forward .run-blocks .result) [] (begun .start .ensures) (forward .run-blocks .ensures) (is-sponge sponge)
+    (begun .start .result) (forward .run-blocks .result) (begun .start .ensures) (forward .before .none .result) (forward .before .none .ensures) (forward .run-blocks .ensures) (is-sponge sponge)
     (back .run-back .result) (permuted .permuted .result) (r .result)
     (back .run-back .ensures) (permuted .permuted .ensures) (bytes-lt stateRoom (r .result) _ (r .ok)) (omega arith) (r .ensures)
 
 pub difference-spec : {M : Type 1} → statement M
 difference-spec =
-    tie.close (tie.spec (λ c κs. search needs) (λ c. search needs) run-blocks-requires (λ c κs. search needs) (λ c κs. holds-eleven c) returns run-back-requires permuted-requires
+    tie.close (tie.spec (λ c κs. search needs) (λ c κs. search needs) run-blocks-requires (λ c κs. search needs) (λ c κs. holds-eleven c) returns run-back-requires permuted-requires
     (λ c. search needs) (λ c κs. search needs) returns-2)

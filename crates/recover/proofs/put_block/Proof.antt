@@ -8,7 +8,7 @@ use borrow.Author.Needs.{needs}
 use Rattle.standard.proofs.Variants.{bounds}
 use Rattle.bytes.proofs.Elements.{bytes-lt}
 use Rattle.chain.proofs.ImageLaws.{image-length}
-use Rattle.chain.specs.Parts.{messageIn}
+use Rattle.chain.specs.MessageBytes.{messageIn}
 use Rattle.recover.proofs.RecoverLaws.{Placed, checks-passed, ready, none-found, one-found}
 use Rattle.recover.proofs.put_block.Statement.{statement}
 use Rattle.recover.proofs.put_block.Tie as tie

@@ -11,9 +11,9 @@ use Rattle.answers.specs.Checks.{Check, firstRefusal}
 use Rattle.answers.proofs.Statuses.{tag-refused}
 use Rattle.standard.specs.Chain.{blockCount}
 use Rattle.standard.specs.Variants.{variant}
-use Rattle.chain.specs.Parts.{messageIn}
+use Rattle.chain.specs.MessageBytes.{messageIn}
 use Rattle.recover.specs.Recovering.{placedChecks, foundChecks, recoveredBlock}
-use Rattle.chain.proofs.PartBytes.{held-length}
+use Rattle.chain.proofs.MessageLaws.{held-length}
 use Rattle.recover.proofs.RecoverLaws.{row-refuses, row-passes}
 use Rattle.recover.proofs.recover_at.Statement.{statement}
 use Rattle.recover.proofs.recover_at.Tie as tie

@@ -13,8 +13,8 @@ use Rattle.standard.specs.Messages.{Given, givenBits}
 use Rattle.standard.specs.Variants.{variant}
 use Rattle.standard.proofs.Variants.{known-high}
 use Rattle.chain.specs.Messages.{messageChecks}
-use Rattle.chain.specs.Parts.{given}
-use Rattle.chain.proofs.PartBytes.{message-held, holds-message, Asked, message-passed, message-short}
+use Rattle.chain.specs.MessageBytes.{given}
+use Rattle.chain.proofs.MessageLaws.{message-held, holds-message, Asked, message-passed, message-short}
 use Rattle.recover.proofs.RecoverLaws.{left-refused, left-behind}
 use Rattle.recover.proofs.recover_with.Statement.{statement}
 use Rattle.recover.proofs.recover_with.Tie as tie

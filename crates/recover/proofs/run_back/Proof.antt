@@ -9,10 +9,11 @@ use Rattle.standard.specs.Chain.{blocksOf}
 use Rattle.standard.specs.Variants.{variant}
 use Rattle.chain.specs.TakenBack.{unrun}
 use Rattle.standard.specs.Layout.{packedState}
-use Rattle.chain.specs.Blocks.{heldThen}
+use Rattle.chain.specs.Blocks.{bitsAfter}
 use Rattle.chain.proofs.BlockRuns.{few-halves, block-at-ready}
+use Rattle.chain.proofs.OwnedHeld.{none-few}
 use Rattle.chain.proofs.States.{state-length}
-use Rattle.chain.specs.Parts.{messageIn}
+use Rattle.chain.specs.MessageBytes.{messageIn}
 use Rattle.recover.proofs.Runs.{count-held, few, place-low, place-fits, back-start, back-at, back-ready, back-more}
 use borrow.Author.Needs.{needs}
 use Rattle.recover.proofs.run_back.Statement.{statement}
@@ -20,11 +21,11 @@ use Rattle.recover.proofs.run_back.Tie as tie
 
 -- the state before the last block that is taken back
 abbrev Inv-loop : tie.InvT-loop
-Inv-loop v front last bits place q n s₀ i₀ t12 s i =
+Inv-loop v front last bits place q n none s₀ i₀ s i =
     (place < i) × (i ≤ n) × (s ≡ packedState (variant v) (unrun (variant v) (stateIn (variant v) s₀) (drop (place + n - i + 1) (blocksOf (variant v) (messageIn front last bits)))))
 
 abbrev μ-loop : tie.MeasureT-loop
-μ-loop v front last bits place q n s₀ i₀ t12 s i = n - i
+μ-loop v front last bits place q n none s₀ i₀ s i = n - i
 
 -- how many blocks the message has
 abbrev many : tie.Start Inv-loop μ-loop → ℕ
@@ -46,10 +47,10 @@ counted c =
 
 loop-holds : tie.Need-loop-holds Inv-loop μ-loop
 loop-holds c =
-    let start = c .before .before .before in
+    let start = c .before .before .before .before in
     let a = start .args in
-    let n = counted c in
-    let last : a .place + c .block-count .result - (a .place + 1) + 1 ≡ c .block-count .result = omega (arith, n, start .pre .1 .1 .0) in (
+    let n = counted (c .before) in
+    let last : a .place + c .before .block-count .result - (a .place + 1) + 1 ≡ c .before .block-count .result = omega (arith, n, start .pre .1 .1 .0) in (
       omega arith,
       omega (arith, n, start .pre .1 .1 .0),
       start .pre .1 .1 .1
@@ -60,7 +61,7 @@ mul-block-at : tie.Need-mul-block-at Inv-loop μ-loop
 mul-block-at c =
     let start = c .before .before .before .before .before .before in
     let r = c .before .before .before .before in
-    place-fits (start .args .v) (start .pre .0 .0) (start .pre .1 .0) (r .block-bits .result / 4) (quarter r) _ (omega (arith, counted (c .before .before .before), c .before .before .loop .inv))
+    place-fits (start .args .v) (start .pre .0 .0) (start .pre .1 .0) (r .block-bits .result / 4) (quarter r) _ (omega (arith, counted (c .before .before .before), c .before .loop .inv))
 
 block-at-requires : tie.Need-block-at-requires Inv-loop μ-loop
 block-at-requires c κs =
@@ -68,9 +69,9 @@ block-at-requires c κs =
     let v = start .args .v in
     let k = start .pre .0 .0 in
     let r = c .before .before .before .before in (
-      omega arith,
+      none-few (c .before .before .none .ensures),
       omega (arith, few-halves v k (r .block-bits .result / 4) (quarter r)),
-      place-low v k (start .pre .1 .0) (r .block-bits .result / 4) (quarter r) _ (omega (arith, counted (c .before .before .before), c .before .before .loop .inv)),
+      place-low v k (start .pre .1 .0) (r .block-bits .result / 4) (quarter r) _ (omega (arith, counted (c .before .before .before), c .before .loop .inv)),
     )
 
 unstepped-requires : tie.Need-unstepped-requires Inv-loop μ-loop
@@ -80,11 +81,11 @@ unstepped-requires c κs =
     let k = start .pre .0 .0 in
     let r = c .before .before .before .before .before in
     let n = c .before .before .before .before .block-count in
-    let l = c .before .before .before .loop in (
+    let l = c .before .before .loop in (
       start .pre .0,
       (
         back-ready (a .v) k (start .pre .1 .0) (start .pre .0 .1) (stateIn (variant (a .v)) (a .end)) (end-long start) (a .place + n .result - l .i + 1) (l .s) (l .inv .2),
-        block-at-ready (a .v) k (r .block-bits .result / 4) (quarter r) (c .block-at .result) (heldThen [] 0 (a .front .now ++ a .last ∷ [])) _ (c .block-at .ensures),
+        block-at-ready (a .v) k (r .block-bits .result / 4) (quarter r) (c .block-at .result) (bitsAfter (c .before .before .before .none .result) (a .front .now ++ a .last ∷ [])) _ (c .block-at .ensures),
       ),
     )
 
@@ -94,29 +95,31 @@ loop-again c =
     let a = start .args in
     let r = c .before .before .before .before .before .before in
     let n = c .before .before .before .before .before .block-count in
-    let l = c .before .before .before .before .loop in
+    let none = c .before .before .before .before .none in
+    let l = c .before .before .before .loop in
     let x = c .before .block-at in
     let end = stateIn (variant (a .v)) (a .end) in
     let j : ℕ = a .place + n .result - l .i in (
       omega (arith, l .inv),
       omega arith,
       back-at (a .v) (start .pre .0 .0) (start .pre .1 .0) (start .pre .0 .1) end (end-long start) j (a .place + n .result - (l .i + 1) + 1) (omega (arith, l .inv)) (c .unstepped .result)
-          (back-more (a .v) (start .pre .0 .0) (start .pre .1 .0) (start .pre .0 .1) end (end-long start) (r .block-bits .result / 4) (quarter r) j (l .s) [] (x .result) (c .unstepped .result)
+          (back-more (a .v) (start .pre .0 .0) (start .pre .1 .0) (start .pre .0 .1) end (end-long start) (r .block-bits .result / 4) (quarter r) j (l .s) (x .result) (c .unstepped .result) (none .result) (none .ensures)
           (omega (arith, counted (c .before .before .before .before .before), l .inv)) (l .inv .2) (x .ensures) (c .unstepped .ensures)),
     )
 
 returns : tie.Need-returns Inv-loop μ-loop
 returns c =
-    let start = c .before .before .before .before .before in
+    let start = c .before .before .before .before .before .before in
     let a = start .args in
     let l = c .before .loop in
-    back-at (a .v) (start .pre .0 .0) (start .pre .1 .0) (start .pre .0 .1) (stateIn (variant (a .v)) (a .end)) (end-long start) (a .place + c .before .before .block-count .result - l .i + 1) (suc (a .place))
+    back-at (a .v) (start .pre .0 .0) (start .pre .1 .0) (start .pre .0 .1) (stateIn (variant (a .v)) (a .end)) (end-long start) (a .place + c .before .before .before .block-count .result - l .i + 1) (suc (a .place))
     (omega (arith, l .inv)) (l .s) (l .inv .2)
 
 pub run-back-spec : {M : Type 1} → statement M
 run-back-spec =
     tie.close (tie.spec Inv-loop μ-loop (λ c κs. tt) (λ c. omega arith) (λ c κs. (c .before .before .pre .0 .0, c .before .before .pre .1 .0 .short))
-    (λ c. omega (arith, few-blocks (c .before .before .before), c .before .before .before .pre .1 .1 .0)) loop-holds
-    (λ c. omega (arith, few-blocks (c .before .before .before .before .before), counted (c .before .before), c .before .before .before .before .before .pre .1 .1 .0))
-    (λ c. omega (arith, c .before .loop .inv)) (λ c. search needs) mul-block-at block-at-requires unstepped-requires (λ c. omega arith) (λ c. omega arith)
+    (λ c κs. search needs)
+    (λ c. omega (arith, few-blocks (c .before .before .before .before), c .before .before .before .before .pre .1 .1 .0)) loop-holds
+    (λ c. omega (arith, few-blocks (c .before .before .before .before .before .before), counted (c .before .before .before), c .before .before .before .before .before .before .pre .1 .1 .0))
+    (λ c. omega (arith, c .before .loop .inv)) mul-block-at block-at-requires unstepped-requires (λ c. omega arith) (λ c. omega arith)
     loop-again returns)

@@ -22,20 +22,20 @@ abbrev μ-loop : tie.MeasureT-loop
 loop-holds : tie.Need-loop-holds Inv-loop μ-loop
 loop-holds c = (omega arith, below-none _)
 
-check-entry-requires : tie.Need-check-entry-requires Inv-loop μ-loop
-check-entry-requires c κs = (c .before .before .before .before .pre, omega arith)
+check-bounds-requires : tie.Need-check-bounds-requires Inv-loop μ-loop
+check-bounds-requires c κs = (c .before .before .before .before .pre, omega arith)
 
 loop-again : tie.Need-loop-again Inv-loop μ-loop
 loop-again c =
     let b = c .before .before in
-    (omega arith, below-more _ _ (b .before .before .loop .inv .1) (sym (b .check-entry .ensures) ∙ c .enum-told .given .1))
+    (omega arith, below-more _ _ (b .before .before .loop .inv .1) (sym (b .check-bounds .ensures) ∙ c .enum-told .given .1))
 
 returns : tie.Need-returns Inv-loop μ-loop
 returns c =
     let b = c .before .before in
     let at = b .before .before in
     let a = at .before .before .before .args in
-    let e = b .check-entry .ensures in
+    let e = b .check-bounds .ensures in
     e ∙ sym (each-first (count (a .list .now)) (entryChecks (a .list .now) (length (a .buffer .now))) (at .loop .k) (omega arith) (at .loop .inv .1) (λ d. not-done _ (sym (c .enum-told2 .given .1) ∙ e ∙ d)))
 
 returns-2 : tie.Need-returns-2 Inv-loop μ-loop
@@ -45,5 +45,5 @@ returns-2 c =
 
 pub check-all-spec : {M : Type 1} → statement M
 check-all-spec =
-    tie.close (tie.spec Inv-loop μ-loop loop-holds check-entry-requires (λ c. search needs) (λ c. omega arith) (λ c. omega arith)
+    tie.close (tie.spec Inv-loop μ-loop loop-holds check-bounds-requires (λ c. search needs) (λ c. omega arith) (λ c. omega arith)
     loop-again (λ c. search needs) returns returns-2)

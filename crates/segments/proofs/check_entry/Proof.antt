@@ -1,35 +1,24 @@
--- `segments::check_entry` meets its contract: refusal 10, then 11. Assumes nothing.
-use native.Mathlib.Omega.{arith}
-use borrow.Author.Tests.{lt-ltb, le-ltb}
+-- `segments::check_bounds` meets its contract: the checks of a step, then those of the entry. Assumes nothing.
+use mathlib.Core.Path.{_≡_, sym, _∙_}
 use borrow.Author.Needs.{needs}
-use Rattle.segments.specs.Entries.{entryChecks}
-use Rattle.segments.proofs.EntryLaws.{list-short}
+use Rattle.answers.proofs.Rows.{refused-first, row-second}
+use Rattle.segments.specs.Entries.{stepChecks, entryChecks, segmentChecks}
+use Rattle.segments.proofs.EntryLaws.{step-there}
 use Rattle.segments.proofs.check_entry.Statement.{statement}
 use Rattle.segments.proofs.check_entry.Tie as tie
 
-cast-t8 : tie.Need-cast-t8
-cast-t8 c = omega (arith, list-short _ (c .before .before .before .before .before .pre .0))
-
 returns : tie.Need-returns
-unfolding entryChecks
-returns c = rw (← c .before .before .offset-at .ensures, ← c .before .former-end .ensures, lt-ltb _ _ (c .if1 .taken))
+unfolding segmentChecks
+returns c = refused-first (stepChecks _ _) (entryChecks _ _ _) _ _ (c .before .before .check-step .ensures) (c .enum-told2 .given .1)
 
-cast-t11 : tie.Need-cast-t11
-cast-t11 c = omega (arith, list-short _ (c .before .before .before .before .before .before .before .pre .0))
+check-bounds-requires : tie.Need-check-bounds-requires
+check-bounds-requires c κs =
+    let t = step-there _ _ (sym (c .before .before .check-step .ensures) ∙ c .enum-told .given .1) in
+    (t .whole, t .inside)
 
 returns-2 : tie.Need-returns-2
-unfolding entryChecks
-returns-2 c =
-    let first = c .before .before in
-    rw (← c .before .end-at .ensures, ← first .before .before .offset-at .ensures, ← first .before .former-end .ensures, le-ltb _ _ (first .if1 .left), lt-ltb _ _ (c .if2 .taken))
-
-returns-3 : tie.Need-returns-3
-unfolding entryChecks
-returns-3 c =
-    let first = c .before .before in
-    rw (← c .before .end-at .ensures, ← first .before .before .offset-at .ensures, ← first .before .former-end .ensures, le-ltb _ _ (first .if1 .left), le-ltb _ _ (c .if2 .left))
+unfolding segmentChecks
+returns-2 c = c .check-bounds .ensures ∙ sym (row-second (stepChecks _ _) (entryChecks _ _ _) (sym (c .before .before .before .check-step .ensures) ∙ c .before .enum-told .given .1))
 
 pub check-entry-spec : {M : Type 1} → statement M
-check-entry-spec =
-    tie.close (tie.spec (λ c κs. search needs) (λ c. search needs) (λ c κs. search needs) cast-t8 returns (λ c κs. search needs) cast-t11
-    returns-2 returns-3)
+check-entry-spec = tie.close (tie.spec (λ c κs. search needs) (λ c. search needs) (λ c. search needs) returns check-bounds-requires returns-2)

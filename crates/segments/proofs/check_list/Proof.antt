@@ -8,7 +8,7 @@ use borrow.Author.Tests.{not-true, not-false, lt-ltb, le-ltb}
 use borrow.Author.Needs.{needs}
 use Rattle.answers.specs.declared.Refusal.the-variants.{TooLong}
 use Rattle.answers.specs.Checks.{when, firstRefusal}
-use Rattle.answers.specs.Outputs.{most}
+use Rattle.answers.specs.Outputs.{maxBytes}
 use Rattle.standard.specs.Variants.{variant, known}
 use Rattle.standard.proofs.Variants.{known-high}
 use Rattle.hasher.specs.Reading.{roomChecks}
@@ -46,7 +46,7 @@ module _ (c : tie.After-message-length) where
   entry = all .before .before .before .before .before .before .before
 
   -- what the checks behind the entries' come to
-  last : firstRefusal (when (ltb most (c .message-length .result)) TooLong ∷ roomChecks (variant (entry .args .variant)) (entry .args .wanted) (entry .args .n))
+  last : firstRefusal (when (ltb maxBytes (c .message-length .result)) TooLong ∷ roomChecks (variant (entry .args .variant)) (entry .args .wanted) (entry .args .n))
       ≡ listStatus (entry .args .variant) (entry .args .list .now) (entry .args .buffer .now) (entry .args .wanted) (entry .args .n)
   last =
       list-message (entry .args .variant) (entry .args .list .now) (entry .args .buffer .now) (entry .args .wanted) (whole (all .before))

@@ -1,4 +1,5 @@
--- `wickslate::give` meets its contract: an entry is written and 0 answered; a refusal's number is answered, and both numbers stay. Assumes nothing.
+-- `wickslate::give` meets its contract: an entry is written and 0 answered; a refusal's number is answered, and both
+-- numbers are unchanged. Assumes nothing.
 use mathlib.Core.Path.{sym, ap, _∙_}
 use borrow.Author.Needs.{needs}
 use Rattle.segments.specs.declared.Step.{Step}

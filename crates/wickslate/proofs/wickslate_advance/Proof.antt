@@ -1,4 +1,6 @@
--- `wickslate::wickslate_advance` meets its contract: a walk of its MIR, by hand. The cursor is lent on to `lent::advance` and the two numbers to `give`, each for good. All that is known of these two is their contracts. Assumes nothing.
+-- `wickslate::wickslate_advance` meets its contract: a walk of its MIR, by hand. The cursor is lent on to
+-- `lent::advance`
+-- and the two numbers to `give`, each for good. All that is known of these two is their contracts. Assumes nothing.
 use mathlib.Core.Path.{_≡_, refl, ap, _∙_}
 use Prim.Native.Nat.{ℕ}
 use mathlib.Core.List.{List, [], _∷_}
@@ -117,23 +119,27 @@ module _ {M : Type 1} (𝓤 : URA M) (H : Heap 𝓤) (A : Atoms 𝓤) (W : Given
       use1 W (‵ (flft (κs .1 .0) (qs .1 .0)) ⊛ raw (toks 𝓤 A 2 (κs .1 .1) (qs .1 .1))) (id⊢ 𝓤 _) $ split ! $
       use0 W (raw (emp 𝓤)) (id⊢ 𝓤 _) $ move ! (1 ∷ 0 ∷ []) $ use2 W (raw (toks 𝓤 A 1 (κc .1) (qc .1))) (id⊢ 𝓤 _) $ move ! (2 ∷ 0 ∷ []) $ use2 W (raw (toks 𝓤 A 2 κc qc)) (id⊢ 𝓤 _) $
       move ! (0 ∷ 2 ∷ []) $
-      -- [the cursor's tokens; the cursor; the numbers' tokens; the numbers; room for _7; …; room for _6; …; room for _5; …; room for _4; …; _3; …; _2; …; _1; …; room for _0; …]
+      -- [the cursor's tokens; the cursor; the numbers' tokens; the numbers; room for _7; …; room for _6; …; room for
+      -- _5; …; room for _4; …; _3; …; _2; …; _1; …; room for _0; …]
       assigns ! (addr ! (from ! (hop ! (look ! 16 refl) (stop !)))) (from ! (stop !)) (init ! 8 refl (tt, tt)) $
       calls (advancing cursor nothing-beside) S.the-row Moves ! (fmOf 𝓤 H (W .laws) 𝓣) known κc qc bounds (a .0, tt) (ptr-vals (a .0), tt)
       (and-then ! (load ! (from ! (stop !)) (look ! 7 refl)) (no-more !)) (λ w r zs e is.
-      -- [the step; the cursor's tokens; its last value; the numbers' tokens; the numbers; room for _7; …; room for _6; …; _5; …; room for _4; …; _3; …; _2; …; _1; …; room for _0; …]
+      -- [the step; the cursor's tokens; its last value; the numbers' tokens; the numbers; room for _7; …; room for _6;
+      -- …; _5; …; room for _4; …; _3; …; _2; …; _1; …; room for _0; …]
       land ! (from ! (stop !)) (init ! 11 refl (EL.lawful S.the-type S′.the-laws 𝓤 H A W tt .typed r _ is .0)) $
       assigns ! (addr ! (from ! (hop ! (look ! 15 refl) (stop !)))) (from ! (stop !)) (init ! 7 refl (tt, tt)) $
       assigns ! (addr ! (from ! (hop ! (look ! 13 refl) (stop !)))) (from ! (stop !)) (init ! 5 refl (tt, tt)) $
       move ! (0 ∷ 4 ∷ []) $ fjoin ! $ move ! (3 ∷ 0 ∷ []) $
       calls given u32 Gives ! (fmOf 𝓤 H (W .laws) 𝓣) known-give (κs .1 .1) (qs .1 .1) tt (r, a .1) (w ∷ [], (ptr-vals (a .1 .0), (ptr-vals (a .1 .1 .0), tt)))
       (and-then ! (load ! (from ! (stop !)) (look ! 9 refl)) (and-then ! (load ! (from ! (stop !)) (look ! 5 refl)) (and-then ! (load ! (from ! (stop !)) (look ! 3 refl)) (no-more !)))) (λ u k ws e′ is′.
-      -- [the number; the numbers' tokens; their last values; the cursor's tokens; its last value; _7; …; _6; …; _5; …; _4; …; _3; …; _2; …; _1; …; room for _0; …]
+      -- [the number; the numbers' tokens; their last values; the cursor's tokens; its last value; _7; …; _6; …; _5; …;
+      -- _4; …; _3; …; _2; …; _1; …; room for _0; …]
       land ! (from ! (stop !)) (init ! 19 refl (uint-lawful 𝓤 H A W w32 .typed k _ is′ .0)) $
       returns ! (look ! 19 refl) $ move ! (19 ∷ 20 ∷ 17 ∷ 18 ∷ 15 ∷ 16 ∷ 13 ∷ 14 ∷ 11 ∷ 12 ∷ 9 ∷ 10 ∷ 7 ∷ 8 ∷ 5 ∷ 6 ∷ []) $
       forget ! 0 refl $ free1 ! $ forget ! 0 refl $ free1 ! $ forget ! 0 refl $ free1 ! $ forget ! 0 refl $ free1 ! $
       forget ! 0 refl $ free1 ! $ forget ! 0 refl $ free1 ! $ forget ! 0 refl $ free1 ! $ forget ! 0 refl $ free1 ! $ free0 ! $
-      -- [the number; the numbers' tokens; their last values; the cursor's tokens; its last value]: all last values together, and all tokens
+      -- [the number; the numbers' tokens; their last values; the cursor's tokens; its last value]: all last values
+      -- together, and all tokens
       move ! (2 ∷ []) $ fsplit ! $ drop ! $ move ! (4 ∷ []) $ fsplit ! $ move ! (0 ∷ 2 ∷ []) $ fjoin ! $ move ! (4 ∷ []) $
       use1 W (‵ (flft (κs .0) (qs .0)) ⊛ raw (toks 𝓤 A 1 (κc .1) (qc .1))) (id⊢ 𝓤 _) $ split ! $ move ! (1 ∷ []) $
       use1 W (‵ (flft (κs .1 .0) (qs .1 .0)) ⊛ raw (emp 𝓤)) (id⊢ 𝓤 _) $ split ! $

@@ -1,4 +1,4 @@
--- `wickslate::wickslate_check_entry` meets its contract: the answer of `segments::check` as a number. Assumes nothing.
+-- `wickslate::wickslate_check_entry` meets its contract: the answer of `segments::check_entry` as a number. Assumes nothing.
 use mathlib.Core.Path.{_∙_, ap}
 use borrow.Author.Needs.{needs}
 use Rattle.answers.specs.Refusals.{answer}
@@ -6,7 +6,7 @@ use Rattle.wickslate.proofs.wickslate_check_entry.Statement.{statement}
 use Rattle.wickslate.proofs.wickslate_check_entry.Tie as tie
 
 returns : tie.Need-returns
-returns c = c .answer-of .ensures ∙ ap answer (c .before .check .ensures)
+returns c = c .answer-of .ensures ∙ ap answer (c .before .check-entry .ensures)
 
 pub wickslate-check-entry-spec : {M : Type 1} → statement M
 wickslate-check-entry-spec = tie.close (tie.spec (λ c κs. search needs) (λ c κs. search needs) returns)

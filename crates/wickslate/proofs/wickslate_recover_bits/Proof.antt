@@ -1,4 +1,5 @@
--- `wickslate::wickslate_recover_bits` meets its contract: the number of `recover::recover_bits`'s refusal. Assumes nothing.
+-- `wickslate::wickslate_recover_bits` meets its contract: the number of `recover::recover_bits`'s refusal. Assumes
+-- nothing.
 use mathlib.Core.Path.{_∙_, ap}
 use borrow.Author.Needs.{needs}
 use Rattle.answers.specs.Refusals.{answer}

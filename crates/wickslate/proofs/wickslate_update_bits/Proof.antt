@@ -1,4 +1,5 @@
--- `wickslate::wickslate_update_bits` meets its contract: the answer of `lent::update_bits` as a number. Assumes nothing.
+-- `wickslate::wickslate_update_bits` meets its contract: the answer of `lent::update_bits` as a number. Assumes
+-- nothing.
 use mathlib.Core.Path.{ap, _∙_}
 use contract.Monad.{fact-mono}
 use denote.Builtin.{u32}

@@ -8,7 +8,7 @@ returns : tie.Need-returns
 returns c =
     let w = c .before .before .write-line .ensures in
     let n = c .before .before .before .before .number-of .ensures in
-    rw (← n) (w .0, omega (arith, w .1 .0), omega (arith, w .1 .1))
+    rw (← n) (w .0, (omega (arith, w .1 .0), omega (arith, w .1 .1)))
 
 pub write-refusal-spec : {M : Type 1} → statement M
 write-refusal-spec =

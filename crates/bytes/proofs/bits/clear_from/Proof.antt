@@ -1,4 +1,5 @@
--- `bytes::bits::clear_from` meets its contract: past the end, or the rest of a byte and the bytes behind it. Assumes nothing.
+-- `bytes::bits::clear_from` meets its contract: past the end, or the rest of a byte and the bytes after it. Assumes
+-- nothing.
 use mathlib.Core.Path.{_≡_, sym, ap, _∙_}
 use mathlib.Core.Bool.{Bool, _&&_}
 use Prim.Native.Nat.{ℕ, _+_, _-_, _*_, _/_, _%_, _^_}
@@ -7,6 +8,8 @@ use borrow.Author.Needs.{needs}
 use lib.ListN.{getD, drop}
 use Rattle.standard.specs.Bits.{high-first, bitsIn}
 use Rattle.standard.specs.Layout.{clear}
+use Rattle.bytes.proofs.ByteLaws.{drop-bytes}
+use Rattle.bytes.proofs.CompareLaws.{clear-zero-bytes}
 use Rattle.bytes.proofs.Clear.{past-bit, part-byte, width-set, width-clear}
 use Rattle.bytes.proofs.Shifts.{power, power-pos}
 use Rattle.bytes.proofs.bits.clear_from.Statement.{statement}
@@ -33,6 +36,8 @@ returns-3 c =
     let s = c .before .before .before .before .before in
     let a = s .args in
     c .zero-from .ensures
+    ∙ sym (clear-zero-bytes (drop (a .c / 8 + 1) (a .bytes .now))
+    (drop-bytes (a .c / 8 + 1) (a .bytes .now) (λ i. omega (arith, c .before .before .shared-slice-known2 .given i))))
     ∙ sym (part-byte (a .bytes .now) (a .c) (omega arith)
     ∙ ap (λ (b : Bool). b && clear (bitsIn high-first (drop (a .c / 8 + 1) (a .bytes .now)))) (width-clear high-first (8 - a .c % 8) _ (sym (left s) ∙ c .before .if2 .left)))
 

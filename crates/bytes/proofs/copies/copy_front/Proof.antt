@@ -1,32 +1,25 @@
--- `bytes::copies::copy_front` meets its contract: the bytes passed stand over the front of the old ones. Assumes nothing.
-use Rattle.bytes.proofs.Front.{front-more}
-use mathlib.Core.Path.{_≡_, refl, _∙_}
-use mathlib.Core.List.{_++_}
-use Prim.Native.Nat.{_-_, _≤_}
+-- `bytes::copies::copy_front` meets its contract: bytes written at place 0. Assumes nothing.
+use mathlib.Core.Path.{sym, _∙_}
 use native.Mathlib.Omega.{arith}
-use lib.ListN.{length, take, drop, length-set}
+use borrow.Author.Needs.{needs}
+use lib.Seq.{length-take-le}
+use Rattle.bytes.proofs.Front.{front-written}
 use Rattle.bytes.proofs.copies.copy_front.Statement.{statement}
 use Rattle.bytes.proofs.copies.copy_front.Tie as tie
 
-abbrev Inv-loop : tie.InvT-loop
-Inv-loop s n out₀ i₀ out i = (i ≤ n) × (length out ≡ length out₀) × (out ≡ take i s ++ drop i out₀)
+slice-aggregate-write-bytes : tie.Need-slice-aggregate-write-bytes
+slice-aggregate-write-bytes c = sym (length-take-le _ (c .before .before .before .args .s .now) (omega arith))
 
-abbrev μ-loop : tie.MeasureT-loop
-μ-loop s n out₀ i₀ out i = n - i
+write-bytes-requires : tie.Need-write-bytes-requires
+write-bytes-requires c κs =
+    let s = c .before .before .before .before in
+    omega (arith, length-take-le (s .args .n) (s .args .s .now) (omega arith))
 
-loop-again : tie.Need-loop-again Inv-loop μ-loop
-loop-again c =
-    let at = c .before .before in
-    let s = at .before .args in
-    (omega arith, simp length-set (at .loop .inv .1), rw (at .loop .inv .2) (front-more (s .out .now) (s .s .now) (at .loop .i) (omega arith) (omega arith)))
-
-returns : tie.Need-returns Inv-loop μ-loop
+returns : tie.Need-returns
 returns c =
-    let s = c .before .before .args in
-    let e : c .before .loop .i ≡ s .n = omega arith in
-    c .before .loop .inv .2 ∙ rw e
+    let a = c .before .before .before .before .before .before .before .args in
+    c .before .before .write-bytes .ensures .0 ∙ front-written (a .n) (a .s .now) (a .out .now) (omega arith)
 
 pub copy-front-spec : {M : Type 1} → statement M
 copy-front-spec =
-    tie.close (tie.spec Inv-loop μ-loop (λ c. (omega arith, refl, refl)) (λ c. omega arith) (λ c. omega arith)
-    (λ c. omega arith) (λ c. omega arith) loop-again (λ c. c .before .loop .inv .1) returns)
+    tie.close (tie.spec slice-aggregate-write-bytes write-bytes-requires (λ c. search needs) returns)

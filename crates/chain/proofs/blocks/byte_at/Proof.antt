@@ -9,20 +9,20 @@ use Rattle.chain.proofs.blocks.byte_at.Tie as tie
 
 returns : tie.Need-returns
 returns c =
-    let a = c .before .before .before .before .args in
-    rw (c .before .half-at .ensures, half-from) (byte-upper _ (a .q) (a .k) (omega arith) (omega arith))
+    let a = c .before .before .before .args in
+    rw (c .before .nibble-at .ensures, half-from) (byte-upper _ (a .q) (a .k) (omega arith) (omega arith))
 
 returns-2 : tie.Need-returns-2
 returns-2 c =
-    let a = c .before .before .before .before .before .args in
+    let a = c .before .before .before .before .args in
     let n : a .first + 2 * a .k + 1 ≡ a .first + (2 * a .k + 1) = omega arith in
-    rw (c .before .before .half-at .ensures, c .half-at2 .ensures, n, half-from _ (a .first) (2 * a .k), half-from _ (a .first) (2 * a .k + 1))
+    rw (c .before .before .nibble-at .ensures, c .nibble-at2 .ensures, n, half-from _ (a .first) (2 * a .k), half-from _ (a .first) (2 * a .k + 1))
     (byte-both _ (a .q) (a .k) (omega arith) (omega arith))
 
 pub byte-at-spec : {M : Type 1} → statement M
 byte-at-spec =
     tie.close (tie.spec (λ c. search needs) (λ c. search needs) (λ c κs. search needs)
-    (λ c. omega (arith, half-lt _ _ (c .half-at .ensures))) (λ c. search needs) (λ c. search needs) returns
+    (λ c. omega (arith, half-lt _ _ (c .nibble-at .ensures))) (λ c. search needs) (λ c. search needs) returns
     (λ c. search needs) (λ c κs. search needs)
-    (λ c. omega (arith, half-lt _ _ (c .before .before .half-at .ensures), half-lt _ _ (c .half-at2 .ensures)))
+    (λ c. omega (arith, half-lt _ _ (c .before .before .nibble-at .ensures), half-lt _ _ (c .nibble-at2 .ensures)))
     returns-2)

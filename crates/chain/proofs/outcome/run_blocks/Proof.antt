@@ -8,13 +8,13 @@ use Rattle.chain.proofs.outcome.run_blocks.Tie as tie
 
 returns : tie.Need-returns
 returns c =
-    let start = c .before .before .before in
+    let start = c .before .before in
     let v = start .args .v in
     rw (c .if1 .taken) (start .pre .1 .0 ∙ ap (packedState (variant v)) (run-start v (start .pre .0) _ _))
 
 outcome-after-requires : tie.Need-outcome-after-requires
 outcome-after-requires c κs =
-    let pre = c .before .before .before .pre in
+    let pre = c .before .before .pre in
     (pre .0, pre .1 .1 .0, pre .1 .1 .1)
 
 pub run-blocks-spec : {M : Type 1} → statement M

@@ -19,7 +19,7 @@ abbrev μ-loop : tie.MeasureT-loop
 loop-holds : tie.Need-loop-holds Inv-loop μ-loop
 loop-holds c =
     let start = c .before .before .before in
-    squeezing-start (start .args .v) (start .pre .0 .0) (start .pre .0 .1) _ (words-length (start .args .v) (start .pre .0 .0) (start .args .w .now)) _ _ (ap (λ (n : ℕ). n * 2) (c .before .digest-bytes .ensures)) (c .output-halves .ensures)
+    squeezing-start (start .args .v) (start .pre .0 .0) (start .pre .0 .1) _ (words-length (start .args .v) (start .pre .0 .0) (start .args .w .now)) _ _ (ap (λ (n : ℕ). n * 2) (c .before .digest-bytes .ensures)) (c .output-nibbles .ensures)
 
 put-front-requires : tie.Need-put-front-requires Inv-loop μ-loop
 put-front-requires c κs =

@@ -1,4 +1,5 @@
--- `digest::text::write_closed` meets its contract: the line of the digest that was read, or of the refusal. Assumes nothing.
+-- `digest::text::write_closed` meets its contract: the line of the digest that was read, or of the refusal. Assumes
+-- nothing.
 use mathlib.Core.Path.{refl, sym, _∙_}
 use native.Mathlib.Omega.{arith}
 use lib.ListN.{replicate}
@@ -31,7 +32,7 @@ returns-2 c =
     let d = t .before .before .before in
     let f = d .before .before .before in
     let wrote = w .write-refusal .ensures in
-    rw (← f .finish .ensures, sym (d .digest2 .ensures .0) ∙ t .status .given .1) (wrote .0, (wrote .1, omega (arith, wrote .2)))
+    rw (← f .finish .ensures, sym (d .digest2 .ensures .0) ∙ t .status .given .1) (wrote .0, (wrote .1 .0, omega (arith, wrote .1 .1)))
 
 pub write-closed-spec : {M : Type 1} → statement M
 write-closed-spec =

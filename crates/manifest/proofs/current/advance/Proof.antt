@@ -1,4 +1,5 @@
--- `manifest::current::advance` meets its contract: a byte of the header, or bytes of the contents at once. Assumes nothing.
+-- `manifest::current::advance` meets its contract: a byte of the header, or bytes of the contents at once. Assumes
+-- nothing.
 use mathlib.Core.Path.{sym, _∙_}
 use mathlib.Core.Logic.{⊎-elim}
 use native.Mathlib.Omega.{arith}

@@ -8,7 +8,7 @@ returns : tie.Need-returns
 unfolding openedTable
 returns c =
     let b = c .before .before in
-    rw (c .before .start .ensures, b .hashed-under .ensures, b .before .axis-in .ensures, b .before .before .length-in .ensures)
+    rw (c .before .start .ensures, b .variant-for .ensures, b .before .axis-in .ensures, b .before .before .length-in .ensures)
 
 pub open-table-spec : {M : Type 1} → statement M
 open-table-spec =

@@ -14,11 +14,11 @@ returns-2 c = (omega arith, record { some = omega arith; header = λ l. refl; in
 returns-3 : tie.Need-returns-3
 returns-3 c =
     let r = c .before .room .ensures in
-    let inner = c .before .before .least .ensures in
-    let outer = c .least2 .ensures in (
+    let inner = c .before .before .min .ensures in
+    let outer = c .min2 .ensures in (
       omega (arith, inner, outer),
       record {
-        some = outer .2 (inner .2 (omega arith) (omega arith)) (r .0);
+        some = omega (arith, inner, outer, r .0);
         header = λ l. absurd (omega arith);
         inside = λ l. omega (arith, inner, outer);
         room = λ l. omega (arith, r .1 l, outer);

@@ -1,4 +1,5 @@
--- `manifest::current::unread` meets its contract: a refused start yields the running hash of no variant. Assumes nothing.
+-- `manifest::current::unread` meets its contract: a refused start yields the running hash of no variant. Assumes
+-- nothing.
 use mathlib.Core.Path.{refl}
 use borrow.Author.Needs.{needs}
 use Rattle.hasher.proofs.Calls.{start-unknown}

@@ -6,7 +6,7 @@ use native.Mathlib.Omega.{arith}
 use lib.ListN.{length}
 use borrow.Author.Needs.{needs}
 use Rattle.standard.specs.Messages.{bytes}
-use Rattle.answers.specs.Outputs.{mostBits}
+use Rattle.answers.specs.Outputs.{maxBits}
 use Rattle.hasher.specs.declared.Hasher.{Hasher}
 use Rattle.hasher.specs.declared.Advanced.{Advanced}
 use Rattle.hasher.specs.Running.{updated}
@@ -17,7 +17,7 @@ use Rattle.hasher.proofs.ByteByByte.{byte-by-byte}
 use Rattle.manifest.proofs.current.with_bytes.Statement.{statement}
 use Rattle.manifest.proofs.current.with_bytes.Tie as tie
 
-some : (h : Hasher) → Sized h → (part : List ℕ) → 1 ≤ length part → (h .total + 8 ≤ mostBits → h .total + 8 * length part ≤ mostBits)
+some : (h : Hasher) → Sized h → (part : List ℕ) → 1 ≤ length part → (h .total + 8 ≤ maxBits → h .total + 8 * length part ≤ maxBits)
     → updated h (bytes part) .hasher ≡ foldl withByte h part
 some h z [] l room = absurd (omega arith)
 some h z (b ∷ part) l room = sym (byte-by-byte h z b part room)

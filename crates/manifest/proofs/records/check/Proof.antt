@@ -14,10 +14,10 @@ use Rattle.manifest.proofs.records.check.Statement.{statement}
 use Rattle.manifest.proofs.records.check.Tie as tie
 
 abbrev Inv-loop : tie.InvT-loop
-Inv-loop list n k₀ k = (k ≤ n) × ((j : ℕ) → j < k → firstRefusal (recordChecks list j) ≡ Done)
+Inv-loop manifest n k₀ k = (k ≤ n) × ((j : ℕ) → j < k → firstRefusal (recordChecks manifest j) ≡ Done)
 
 abbrev μ-loop : tie.MeasureT-loop
-μ-loop list n k₀ k = n - k
+μ-loop manifest n k₀ k = n - k
 
 returns : tie.Need-returns Inv-loop μ-loop
 unfolding manifestStatus
@@ -37,20 +37,20 @@ returns-2 c =
     let b = c .before .before in
     let at = b .before .before in
     let whole = at .before in
-    let list = whole .before .before .before .args .manifest .now in
+    let manifest = whole .before .before .before .args .manifest .now in
     let e = b .check-record .ensures in
     rw (sym (whole .before .is-manifest .ensures) ∙ not-false _ (whole .if1 .left))
-    (e ∙ sym (each-first (recordCount list) (recordChecks list) (at .loop .k) (omega arith) (at .loop .inv .1) (λ d. not-done _ (sym (c .enum-told2 .given .1) ∙ e ∙ d))))
+    (e ∙ sym (each-first (recordCount manifest) (recordChecks manifest) (at .loop .k) (omega arith) (at .loop .inv .1) (λ d. not-done _ (sym (c .enum-told2 .given .1) ∙ e ∙ d))))
 
 returns-3 : tie.Need-returns-3 Inv-loop μ-loop
 unfolding manifestStatus
 returns-3 c =
     let whole = c .before .before in
-    let list = whole .before .before .before .args .manifest .now in
+    let manifest = whole .before .before .before .args .manifest .now in
     rw (sym (whole .before .is-manifest .ensures) ∙ not-false _ (whole .if1 .left))
-    (sym (each-done (recordCount list) _ (λ j h. c .before .loop .inv .1 j (omega arith))))
+    (sym (each-done (recordCount manifest) _ (λ j h. c .before .loop .inv .1 j (omega arith))))
 
 pub check-spec : {M : Type 1} → statement M
 check-spec =
-    tie.close (tie.spec Inv-loop μ-loop (λ c κs. tt) returns loop-holds (λ c κs. omega arith) (λ c. search needs) (λ c. omega arith) (λ c. omega arith)
-    loop-again (λ c. search needs) returns-2 returns-3)
+    tie.close (tie.spec Inv-loop μ-loop (λ c κs. tt) returns loop-holds (λ c κs. omega arith) (λ c. search needs) (λ c. search needs) returns-2
+    (λ c. omega arith) (λ c. omega arith) loop-again returns-3)

@@ -4,7 +4,8 @@ use mathlib.Core.Bool.{true}
 use borrow.Author.Needs.{needs}
 use borrow.Author.Tests.{not-true, not-false}
 use Rattle.standard.specs.Variants.{known}
-use Rattle.manifest.specs.Records.{variantAt, zeros, recordChecks, fillerAt}
+use Rattle.manifest.specs.Records.{variantAt, recordChecks, fillerAt}
+use Rattle.bytes.specs.Slices.{zeros}
 use Rattle.manifest.proofs.records.check_record.Statement.{statement}
 use Rattle.manifest.proofs.records.check_record.Tie as tie
 
@@ -19,7 +20,7 @@ looked-at : (c : tie.After-zero-from)
     ≡ c .zero-from .result
 unfolding fillerAt
 looked-at c =
-    rw (← c .before .before .before .before .before .variant-at .ensures, ← c .before .digest-bytes .ensures, ← c .before .before .filled-at .ensures) (sym (c .zero-from .ensures))
+    rw (← c .before .before .before .before .before .variant-at .ensures, ← c .before .digest-bytes .ensures, ← c .before .before .digest-field-at .ensures) (sym (c .zero-from .ensures))
 
 returns : tie.Need-returns
 unfolding recordChecks

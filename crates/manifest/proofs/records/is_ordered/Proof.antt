@@ -12,10 +12,10 @@ use Rattle.manifest.proofs.records.is_ordered.Statement.{statement}
 use Rattle.manifest.proofs.records.is_ordered.Tie as tie
 
 abbrev Inv-loop : tie.InvT-loop
-Inv-loop list n k₀ k = (k ≤ n) × ((j : ℕ) → j < k → risesAt list j ≡ true)
+Inv-loop manifest n k₀ k = (k ≤ n) × ((j : ℕ) → j < k → risesAt manifest j ≡ true)
 
 abbrev μ-loop : tie.MeasureT-loop
-μ-loop list n k₀ k = n - k
+μ-loop manifest n k₀ k = n - k
 
 -- the list is a manifest
 whole : (c : tie.Else1 Inv-loop μ-loop) → isManifest (c .before .before .before .args .manifest .now) ≡ true
@@ -32,9 +32,9 @@ returns-2 : tie.Need-returns-2 Inv-loop μ-loop
 unfolding isOrdered
 returns-2 c =
     let at = c .before .before .before in
-    let list = at .before .before .before .before .args .manifest .now in
+    let manifest = at .before .before .before .before .args .manifest .now in
     rw (whole (at .before))
-    (sym (everyBelow-not (recordCount list) (risesAt list) (at .loop .k) (omega arith) (sym (c .before .rises-at .ensures) ∙ not-true _ (c .if2 .taken))))
+    (sym (everyBelow-not (recordCount manifest) (risesAt manifest) (at .loop .k) (omega arith) (sym (c .before .rises-at .ensures) ∙ not-true _ (c .if2 .taken))))
 
 loop-again : tie.Need-loop-again Inv-loop μ-loop
 loop-again c =
@@ -45,8 +45,8 @@ returns-3 : tie.Need-returns-3 Inv-loop μ-loop
 unfolding isOrdered
 returns-3 c =
     let at = c .before in
-    let list = at .before .before .before .before .args .manifest .now in
-    rw (whole (at .before)) (sym (everyBelow-all (recordCount list) (risesAt list) (λ j h. at .loop .inv .1 j (omega arith))))
+    let manifest = at .before .before .before .before .args .manifest .now in
+    rw (whole (at .before)) (sym (everyBelow-all (recordCount manifest) (risesAt manifest) (λ j h. at .loop .inv .1 j (omega arith))))
 
 pub is-ordered-spec : {M : Type 1} → statement M
 is-ordered-spec =

@@ -1,4 +1,5 @@
--- `manifest::records::place_of` meets its contract: every record before `low` has a lower number, and none from `high` on. Assumes nothing.
+-- `manifest::records::place_of` meets its contract: every record before `low` has a lower number, and none from `high`
+-- on. Assumes nothing.
 use Prim.Native.Nat.{ℕ, _-_, _≤_, _<_}
 use native.Mathlib.Omega.{arith}
 use Rattle.manifest.specs.Records.{recordCount, axisAt}
@@ -7,13 +8,13 @@ use Rattle.manifest.proofs.records.place_of.Statement.{statement}
 use Rattle.manifest.proofs.records.place_of.Tie as tie
 
 abbrev Inv-loop : tie.InvT-loop
-Inv-loop list axis low₀ high₀ low high =
-    (low ≤ high) × (high ≤ recordCount list)
-    × ((j : ℕ) → j < low → axisAt list j < axis)
-    × ((j : ℕ) → high ≤ j → j < recordCount list → axis ≤ axisAt list j)
+Inv-loop manifest axis low₀ high₀ low high =
+    (low ≤ high) × (high ≤ recordCount manifest)
+    × ((j : ℕ) → j < low → axisAt manifest j < axis)
+    × ((j : ℕ) → high ≤ j → j < recordCount manifest → axis ≤ axisAt manifest j)
 
 abbrev μ-loop : tie.MeasureT-loop
-μ-loop list axis low₀ high₀ low high = high - low
+μ-loop manifest axis low₀ high₀ low high = high - low
 
 loop-holds : tie.Need-loop-holds Inv-loop μ-loop
 loop-holds c = (omega arith, omega arith, λ j h. absurd (omega arith), λ j h l. absurd (omega arith))

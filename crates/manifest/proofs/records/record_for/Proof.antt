@@ -1,4 +1,5 @@
--- `manifest::records::record_for` meets its contract: the record at the axis's place, if it has the number. Assumes nothing.
+-- `manifest::records::record_for` meets its contract: the record at the axis's place, if it has the number. Assumes
+-- nothing.
 use mathlib.Core.Path.{sym, _∙_}
 use native.Mathlib.Omega.{arith}
 use borrow.Author.Needs.{needs}

@@ -1,4 +1,5 @@
--- `manifest::report::update` meets its contract: what is left of the piece leads from here to the same report. Assumes nothing.
+-- `manifest::report::update` meets its contract: what is left of the piece leads from here to the same report. Assumes
+-- nothing.
 use mathlib.Core.Path.{_≡_, refl, sym, ap, ap₂, subst, _∙_}
 use mathlib.Core.Bool.{true, _&&_}
 use mathlib.Core.List.{foldl}
@@ -7,7 +8,7 @@ use native.Mathlib.Omega.{arith}
 use lib.ListN.{length, drop, drop-of-length-le}
 use borrow.Author.Tests.{ltb-true, ltb-false, not-true, not-false}
 use Rattle.manifest.specs.Lookups.{isOrdered}
-use Rattle.manifest.specs.Tables.{mostTables}
+use Rattle.manifest.specs.Tables.{maxTables}
 use Rattle.manifest.specs.Progress.{tallied, byteTaken, pieceTaken}
 use Rattle.manifest.specs.Strides.{Stride}
 use Rattle.manifest.proofs.StrideLaws.{part-length, full-stays, stream-stepped}
@@ -15,12 +16,12 @@ use Rattle.manifest.proofs.report.update.Statement.{statement}
 use Rattle.manifest.proofs.report.update.Tie as tie
 
 abbrev Inv-loop : tie.InvT-loop
-Inv-loop list piece latest₀ i₀ latest i = (i ≤ length piece) × (foldl (byteTaken list) latest₀ piece ≡ foldl (byteTaken list) latest (drop i piece))
+Inv-loop manifest piece latest₀ i₀ latest i = (i ≤ length piece) × (foldl (byteTaken manifest) latest₀ piece ≡ foldl (byteTaken manifest) latest (drop i piece))
 
 abbrev μ-loop : tie.MeasureT-loop
-μ-loop list piece latest₀ i₀ latest i = length piece - i
+μ-loop manifest piece latest₀ i₀ latest i = length piece - i
 
--- where the call began
+-- the place at which the call began
 abbrev entry : tie.Else2 Inv-loop μ-loop → tie.Start Inv-loop μ-loop
 entry c = c .before .before .before .before .before .before
 
@@ -52,7 +53,7 @@ stepped-requires : tie.Need-stepped-requires Inv-loop μ-loop
 stepped-requires c κs =
     let at = c .before .before .before .before .before in
     let test = c .before .before in
-    let few : tallied (at .loop .latest .tally) < mostTables = omega (arith, test .before .tallied .ensures, ltb-true (test .before .tallied .result) mostTables (test .if3 .taken)) in (
+    let few : tallied (at .loop .latest .tally) < maxTables = omega (arith, test .before .tallied .ensures, ltb-true (test .before .tallied .result) maxTables (test .if3 .taken)) in (
       whole (at .before),
       (
         few,
@@ -76,7 +77,7 @@ unfolding pieceTaken
 returns-3 c =
     let at = c .before .before .before in
     let a = entry (at .before) .args in
-    let full : mostTables ≤ tallied (at .loop .latest .tally) = omega (arith, c .before .tallied .ensures, ltb-false (c .before .tallied .result) mostTables (c .if3 .left)) in
+    let full : maxTables ≤ tallied (at .loop .latest .tally) = omega (arith, c .before .tallied .ensures, ltb-false (c .before .tallied .result) maxTables (c .if3 .left)) in
     rw (read (at .before)) (sym (at .loop .inv .1 ∙ full-stays (a .manifest .now) (at .loop .latest) full (drop (at .loop .i) (a .piece .now))))
 
 returns-4 : tie.Need-returns-4 Inv-loop μ-loop

@@ -1,4 +1,5 @@
--- `manifest::tally::awaited_all` meets its contract: the records that were passed are marked, the others are 0. Assumes nothing.
+-- `manifest::tally::awaited_all` meets its contract: the records that were passed are marked, the others are 0. Assumes
+-- nothing.
 use mathlib.Core.Path.{refl}
 use Prim.Native.Nat.{_-_, _≤_}
 use native.Mathlib.Omega.{arith}
@@ -9,10 +10,10 @@ use Rattle.manifest.proofs.tally.awaited_all.Statement.{statement}
 use Rattle.manifest.proofs.tally.awaited_all.Tie as tie
 
 abbrev Inv-loop : tie.InvT-loop
-Inv-loop list n out₀ k₀ out k = (k ≤ n) × Awaited k out
+Inv-loop manifest n out₀ k₀ out k = (k ≤ n) × Awaited k out
 
 abbrev μ-loop : tie.MeasureT-loop
-μ-loop list n out₀ k₀ out k = n - k
+μ-loop manifest n out₀ k₀ out k = n - k
 
 loop-holds : tie.Need-loop-holds Inv-loop μ-loop
 loop-holds c = (omega arith, upto-none _ refl)

@@ -15,7 +15,7 @@ returns-2 c =
     let w = c .before .before in
     let t = w .before .before .before in
     let wrote = w .write-refusal .ensures in
-    rw (t .status .given .1) (wrote .0, wrote .1, omega (arith, wrote .2))
+    rw (t .status .given .1) (wrote .0, (wrote .1 .0, omega (arith, wrote .1 .1)))
 
 pub write-report-spec : {M : Type 1} → statement M
 write-report-spec =

@@ -1,4 +1,4 @@
--- `report::text::write_summary` meets its contract: the six lines, one behind the other. Assumes nothing.
+-- `report::text::write_summary` meets its contract: the six lines, one after the other. Assumes nothing.
 use native.Mathlib.Omega.{arith}
 use borrow.Author.Needs.{needs}
 use Rattle.report.proofs.LineLaws.{lines-written}
@@ -21,7 +21,7 @@ returns c =
     let e₅ = five .write-line5 .ensures in
     let e₆ = six .write-line6 .ensures in
     let all = lines-written (a .s) (a .out .now) (omega arith) (e₁ .0, e₁ .1 .0) (e₂ .0, e₂ .1 .0) (e₃ .0, e₃ .1 .0) (e₄ .0, e₄ .1 .0) (e₅ .0, e₅ .1 .0) (e₆ .0, e₆ .1 .0) in
-    (all .0, all .1, omega arith)
+    (all .0, (all .1, omega arith))
 
 pub write-summary-spec : {M : Type 1} → statement M
 write-summary-spec =
