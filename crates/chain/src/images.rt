@@ -14,9 +14,9 @@ ghost use Rattle.chain.specs.Images.{isImage, imageStatus, permutedImage
 use crate::sizes;
 use crate::sizes::STATE_BYTES;
 use crate::state;
-use standard::Direction;
 use answers::Refusal;
 use answers::Status;
+use standard::Direction;
 
 // The bytes at the front of 36, zeros behind them.
 pub fn at_front(bytes: &[u8]) -> [u8; STATE_BYTES]

@@ -33,7 +33,8 @@ pub fn unstepped(v: u8, s: [u8; STATE_BYTES], b: [u8; BLOCK_BYTES]) -> [u8; STAT
     requires { ⌜ (known v ≡ true) × (isSponge (variant v) ≡ true) ⌝ }
     requires { ⌜ Holds v s ⌝ }
     requires { ⌜ HoldsBlock v b ⌝ }
-    ensures { λ r. ⌜ r ≡ packedState (variant v) (unstep (variant v) (stateIn (variant v) s) (blockIn (variant v) b)) ⌝ }
+    ensures { λ r. ⌜ r
+        ≡ packedState (variant v) (unstep (variant v) (stateIn (variant v) s) (blockIn (variant v) b)) ⌝ }
 {
     let before = state::permuted(v, s, Direction::Backward);
     xored(before, &b)

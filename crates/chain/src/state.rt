@@ -1,5 +1,5 @@
-// The state of a variant: its start, its two forms (bytes and words), the block step on words, and the permutation on bytes. Here
-// are the choices by family, and each only hands on to the family's crate.
+// The state of a variant: its start, its two forms (bytes and words), the block step on words, and the permutation on
+// bytes. Here are the choices by family, and each only hands on to the family's crate.
 ghost use mathlib.Core.Path.{_≡_};
 ghost use mathlib.Core.Bool.{true};
 ghost use Prim.Native.Nat.{_+_, _*_, _%_, _≤_};
@@ -97,7 +97,8 @@ pub fn bytes_of(v: u8, w: &[u64; 8]) -> [u8; STATE_BYTES]
 pub fn front_of(v: u8, w: &[u64; 8]) -> [u8; STATE_BYTES]
     requires { ⌜ (known v ≡ true) × (isSponge (variant v) ≡ true) ⌝ }
     ensures { λ r. ⌜ take (outputBits (variant v)) (bitsIn high-first r)
-        ≡ take (outputBits (variant v)) (bitsIn high-first (packedState (variant v) (stateInWords (variant v) (now (w .entry))))) ⌝ }
+        ≡ take (outputBits (variant v)) (bitsIn high-first
+        (packedState (variant v) (stateInWords (variant v) (now (w .entry))))) ⌝ }
 {
     let family = sizes::family_of(v);
     match family {
@@ -111,9 +112,11 @@ pub fn front_of(v: u8, w: &[u64; 8]) -> [u8; STATE_BYTES]
 
 // The block step, for a block from the nibble m on of the bytes; blocks of whole bytes begin at a byte.
 pub fn step_words(v: u8, w: &mut [u64; 8], bytes: &[u8], m: usize, table: &[u64])
-    requires { ⌜ (known v ≡ true) × (4 * m + variant v .r ≤ 8 * length (now bytes)) × (variant v .r % 8 ≡ 0 → m % 2 ≡ 0) ⌝ }
+    requires { ⌜ (known v ≡ true) × (4 * m + variant v .r ≤ 8 * length (now bytes))
+        × (variant v .r % 8 ≡ 0 → m % 2 ≡ 0) ⌝ }
     requires { ⌜ TableOf v (now table) ⌝ }
-    ensures { λ _. ⌜ (stateInWords (variant v) (now (w .exit)) ≡ step (variant v) (stateInWords (variant v) (now (w .entry)))
+    ensures { λ _. ⌜ (stateInWords (variant v) (now (w .exit))
+        ≡ step (variant v) (stateInWords (variant v) (now (w .entry)))
         (take (variant v .r) (drop (4 * m) (bitsIn high-first (now (bytes .entry)))))) ⌝ }
 {
     let family = sizes::family_of(v);
@@ -124,7 +127,8 @@ pub fn step_words(v: u8, w: &mut [u64; 8], bytes: &[u8], m: usize, table: &[u64]
     }
 }
 
-// The permutation of a sponge, or its inverse, by the standard's steps on the bytes that hold a state. Lesamnta-LW has none.
+// The permutation of a sponge, or its inverse, by the standard's steps on the bytes that hold a state. Lesamnta-LW has
+// none.
 pub fn permuted(v: u8, s: [u8; STATE_BYTES], way: Direction) -> [u8; STATE_BYTES]
     requires { ⌜ (known v ≡ true) × (isSponge (variant v) ≡ true) ⌝ }
     requires { ⌜ Holds v s ⌝ }

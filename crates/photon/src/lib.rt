@@ -1,4 +1,5 @@
-// PHOTON (5.2): its parameters by a variant's number, 1 to 5. The permutation by the standard's steps is in `steps`, the block step by look-ups in `words`.
+// PHOTON (5.2): its parameters by a variant's number, 1 to 5. The permutation by the standard's steps is in `steps`,
+// the block step by look-ups in `words`.
 ghost use mathlib.Core.Path.{_≡_};
 ghost use Prim.Native.Nat.{ℕ, _-_, _≤_, _<_};
 ghost use lib.ListN.{getD};
@@ -17,7 +18,8 @@ use tables::PRESENT;
 use tables::UNAES;
 use tables::UNPRESENT;
 
-// Room for a state of any variant of any family, as all of them hold one: the state's bits at the front, and zeros after them.
+// Room for a state of any variant of any family, as all of them hold one: the state's bits at the front, and zeros
+// after them.
 pub const STATE_BYTES: usize = 36;
 
 // The tables below have an entry for each variant, 1 to 5. A row of fewer than eight cells is filled with zeros.

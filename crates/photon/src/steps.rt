@@ -1,5 +1,5 @@
-// The PHOTON permutation and its inverse by the standard's steps (5.2.4): on a matrix of at most eight rows and columns, held in
-// eight rows of eight cells, and on the bytes that hold a state.
+// The PHOTON permutation and its inverse by the standard's steps (5.2.4): on a matrix of at most eight rows and
+// columns, held in eight rows of eight cells, and on the bytes that hold a state.
 ghost use mathlib.Core.Path.{_≡_};
 ghost use mathlib.Core.Bool.{cond};
 ghost use mathlib.Core.List.{reverse};
@@ -31,8 +31,8 @@ fn wide(x: u8) -> usize
     x as usize
 }
 
-// The steps work on all eight rows and columns, whatever the size of the matrix: a loop of a fixed number of turns is compiled
-// without a loop, and the rows stay in registers.
+// The steps work on all eight rows and columns, whatever the size of the matrix: a loop of a fixed number of turns is
+// compiled without a loop, and the rows stay in registers.
 
 fn sub_row(table: &[u8; 256], row: [u8; 8]) -> [u8; 8]
     ensures { λ r. ⌜ ((j : ℕ) → j < 8 → getD r j 0 ≡ getD (now (table .entry)) (getD row j 0) 0) ⌝ }
@@ -69,7 +69,8 @@ fn with_first(row: [u8; 8], x: u8) -> [u8; 8]
 }
 
 fn add_constants(g: [[u8; 8]; 8], rc: u8, ic: [u8; 8]) -> [[u8; 8]; 8]
-    ensures { λ r. ⌜ ((i j : ℕ) → i < 8 → j < 8 → at r i j ≡ inFirst j (bitXor (at g i 0) (bitXor rc (getD ic i 0))) (at g i j)) ⌝ }
+    ensures { λ r. ⌜ ((i j : ℕ) → i < 8 → j < 8 → at r i j
+        ≡ inFirst j (bitXor (at g i 0) (bitXor rc (getD ic i 0))) (at g i j)) ⌝ }
 {
     let mut out = g;
     let mut i = 0;
@@ -139,8 +140,8 @@ fn rotate_row(row: [u8; 8], d: usize, by: usize) -> [u8; 8]
     unpacked(y)
 }
 
-// By how many places row i rotates: the inverse rotates on to where the row began. A row past the matrix rotates by one, and
-// nothing reads it.
+// By how many places row i rotates: the inverse rotates on to where the row began. A row past the matrix rotates by
+// one, and nothing reads it.
 fn rotation_of(d: usize, i: usize, way: Direction) -> usize
     requires { ⌜ (2 ≤ d) × (0 < i) ⌝ }
     ensures { λ r. ⌜ ((0 < r) × (r < d)) × (i < d → r ≡ rotation d way i) ⌝ }
@@ -209,8 +210,8 @@ fn bit_sum(rows: &[u64; 16], n: usize, y: u64) -> u64
     sum
 }
 
-// The sum of coefficient times row, over the rows from row n on, as many as there are coefficients. From the highest bit of the
-// coefficients down, the sum is doubled and the rows whose coefficient has the bit are added.
+// The sum of coefficient times row, over the rows from row n on, as many as there are coefficients. From the highest
+// bit of the coefficients down, the sum is doubled and the rows whose coefficient has the bit are added.
 fn row_sum(rows: &[u64; 16], n: usize, s: u8, poly: u16, z: u64) -> u64
     requires { ⌜ (n ≤ 8) × ((1 ≤ s) × (s ≤ 8)) ⌝ }
     requires { ⌜ Modulus (2 ^ s) poly ⌝ }
@@ -268,7 +269,8 @@ fn flipped(g: [[u8; 8]; 8], d: usize) -> [[u8; 8]; 8]
     out
 }
 
-// After the d rows of the matrix come those of the steps: each step moves the rows up by one, so its last row is the only new one.
+// After the d rows of the matrix come those of the steps: each step moves the rows up by one, so its last row is the
+// only new one.
 fn mix_columns(g: [[u8; 8]; 8], d: usize, s: u8, poly: u16, z: u64) -> [[u8; 8]; 8]
     requires { ⌜ Mixing d s poly ⌝ }
     requires { ⌜ NoneFrom d z ⌝ }
@@ -284,13 +286,14 @@ fn mix_columns(g: [[u8; 8]; 8], d: usize, s: u8, poly: u16, z: u64) -> [[u8; 8];
     unpacked_rows(rows, d)
 }
 
-// MixColumnsSerial of a variant. Its numbers stand in each call: the step is then compiled for each variant, and nothing is left
-// of the bits that its coefficients do not have.
+// MixColumnsSerial of a variant. Its numbers stand in each call: the step is then compiled for each variant, and
+// nothing is left of the bits that its coefficients do not have.
 fn mix_columns_of(v: usize, g: [[u8; 8]; 8]) -> [[u8; 8]; 8]
     requires { ⌜ (1 ≤ v) × (v ≤ 5) ⌝ }
     requires { ⌜ Small (photonOf v .d) (2 ^ photonOf v .s) g ⌝ }
     ensures { λ r. ⌜ window (photonOf v .d) r
-        ≡ mixColumns (2 ^ photonOf v .s) (photonOf v .poly) (photonOf v .d) (photonOf v .z) (window (photonOf v .d) g) ⌝ }
+        ≡ mixColumns (2 ^ photonOf v .s) (photonOf v .poly) (photonOf v .d) (photonOf v .z)
+        (window (photonOf v .d) g) ⌝ }
 {
     if v == 1 {
         return mix_columns(g, 5, 4, 0x13, Z[0]);
@@ -312,7 +315,8 @@ fn mix_back_of(v: usize, g: [[u8; 8]; 8]) -> [[u8; 8]; 8]
     requires { ⌜ (1 ≤ v) × (v ≤ 5) ⌝ }
     requires { ⌜ Small (photonOf v .d) (2 ^ photonOf v .s) g ⌝ }
     ensures { λ r. ⌜ window (photonOf v .d) r
-        ≡ mixColumns (2 ^ photonOf v .s) (photonOf v .poly) (photonOf v .d) (photonOf v .unz) (window (photonOf v .d) g) ⌝ }
+        ≡ mixColumns (2 ^ photonOf v .s) (photonOf v .poly) (photonOf v .d) (photonOf v .unz)
+        (window (photonOf v .d) g) ⌝ }
 {
     if v <= 3 {
         return mix_columns_of(v, g);
@@ -328,7 +332,8 @@ fn unmix_columns_of(v: usize, g: [[u8; 8]; 8]) -> [[u8; 8]; 8]
     requires { ⌜ (1 ≤ v) × (v ≤ 5) ⌝ }
     requires { ⌜ Small (photonOf v .d) (2 ^ photonOf v .s) g ⌝ }
     ensures { λ r. ⌜ window (photonOf v .d) r
-        ≡ unmixColumns (2 ^ photonOf v .s) (photonOf v .poly) (photonOf v .d) (photonOf v .unz) (window (photonOf v .d) g) ⌝ }
+        ≡ unmixColumns (2 ^ photonOf v .s) (photonOf v .poly) (photonOf v .d) (photonOf v .unz)
+        (window (photonOf v .d) g) ⌝ }
 {
     let d = crate::size_of(v);
     let f = flipped(g, d);

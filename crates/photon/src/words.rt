@@ -1,8 +1,9 @@
-// The state in words, a column of the matrix in each; the block step by look-ups, in which one entry of a table has the S-box and the
-// column step of a byte; and the tables.
-// The sizes of a variant stand in each call from outside, so that these loops are compiled for each variant, without a loop or a
-// division. That holds as long as the compiler finds them cheap enough to put them into their caller: it gives up at a little more
-// code than is here, and all is eight times slower then.
+// The state in words, a column of the matrix in each; the block step by look-ups, in which one entry of a table has the
+// S-box and the column step of a byte; and the tables.
+//
+// The sizes of a variant stand in each call from outside, so that these loops are compiled for each variant, without a
+// loop or a division. That holds as long as the compiler finds them cheap enough to put them into their caller: it gives
+// up at a little more code than is here, and all is eight times slower then.
 ghost use mathlib.Core.Path.{_≡_};
 ghost use mathlib.Core.Bool.{cond};
 ghost use mathlib.Core.List.{_++_, flatMap};
@@ -71,7 +72,8 @@ fn add_nibbles(w: &mut [u64; 8], n: usize, bit: usize, bytes: &[u8], at: usize, 
         × (2 * at + odd + n ≤ 2 * length (now bytes)) ⌝ }
     ensures { λ _. ⌜ (length (now (w .exit)) ≡ 8)
         × ((j : ℕ) → j < n
-        → getD (now (w .exit)) j 0 ≡ bitXor (getD (now (w .entry)) j 0) (cellIn 4 (now (bytes .entry)) (2 * at + odd + j) * 2 ^ bit))
+        → getD (now (w .exit)) j 0
+        ≡ bitXor (getD (now (w .entry)) j 0) (cellIn 4 (now (bytes .entry)) (2 * at + odd + j) * 2 ^ bit))
         × ((j : ℕ) → n ≤ j → getD (now (w .exit)) j 0 ≡ getD (now (w .entry)) j 0) ⌝ }
 {
     let mut j: usize = 0;
@@ -86,7 +88,8 @@ fn add_bytes(w: &mut [u64; 8], n: usize, bit: usize, bytes: &[u8], at: usize)
     requires { ⌜ (length (now w) ≡ 8) × (n ≤ 8) × (bit ≤ 56) × (at + n ≤ length (now bytes)) ⌝ }
     ensures { λ _. ⌜ (length (now (w .exit)) ≡ 8)
         × ((j : ℕ) → j < n
-        → getD (now (w .exit)) j 0 ≡ bitXor (getD (now (w .entry)) j 0) (cellIn 8 (now (bytes .entry)) (at + j) * 2 ^ bit))
+        → getD (now (w .exit)) j 0
+        ≡ bitXor (getD (now (w .entry)) j 0) (cellIn 8 (now (bytes .entry)) (at + j) * 2 ^ bit))
         × ((j : ℕ) → n ≤ j → getD (now (w .exit)) j 0 ≡ getD (now (w .entry)) j 0) ⌝ }
 {
     let mut j: usize = 0;
@@ -252,7 +255,8 @@ pub fn image(v: u8, w: &[u64; 8]) -> [u8; STATE_BYTES]
 pub fn front(v: u8, w: &[u64; 8]) -> [u8; STATE_BYTES]
     requires { ⌜ (1 ≤ v) × (v ≤ 5) ⌝ }
     ensures { λ r. ⌜ take (outputBits (variant v)) (bitsIn high-first r)
-        ≡ take (outputBits (variant v)) (bitsIn high-first (packedState (variant v) (stateOfColumns (photonOf v) (now (w .entry))))) ⌝ }
+        ≡ take (outputBits (variant v)) (bitsIn high-first
+        (packedState (variant v) (stateOfColumns (photonOf v) (now (w .entry))))) ⌝ }
 {
     if v == 1 {
         return image4(1, w, 5, 1);
@@ -291,9 +295,12 @@ fn byte_of(w: u64, k: usize) -> usize
 
 // What byte k of each column gives, added to the sums: its lower row lies 2 k columns on.
 fn add_pairs(f: &mut [u64; 9], w: &[u64; 8], d: usize, k: usize, table: &[u64])
-    requires { ⌜ (length (now f) ≡ 9) × (0 < d) × (d ≤ 8) × (2 * k < d) × (16 + 256 * ((d + 1) / 2) ≤ length (now table)) ⌝ }
-    ensures { λ _. ⌜ (length (now (f .exit)) ≡ 9) × ((m : ℕ) → m < d → getD (now (f .exit)) m 0 ≡ bitXor (getD (now (f .entry)) m 0)
-        (getD (now (table .entry)) (16 + 256 * k + getD (now (w .entry)) ((m + 2 * k) % d) 0 / 2 ^ (8 * cond (eqb (k + 1) ((d + 1) / 2)) 3 k) % 256) 0)) ⌝ }
+    requires { ⌜ (length (now f) ≡ 9) × (0 < d) × (d ≤ 8) × (2 * k < d)
+        × (16 + 256 * ((d + 1) / 2) ≤ length (now table)) ⌝ }
+    ensures { λ _. ⌜ (length (now (f .exit)) ≡ 9)
+        × ((m : ℕ) → m < d → getD (now (f .exit)) m 0 ≡ bitXor (getD (now (f .entry)) m 0)
+        (getD (now (table .entry)) (16 + 256 * k
+        + getD (now (w .entry)) ((m + 2 * k) % d) 0 / 2 ^ (8 * cond (eqb (k + 1) ((d + 1) / 2)) 3 k) % 256) 0)) ⌝ }
 {
     let mut m: usize = 0;
     while m < d {
@@ -305,7 +312,8 @@ fn add_pairs(f: &mut [u64; 9], w: &[u64; 8], d: usize, k: usize, table: &[u64])
 // The upper half of a sum belongs to the column before.
 fn join(w: &mut [u64; 8], f: &[u64; 9], d: usize)
     requires { ⌜ (length (now w) ≡ 8) × (d ≤ 8) ⌝ }
-    ensures { λ _. ⌜ (length (now (w .exit)) ≡ 8) × ((j : ℕ) → j < d → getD (now (w .exit)) j 0 ≡ bitXor (getD (now (f .entry)) j 0) (getD (now (f .entry)) (j + 1) 0 / 2 ^ 32)) ⌝ }
+    ensures { λ _. ⌜ (length (now (w .exit)) ≡ 8) × ((j : ℕ) → j < d → getD (now (w .exit)) j 0
+        ≡ bitXor (getD (now (f .entry)) j 0) (getD (now (f .entry)) (j + 1) 0 / 2 ^ 32)) ⌝ }
 {
     let mut j: usize = 0;
     while j < d {
@@ -314,12 +322,13 @@ fn join(w: &mut [u64; 8], f: &[u64; 9], d: usize)
     }
 }
 
-// A round but for its own constants, which are there already: those of the next are the beginning of the first column's sum. Added to a word that is
-// made, they would be one step more on the way from round to round.
+// A round but for its own constants, which are there already: those of the next are the beginning of the first column's
+// sum. Added to a word that is made, they would be one step more on the way from round to round.
 fn round4(v: usize, w: &mut [u64; 8], d: usize, c: u64, table: &[u64])
     requires { ⌜ (length (now w) ≡ 8) × (1 ≤ v) × (v ≤ 4) × (d ≡ photonOf v .d) × (c < 2 ^ 32) ⌝ }
     requires { ⌜ Pairs (photonOf v) (now table) ⌝ }
-    ensures { λ _. ⌜ (length (now (w .exit)) ≡ 8) × (matrixIn v (now (w .exit)) ≡ roundThen v c (matrixIn v (now (w .entry)))) ⌝ }
+    ensures { λ _. ⌜ (length (now (w .exit)) ≡ 8)
+        × (matrixIn v (now (w .exit)) ≡ roundThen v c (matrixIn v (now (w .entry)))) ⌝ }
 {
     let mut f = [0u64; 9];
     f[0] = c;
@@ -336,7 +345,8 @@ fn round4(v: usize, w: &mut [u64; 8], d: usize, c: u64, table: &[u64])
 fn rounds4(v: usize, w: &mut [u64; 8], d: usize, table: &[u64])
     requires { ⌜ (length (now w) ≡ 8) × (1 ≤ v) × (v ≤ 4) × (d ≡ photonOf v .d) ⌝ }
     requires { ⌜ Pairs (photonOf v) (now table) ⌝ }
-    ensures { λ _. ⌜ (length (now (w .exit)) ≡ 8) × (matrixIn v (now (w .exit)) ≡ photonRounds (photonOf v) Forward (matrixIn v (now (w .entry)))) ⌝ }
+    ensures { λ _. ⌜ (length (now (w .exit)) ≡ 8)
+        × (matrixIn v (now (w .exit)) ≡ photonRounds (photonOf v) Forward (matrixIn v (now (w .entry)))) ⌝ }
 {
     w[0] = w[0] ^ table[0];
     let mut r: usize = 0;
@@ -361,8 +371,10 @@ fn byte_of_six(w: u64, k: usize) -> usize
 
 fn add_shares(f: &mut [u64; 8], w: &[u64; 8], k: usize, table: &[u64])
     requires { ⌜ (length (now f) ≡ 8) × (k < 6) × (length (now table) ≡ 1552) ⌝ }
-    ensures { λ _. ⌜ (length (now (f .exit)) ≡ 8) × ((m : ℕ) → m < 6 → getD (now (f .exit)) m 0 ≡ bitXor (getD (now (f .entry)) m 0)
-        (getD (now (table .entry)) (16 + 256 * k + getD (now (w .entry)) ((m + k) % 6) 0 / 2 ^ (placeOf (photonOf 5) k) % 256) 0)) ⌝ }
+    ensures { λ _. ⌜ (length (now (f .exit)) ≡ 8)
+        × ((m : ℕ) → m < 6 → getD (now (f .exit)) m 0 ≡ bitXor (getD (now (f .entry)) m 0)
+        (getD (now (table .entry)) (16 + 256 * k
+        + getD (now (w .entry)) ((m + k) % 6) 0 / 2 ^ (placeOf (photonOf 5) k) % 256) 0)) ⌝ }
 {
     let mut m: usize = 0;
     while m < 6 {
@@ -374,7 +386,8 @@ fn add_shares(f: &mut [u64; 8], w: &[u64; 8], k: usize, table: &[u64])
 fn round8(w: &mut [u64; 8], c: u64, table: &[u64])
     requires { ⌜ length (now w) ≡ 8 ⌝ }
     requires { ⌜ Entries 1552 (photonOf 5) (now table) ⌝ }
-    ensures { λ _. ⌜ (length (now (w .exit)) ≡ 8) × (matrixIn 5 (now (w .exit)) ≡ roundThen 5 c (matrixIn 5 (now (w .entry)))) ⌝ }
+    ensures { λ _. ⌜ (length (now (w .exit)) ≡ 8)
+        × (matrixIn 5 (now (w .exit)) ≡ roundThen 5 c (matrixIn 5 (now (w .entry)))) ⌝ }
 {
     let mut f = [0u64; 8];
     f[0] = c;
@@ -390,7 +403,8 @@ fn round8(w: &mut [u64; 8], c: u64, table: &[u64])
 fn rounds8(w: &mut [u64; 8], table: &[u64])
     requires { ⌜ length (now w) ≡ 8 ⌝ }
     requires { ⌜ Entries 1552 (photonOf 5) (now table) ⌝ }
-    ensures { λ _. ⌜ (length (now (w .exit)) ≡ 8) × (matrixIn 5 (now (w .exit)) ≡ photonRounds (photonOf 5) Forward (matrixIn 5 (now (w .entry)))) ⌝ }
+    ensures { λ _. ⌜ (length (now (w .exit)) ≡ 8)
+        × (matrixIn 5 (now (w .exit)) ≡ photonRounds (photonOf 5) Forward (matrixIn 5 (now (w .entry)))) ⌝ }
 {
     w[0] = w[0] ^ table[0];
     let mut r: usize = 0;
@@ -409,13 +423,15 @@ fn eight(w: [u64; 8]) -> [u64; 8]
     w
 }
 
-// The block step, for a block from the nibble m on of the bytes; blocks of whole bytes begin at a byte. The words are copied, so
-// that they stay in registers through the rounds, and each variant's numbers stand in its calls. One function for all five:
-// apart, the compiler keeps fewer of the words in registers.
+// The block step, for a block from the nibble m on of the bytes; blocks of whole bytes begin at a byte. The words are
+// copied, so that they stay in registers through the rounds, and each variant's numbers stand in its calls. One
+// function for all five: apart, the compiler keeps fewer of the words in registers.
 pub fn step(v: u8, w: &mut [u64; 8], bytes: &[u8], m: usize, table: &[u64])
-    requires { ⌜ (1 ≤ v) × (v ≤ 5) × (4 * m + variant v .r ≤ 8 * length (now bytes)) × (variant v .r % 8 ≡ 0 → m % 2 ≡ 0) ⌝ }
+    requires { ⌜ (1 ≤ v) × (v ≤ 5) × (4 * m + variant v .r ≤ 8 * length (now bytes))
+        × (variant v .r % 8 ≡ 0 → m % 2 ≡ 0) ⌝ }
     requires { ⌜ TableFor v (now table) ⌝ }
-    ensures { λ _. ⌜ stateOfColumns (photonOf v) (now (w .exit)) ≡ step (variant v) (stateOfColumns (photonOf v) (now (w .entry)))
+    ensures { λ _. ⌜ stateOfColumns (photonOf v) (now (w .exit))
+        ≡ step (variant v) (stateOfColumns (photonOf v) (now (w .entry)))
         (take (variant v .r) (drop (4 * m) (bitsIn high-first (now (bytes .entry))))) ⌝ }
 {
     let mut s = eight(*w);
@@ -467,7 +483,8 @@ fn wide(x: u32) -> u64
 fn fill(out: &mut [u64], at: usize, shares: &[u32; 144], from: usize, above: u64)
     requires { ⌜ (at + 16 ≤ length (now out)) × (from ≤ 128) × (at ≤ 2 ^ 32) ⌝ }
     ensures { λ _. ⌜ (length (now (out .exit)) ≡ length (now (out .entry)))
-        × ((x : ℕ) → x < 16 → getD (now (out .exit)) (at + x) 0 ≡ bitXor (getD (now (shares .entry)) (from + x) 0) above)
+        × ((x : ℕ) → x < 16 → getD (now (out .exit)) (at + x) 0
+        ≡ bitXor (getD (now (shares .entry)) (from + x) 0) above)
         × ((k : ℕ) → k < at → getD (now (out .exit)) k 0 ≡ getD (now (out .entry)) k 0) ⌝ }
 {
     let mut x: usize = 0;

@@ -43,7 +43,7 @@ only d i y = tab d (λ j. cond (eqb j i) y 0)
 unfoldable pub share : (ℕ → ℕ) → PhotonParameters → ℕ → ℕ → ℕ
 share place p i x = number place (p .d) (mixed p (only (p .d) i (getD (p .box) x 0)))
 
--- 5.2.4.2: the constants of round r, counted from 0, as a column; zero behind the last round
+-- 5.2.4.2: the constants of round r, counted from 0, as a column; zero after the last round
 unfoldable pub constantColumn : (ℕ → ℕ) → PhotonParameters → ℕ → ℕ
 constantColumn place p r = cond (ltb r 12) (number place (p .d) (tab (p .d) (λ i. bitXor (getD roundConstants r 0) (getD (p .ic) i 0)))) 0
 

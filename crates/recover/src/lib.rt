@@ -19,7 +19,6 @@ ghost use Rattle.recover.specs.Difference.{stateBehind, between, differe
 ghost use Rattle.recover.specs.Recovering.{blockSize, searchable, placedChecks, foundChecks, recoveredBlock, recoverStatus, recoverInto};
 use answers::Refusal;
 use answers::Status;
-use standard::Direction;
 use chain::STATE_BYTES;
 use chain::blocks;
 use chain::blocks::Held;
@@ -31,6 +30,7 @@ use chain::padding;
 use chain::plain;
 use chain::sizes;
 use chain::state;
+use standard::Direction;
 
 // The bytes of a block.
 pub fn block_bytes(v: u8) -> usize
