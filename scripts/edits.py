@@ -14,6 +14,7 @@ all others. Lines that begin with `#` say in words what is wrong, and may go on 
 A place is in a function, in the promise of a function or in a definition; one in a constant belongs to the function
 that names the constant. A pair that only brings names in is no place, and has no words.
 """
+import functools
 import os
 import re
 import textwrap
@@ -132,16 +133,17 @@ class Edit:
 
     def found_at(self, file, line):
         """The function at a line, or the one that names the constant there; and the place in words."""
+        text = (self.source / file).read_text()  # an edit adds no line and takes none
         if file.endswith(".antt"):
-            name = enclosing(declarations.antt(self.text(file)), line)
+            name = enclosing(declarations.antt(text), line)
             return None, f"definition `{name}`" if name else f"`{self.crate}/{file}`"
-        one = next((d for d in functions(self.text(file)) if d.line <= line <= d.last), None)
+        one = next((d for d in functions(text) if d.line <= line <= d.last), None)
         if one:
             body = one.head[-1].line
             promise = one.head[0].line < line <= body and any(t.text == "ensures" for t in one.head)
             name = qualified(self.crate, file, one.name)
             return one.name.split("::")[-1], f"promise of `{name}`" if promise else f"`{name}`"
-        heads = [CONSTANT.match(text) for text in self.text(file).splitlines()[:line]]
+        heads = [CONSTANT.match(said) for said in text.splitlines()[:line]]
         constant = next((head[1] for head in reversed(heads) if head), None)
         users = []
         for path in sorted((self.source / "src").rglob("*.rt")):
@@ -157,6 +159,7 @@ def qualified(crate, file, function):
     return "::".join([crate] + ([] if module in ("lib", "main") else [module]) + [function])
 
 
+@functools.cache
 def functions(text):
     return [d for d in declarations.rattle(text).declarations if d.kind == "function"]
 
