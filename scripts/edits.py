@@ -141,7 +141,7 @@ class Edit:
         if one:
             body = one.head[-1].line
             promise = one.head[0].line < line <= body and any(t.text == "ensures" for t in one.head)
-            name = qualified(self.crate, file, one.name)
+            name = one.name if "extern" in one.marks else qualified(self.crate, file, one.name)
             return one.name.split("::")[-1], f"promise of `{name}`" if promise else f"`{name}`"
         heads = [CONSTANT.match(said) for said in text.splitlines()[:line]]
         constant = next((head[1] for head in reversed(heads) if head), None)
