@@ -25,6 +25,7 @@ from common import ROOT, TRACE, crates, operations
 
 PAGE = ROOT / "docs" / "WRONG_PROGRAMS.md"
 BEGIN, END = "<!-- written by scripts/must-fail -->\n", "<!-- end of what is written -->\n"
+UNKNOWN = ("?", "?")  # a fact that no run has shown
 CONSTANT = re.compile(r"(?:pub )?const (\w+):")
 HEAD = """# Wrong programs
 
@@ -192,7 +193,10 @@ def page(known, facts):
         of = ", ".join(f"`{name}`" for name in edit.operations)
         words = textwrap.fill(f"{edit.sentence} A wrong program of {of}.", 120, break_long_words=False, break_on_hyphens=False)
         lines = [f"## {edit.name}\n", f"{words}\n", "| Place | Right | Written | Slip | Refused at |", "|---|---|---|---|---|"]
-        for place, fact in zip(edit.places, facts.get(edit.name) or [("?", "?")] * len(edit.places)):
+        pairs = facts.get(edit.name, [])
+        if len(pairs) != len(edit.places):
+            pairs = [UNKNOWN] * len(edit.places)
+        for place, fact in zip(edit.places, pairs):
             cells = [place.where, *map(code, shortened(place.old, place.new)), place.slip, "`{}` `{}`: ".format(*fact) + place.fact]
             lines.append("| " + " | ".join(cells) + " |")
         parts.append("\n".join(lines) + "\n")
@@ -218,8 +222,10 @@ def page_faults(known):
     for edit in known:
         yield from edit.unapplied + edit.unsaid
     text = PAGE.read_text() if PAGE.exists() else ""
-    if text != page(known, stated(text)):
+    facts = stated(text)
+    if text != page(known, facts):
         yield "docs/WRONG_PROGRAMS.md is not what the edits say"
+    yield from (f"{name}: docs/WRONG_PROGRAMS.md lacks a fact" for name, pairs in facts.items() if UNKNOWN in pairs)
     text = TRACE.read_text()
     if text != with_table(text, operation_table(known)):
         yield "the last table of docs/TRACE.md is not what the edits say"
@@ -231,7 +237,7 @@ def stated(text):
     for section in text.split("\n## ")[1:]:
         rows = [re.split(r"(?<!\\)\|", line)[-2] for line in section.splitlines() if line.startswith("| ") and not line.startswith("| Place |")]
         pairs = [re.match(r" `([^`]+)` `([^`]+)`: ", row) for row in rows]
-        found[section.splitlines()[0]] = [pair.groups() if pair else ("?", "?") for pair in pairs]
+        found[section.splitlines()[0]] = [pair.groups() if pair else UNKNOWN for pair in pairs]
     return found
 
 
