@@ -1,11 +1,18 @@
 """What the scripts beside it share; it is no command."""
 import pathlib
 import re
+import sys
 
 ROOT = pathlib.Path(__file__).resolve().parent.parent
 TRACE = ROOT / "docs" / "TRACE.md"
 ASSURANCE = ROOT / "docs" / "ASSURANCE.md"
-WRONG = "## Wrong programs"
+
+
+def help_asked(text):
+    """Prints the help and ends, if the command was called for that."""
+    if sys.argv[1:2] in (["--help"], ["-h"]):
+        print(text.strip())
+        sys.exit(0)
 
 
 def crates():
@@ -32,19 +39,7 @@ def operations(page):
     return list(dict.fromkeys(exports + others))
 
 
-def wrong_rows(page):
-    """The rows of the tables of wrong programs, each as its cells without the outer ones."""
-    for section in page.split(WRONG)[1:]:
-        for line in section.split("\n## ", 1)[0].splitlines():
-            cells = [cell.strip() for cell in line.split("|")[1:-1]]
-            if len(cells) >= 3 and "`" in cells[0]:
-                yield cells
-
-
-def wrong_programs(page):
-    """The operations of those tables, with the edits named in their rows."""
-    table = {}
-    for cells in wrong_rows(page):
-        for operation in re.findall(r"`([^`]+)`", cells[0]):
-            table.setdefault(operation, set()).update(re.findall(r"`(\w+/\w+)`", cells[1]))
-    return table
+def traced(page):
+    """The operations of docs/TRACE.md's last table, also as earlier trees have it."""
+    rows = page.split("\n## Wrong programs\n")[-1].split("\n## ")[0].splitlines() if "\n## Wrong programs\n" in page else []
+    return {name for row in rows if row.startswith("| `") for name in re.findall(r"`([^`]+)`", row.split("|")[1])}

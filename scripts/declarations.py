@@ -1,4 +1,5 @@
-"""Reads what files of antt and of Rattle declare: each name with its words (no comments, no layout), its place and what its file brings in.
+"""Reads what files of antt and of Rattle declare: each name with its words (no comments, no layout), its place and what
+its file brings in.
 
 A module for the scripts beside it; it is no command.
 """

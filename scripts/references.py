@@ -1,4 +1,5 @@
-"""What the declarations of a tree say and what their words refer to: definitions, types of the code, contracts, theorems.
+"""What the declarations of a tree say and what their words refer to: definitions, types of the code, contracts,
+theorems.
 
 A module for the scripts beside it; it is no command.
 """
@@ -6,7 +7,7 @@ import hashlib
 from collections import defaultdict
 
 import declarations
-from common import ROOT, wrong_programs
+from common import ROOT, traced
 
 
 class Present:
@@ -36,7 +37,7 @@ class Tree:
         self.declared = {}  # (path, name) -> thing that words may refer to
         self.types = defaultdict(dict)  # crate -> name -> type
         self.parsed = {}
-        operations = set(wrong_programs(files.text.get("docs/TRACE.md", "")))
+        operations = traced(files.text.get("docs/TRACE.md", ""))
         for path in files.paths:
             parts = path.split("/")
             if len(parts) > 3 and parts[0] == "crates":

@@ -22,7 +22,7 @@ use Rattle.standard.proofs.Tests.{lt-or-le}
 
 -- ---- a word of bytes
 
--- bytes behind a number, bit by bit
+-- bytes after a number, bit by bit
 word-bits-from : (bs : List ℕ) → ((i : ℕ) → getD bs i 0 < 256) → (w n : ℕ)
     → bitsOf high-first (w + 8 * length bs) (foldl (λ m b. m * 256 + b) n bs) ≡ bitsOf high-first w n ++ bitsIn high-first bs
 unfolding bitsIn
@@ -72,7 +72,7 @@ module _ (bytes : List ℕ) (at : ℕ) (room : at + 4 ≤ length bytes) where
       small (suc (suc (suc zero))) = ld
       small (suc (suc (suc (suc i)))) = omega arith
 
--- two halves of 32 bits, one behind the other
+-- two halves of 32 bits, one after the other
 pub read-word : (bits : List Bool) (at a b : ℕ) → 8 * at + 64 ≤ length bits
     → a ≡ valueOf high-first (take 32 (drop (8 * at) bits)) → b ≡ valueOf high-first (take 32 (drop (8 * (at + 4)) bits))
     → a < 2 ^ 32 → b < 2 ^ 32 → a * 0x100000000 + b ≡ valueOf high-first (take 64 (drop (8 * at) bits))
@@ -124,7 +124,7 @@ bytes-at (suc n) y (suc j) h =
     let e : suc n - 1 - suc j ≡ n - 1 - j = omega arith in
     bytes-at n y j (omega arith) ∙ ap (λ (k : ℕ). y / 256 ^ k % 256) (sym e)
 
--- words in bytes, one behind the other
+-- words in bytes, one after the other
 abbrev pub inBytes : List ℕ → List ℕ
 inBytes x = flatMap (bytesOf 8) x
 

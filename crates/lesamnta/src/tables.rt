@@ -1,5 +1,5 @@
-// The tables of the rounds, each held to its rule by one test: S-box and MixColumns of a word's first byte in one entry,
-// and the constants that the generator gives.
+// The tables of the rounds, each held to its rule by one test: S-box and MixColumns of a word's first byte in one
+// entry, and the constants that the generator gives.
 
 pub const BOXES: [u32; 256] = [
     0xc66363a5,

@@ -75,7 +75,7 @@ module _ (p : SpongentParameters) (z : Sizes p) (sound : SoundCounter p) (w : Di
 
 -- ---- the state in bytes
 
--- 36 bytes that hold a state of t bits, and zeros behind it
+-- 36 bytes that hold a state of t bits, and zeros after it
 pub record Held (t : ℕ) (s : List ℕ) : Type 0 where
   pub size : length s ≡ 36
   pub bytes : (i : ℕ) → getD s i 0 < 256

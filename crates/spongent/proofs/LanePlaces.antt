@@ -81,7 +81,7 @@ module _ (w : List ℕ) (p x : ℕ) (lw : length w ≡ 8) (even : p % 2 ≡ 0) (
 
 -- ---- four lanes
 
--- four lanes of c pairs each, xored in from the pair a on, with a + c ≤ n: none reaches into another plane
+-- four lanes of c pairs each, xored in from the pair a on, with a + c ≤ n: none reaches into a different plane
 module _ (lanes a c n : ℕ) (fits : a + c ≤ n) (small : (b : ℕ) → b < 4 → lane lanes b < 2 ^ (2 * c)) (b i x : ℕ) (hb : b < 4) (hi : i < n) where
   -- what the lane d gives to the pair i of plane b
   part : ℕ → ℕ
@@ -97,9 +97,9 @@ module _ (lanes a c n : ℕ) (fits : a + c ≤ n) (small : (b : ℕ) → b < 4 �
       let e : suc d * n ≡ d * n + n = suc-mul d n in
       ap (λ (y : ℕ). y % 4) (shifted-past (lane lanes d) (2 * c) (2 * a + d * (2 * n)) (2 * (b * n + i)) (small d (omega arith)) (omega (arith, place d)))
 
-  part-behind : (d : ℕ) → b < d → part d ≡ 0
+  part-after : (d : ℕ) → b < d → part d ≡ 0
   unfolding part
-  part-behind d h =
+  part-after d h =
       let l : suc b * n ≤ d * n = mul-le-mul-right n h in
       let e : suc b * n ≡ b * n + n = suc-mul b n in
       shifted-before (lane lanes d) 2 (2 * a + d * (2 * n)) (2 * (b * n + i)) (omega (arith, place d))
@@ -116,15 +116,15 @@ module _ (lanes a c n : ℕ) (fits : a + c ≤ n) (small : (b : ℕ) → b < 4 �
   lanes-before zero h = refl
   lanes-before (suc d) h = ap₂ bitXor (lanes-before d (omega arith)) (part-before d h) ∙ xor-zero-r x
 
-  lanes-behind : (d : ℕ) → lanesInto lanes (2 * a) n (b * n + i) (suc b + d) x ≡ bitXor x (lane lanes b * 2 ^ (2 * a) / 2 ^ (2 * i) % 4)
+  lanes-after : (d : ℕ) → lanesInto lanes (2 * a) n (b * n + i) (suc b + d) x ≡ bitXor x (lane lanes b * 2 ^ (2 * a) / 2 ^ (2 * i) % 4)
   unfolding lanesInto part
-  lanes-behind zero = ap (λ (k : ℕ). lanesInto lanes (2 * a) n (b * n + i) k x) (add-zero (suc b)) ∙ ap₂ bitXor (lanes-before b (le-refl b)) part-own
-  lanes-behind (suc d) =
+  lanes-after zero = ap (λ (k : ℕ). lanesInto lanes (2 * a) n (b * n + i) k x) (add-zero (suc b)) ∙ ap₂ bitXor (lanes-before b (le-refl b)) part-own
+  lanes-after (suc d) =
       let y : ℕ = bitXor x (lane lanes b * 2 ^ (2 * a) / 2 ^ (2 * i) % 4) in
-      ap (λ (k : ℕ). lanesInto lanes (2 * a) n (b * n + i) k x) (add-suc (suc b) d) ∙ ap₂ bitXor (lanes-behind d) (part-behind (suc b + d) (omega arith)) ∙ xor-zero-r y
+      ap (λ (k : ℕ). lanesInto lanes (2 * a) n (b * n + i) k x) (add-suc (suc b) d) ∙ ap₂ bitXor (lanes-after d) (part-after (suc b + d) (omega arith)) ∙ xor-zero-r y
 
   pub lanes-pair : lanesInto lanes (2 * a) n (b * n + i) 4 x ≡ bitXor x (lane lanes b * 2 ^ (2 * a) / 2 ^ (2 * i) % 4)
-  lanes-pair = let e : suc b + (3 - b) ≡ 4 = omega arith in ap (λ (k : ℕ). lanesInto lanes (2 * a) n (b * n + i) k x) (sym e) ∙ lanes-behind (3 - b)
+  lanes-pair = let e : suc b + (3 - b) ≡ 4 = omega arith in ap (λ (k : ℕ). lanesInto lanes (2 * a) n (b * n + i) k x) (sym e) ∙ lanes-after (3 - b)
 
 -- ---- lane after lane
 

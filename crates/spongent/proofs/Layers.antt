@@ -96,7 +96,7 @@ bytes-cAddition s n c v h0 hn hc ev s′ es =
     ∙ xorInto-append (xorInto (take t L) lo) (drop t L) hi [] eA
     ∙ ap (λ (l : List Bool). xorInto (xorInto (take t L) lo) hi ++ l) (xorInto-nil (drop t L))
 
--- ---- layers in turn: bits A that are x, of t bits, and z behind
+-- ---- layers in turn: bits A that are x, of t bits, and z after them
 
 module _ (t : ℕ) (A x z : List Bool) (lx : length x ≡ t) (e : A ≡ x ++ z) where
   pub first-bits : take t A ≡ x

@@ -1,4 +1,5 @@
--- The facts that the proofs of the functions share: layers, counters, places of bits, rounds in turn, images; and for the state in words: shifts, look-ups, lanes, tables, rounds, steps.
+-- The facts that the proofs of the functions share: layers, counters, places of bits, rounds in turn, images; and for
+-- the state in words: shifts, look-ups, lanes, tables, rounds, the block step.
 pub mod Layers
 pub mod Counter
 pub mod Turns

@@ -115,9 +115,9 @@ module _ (box : List ℕ) (n : ℕ) (least : 0 < n) (most : n ≤ 36) (w : List 
         ∙ row-at (given box (getD w j 0) b) (λ m. pair-lt b (sBoxByte box (getD w j 0 / 2 ^ (8 * m) % 256))) c k (enough k (omega arith) (omega arith))
         ∙ ap (λ (y : ℕ). planePair b (sBoxByte box y)) (ap₂ (λ (p q : ℕ). getD w p 0 / 2 ^ (8 * q) % 256) eq er ∙ sym (bytesIn-at w i (omega arith)))
 
-    -- and nothing behind them
-    nothing-behind : (b i : ℕ) → b < 4 → 8 * (j + 1) ≤ i → lane lanes b * 2 ^ (2 * (8 * j)) / 2 ^ (2 * i) % 4 ≡ 0
-    nothing-behind b i hb u =
+    -- and nothing after them
+    nothing-after : (b i : ℕ) → b < 4 → 8 * (j + 1) ≤ i → lane lanes b * 2 ^ (2 * (8 * j)) / 2 ^ (2 * i) % 4 ≡ 0
+    nothing-after b i hb u =
         let f : ℕ → ℕ = given box (getD w j 0) b in
         ap (λ (y : ℕ). y % 4)
         (shifted-past (lane lanes b) (2 * c) (2 * (8 * j)) (2 * i)
@@ -136,7 +136,7 @@ module _ (box : List ℕ) (n : ℕ) (least : 0 < n) (most : n ≤ 36) (w : List 
               (λ (u : i < 8 * j). now ∙ ap₂ bitXor (done m h .0 u) (nothing-before b i u) ∙ xor-zero-r (lookedUp box n (bytesIn w) m))
               (λ (u : 8 * j ≤ i). now ∙ ap₂ bitXor (done m h .1 u) (own b i hb hi u l) ∙ xor-zero-l (lookedUp box n (bytesIn w) m))
               (lt-or-le i (8 * j))),
-          (λ (l : 8 * (j + 1) ≤ i). now ∙ ap₂ bitXor (done m h .1 (omega arith)) (nothing-behind b i hb l)),
+          (λ (l : 8 * (j + 1) ≤ i). now ∙ ap₂ bitXor (done m h .1 (omega arith)) (nothing-after b i hb l)),
         )
 
 -- ---- the round

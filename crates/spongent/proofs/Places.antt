@@ -174,8 +174,8 @@ module _ (t : ℕ) (least : 8 ≤ t) (most : t ≤ 288) (whole : t % 8 ≡ 0) (s
           omega arith
 
 module _ (t : ℕ) (least : 8 ≤ t) (most : t ≤ 288) (whole : t % 8 ≡ 0) (r : List ℕ) (lr : length r ≡ 36) where
-  pub bits-behind : ((k : ℕ) → t / 8 ≤ k → getD r k 0 ≡ 0) → drop t (bitsIn low-first r) ≡ replicate (288 - t) false
-  bits-behind h =
+  pub bits-after : ((k : ℕ) → t / 8 ≤ k → getD r k 0 ≡ 0) → drop t (bitsIn low-first r) ≡ replicate (288 - t) false
+  bits-after h =
       let et : 8 * (t / 8) ≡ t = omega arith in
       let left : 8 * (36 - t / 8) ≡ 288 - t = omega arith in
       rw (none, bitsIn-zeros, et, left) at (bitsIn-drop low-first (t / 8) r)

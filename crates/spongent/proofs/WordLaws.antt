@@ -82,7 +82,7 @@ word-kept w q y k j d h none =
 
 -- ---- a byte xored in
 
--- a byte v at place a of a word is nothing at another place b
+-- a byte v at place a of a word is nothing at a different place b
 byte-elsewhere : (v a b : ℕ) → v < 256 → (b ≡ a → ⊥) → v * 2 ^ (8 * a) / 2 ^ (8 * b) % 256 ≡ 0
 byte-elsewhere v a b h n =
     ⊎-elim
@@ -153,14 +153,14 @@ filled-all s w ls u = ext-getD 0 (bytesIn w) s (length-bytesIn w ∙ sym ls) (λ
 pub byte-shifted : (v k : ℕ) → v < 256 → k < 8 → v * 2 ^ (8 * k) % 2 ^ 64 ≡ v * 2 ^ (8 * k)
 byte-shifted v k h l = shl-exact 8 (8 * k) 64 h (omega arith)
 
--- the first i bytes of b, with zeros behind them up to n, and one more
+-- the first i bytes of b, with zeros after them up to n, and one more
 pub front-more : (b : List ℕ) (n i : ℕ) → i < n → i < length b
     → set (take i b ++ replicate (n - i) 0) i (getD b i 0) ≡ take (i + 1) b ++ replicate (n - (i + 1)) 0
 front-more b n i h l =
     let e : n - i ≡ suc (n - suc i) = omega arith in
     rw (add-one i, e, take-suc b i 0 l, append-snoc) (set-at (take i b) 0 (replicate (n - suc i) 0) (getD b i 0) i (length-take-le i b (omega arith)))
 
--- the first n bytes, with zeros behind them, are the image of their bits
+-- the first n bytes, with zeros after them, are the image of their bits
 pub image-packed : (w : List ℕ) (n : ℕ) → n ≤ 36 → take n (bytesIn w) ++ replicate (36 - n) 0 ≡ pack low-first 36 (unpack low-first (8 * n) (bytesIn w))
 unfolding unpack
 image-packed w n h =

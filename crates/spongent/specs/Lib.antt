@@ -1,4 +1,4 @@
--- What the contracts of the SPONGENT permutation cite beyond the standard.
+-- What the contracts of this crate cite beyond the standard.
 pub mod Parameters
 pub mod Pairs
 pub mod Words

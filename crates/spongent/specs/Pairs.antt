@@ -19,4 +19,5 @@ planePair b x = x / 2 ^ b % 2 + x / 2 ^ (b + 4) % 2 * 2
 abbrev pub Joined : List ℕ → ℕ → ℕ → Type 0
 Joined pairs k x =
     (x % 4 ≡ getD pairs (4 * k) 0)
-    × ((x / 4 % 4 ≡ getD pairs (4 * k + 1) 0) × ((x / 16 % 4 ≡ getD pairs (4 * k + 2) 0) × (x / 64 % 4 ≡ getD pairs (4 * k + 3) 0)))
+    × ((x / 4 % 4 ≡ getD pairs (4 * k + 1) 0)
+    × ((x / 16 % 4 ≡ getD pairs (4 * k + 2) 0) × (x / 64 % 4 ≡ getD pairs (4 * k + 3) 0)))

@@ -1,4 +1,5 @@
--- For the code: the state in eight words of 64 bits, and the table by which the code replaces and moves a byte of it at a time.
+-- For the code: the state in eight words of 64 bits, and the table by which the code replaces and moves a byte of it at
+-- a time.
 -- Assumes nothing.
 use mathlib.Core.Path.{_≡_}
 use mathlib.Core.Bool.{Bool}
@@ -42,10 +43,12 @@ unfoldable pub spreadWord : List ℕ → ℕ → ℕ → ℕ
 spreadWord box zero w = 0
 spreadWord box (suc k) w = bitXor (spreadWord box k w) (lookUp box k (w / 2 ^ (8 * k) % 256))
 
--- the pair m of words, x before, after the first b of four lanes were xored in: the first from the bit p on, each other 2 * n bits after the one before
+-- the pair m of words, x before, after the first b of four lanes were xored in: the first from the bit p on, each other
+-- 2 * n bits after the one before
 unfoldable pub lanesInto : ℕ → ℕ → ℕ → ℕ → ℕ → ℕ → ℕ
 lanesInto lanes p n m zero x = x
-lanesInto lanes p n m (suc b) x = bitXor (lanesInto lanes p n m b x) (lanes / 2 ^ (16 * b) % 65536 * 2 ^ (p + b * (2 * n)) / 2 ^ (2 * m) % 4)
+lanesInto lanes p n m (suc b) x =
+    bitXor (lanesInto lanes p n m b x) (lanes / 2 ^ (16 * b) % 65536 * 2 ^ (p + b * (2 * n)) / 2 ^ (2 * m) % 4)
 
 -- a table of what each byte gives to the planes
 pub record ByteTable (box table : List ℕ) : Type 0 where

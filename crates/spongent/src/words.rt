@@ -1,5 +1,5 @@
-// The block step of SPONGENT on a state in eight words, for hashing, which needs no inverse. A table look-up replaces the
-// nibbles of a byte and moves its bits at once. What lies in the words past the state is never read.
+// The block step of SPONGENT on a state in eight words, for hashing, which needs no inverse. A table look-up replaces
+// the nibbles of a byte and moves its bits at once. What lies in the words past the state is never read.
 ghost use mathlib.Core.Path.{_≡_};
 ghost use mathlib.Core.List.{_++_};
 ghost use Prim.Native.Nat.{ℕ, min, _+_, _-_, _*_, _/_, _%_, _^_, _<_, _≤_};

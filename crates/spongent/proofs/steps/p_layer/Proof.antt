@@ -7,7 +7,7 @@ use Prim.Native.Nat.{ℕ, _/_, _%_}
 use native.Mathlib.Omega.{arith}
 use lib.ListN.{getD, take-append-drop}
 use Rattle.standard.specs.Bits.{low-first, bitsIn}
-use Rattle.spongent.proofs.Places.{pair-lt, moved-bits, bits-behind}
+use Rattle.spongent.proofs.Places.{pair-lt, moved-bits, bits-after}
 use borrow.Author.Needs.{needs}
 use Rattle.spongent.proofs.steps.p_layer.Statement.{statement}
 use Rattle.spongent.proofs.steps.p_layer.Tie as tie
@@ -26,7 +26,7 @@ returns c =
     sym (take-append-drop (a .t) (bitsIn low-first r))
     ∙ ap₂ (λ (k l : List Bool). k ++ l)
     (moved-bits (a .t) (omega arith) (omega arith) (omega arith) (a .s) r (omega arith) (omega arith) (λ j h. c .all-joined .ensures .0 j h ∙ pairs j h))
-    (bits-behind (a .t) (omega arith) (omega arith) (omega arith) r (omega arith) (c .all-joined .ensures .1))
+    (bits-after (a .t) (omega arith) (omega arith) (omega arith) r (omega arith) (c .all-joined .ensures .1))
 
 pub p-layer-spec : {M : Type 1} → statement M
 p-layer-spec = tie.close (tie.spec (λ c κs. search needs) all-joined-requires returns)

@@ -11,7 +11,7 @@ use Rattle.standard.specs.Bits.{low-first, bitsIn}
 use Rattle.standard.specs.Spongent.{pLayer}
 use Rattle.standard.proofs.BitLaws.{length-bitsIn}
 use Rattle.standard.proofs.SpongentLaws.{pLayer-undo}
-use Rattle.spongent.proofs.Places.{pairAt-lt, moved-bits, bits-behind}
+use Rattle.spongent.proofs.Places.{pairAt-lt, moved-bits, bits-after}
 use borrow.Author.Needs.{needs}
 use Rattle.spongent.proofs.steps.p_layer_back.Statement.{statement}
 use Rattle.spongent.proofs.steps.p_layer_back.Tie as tie
@@ -34,7 +34,7 @@ returns c =
     (sym (pLayer-undo t (t / 4) 4 e (take t R) lr)
     ∙ ap (pLayer t 4)
     (sym (moved-bits t (omega arith) (omega arith) (omega arith) r (a .s) (omega arith) (omega arith) (λ j h. sym (pairs j h) ∙ sym (c .all-gathered .ensures .0 j h)))))
-    (bits-behind t (omega arith) (omega arith) (omega arith) r (omega arith) (c .all-gathered .ensures .1))
+    (bits-after t (omega arith) (omega arith) (omega arith) r (omega arith) (c .all-gathered .ensures .1))
 
 pub p-layer-back-spec : {M : Type 1} → statement M
 p-layer-back-spec = tie.close (tie.spec (λ c κs. search needs) all-gathered-requires returns)

@@ -1,4 +1,4 @@
--- `planes` has the four planes of n bytes, one behind the other.
+-- `planes` has the four planes of n bytes, one after the other.
 -- Assumes nothing.
 use mathlib.Core.Path.{_≡_, ap, _∙_}
 use Prim.Native.Nat.{ℕ, _+_, _*_}
