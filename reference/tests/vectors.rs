@@ -118,7 +118,8 @@ fn lines_begin_with_annex_b() {
     }
 }
 
-/// The digests of Annex B, as it prints them, in one call and byte by byte.
+/// The digests of Annex B, as it prints them, in one call and read at the end
+/// of a running hash.
 #[test]
 fn lines_have_the_digests_of_annex_b() {
     let photon = "5468652050484f544f4e204c6967687477656967687420486173682046756e6374696f6e7320\
@@ -155,10 +156,15 @@ fn lines_have_the_digests_of_annex_b() {
     let printed = kept("stdout");
     for ((message, digest), number) in digests.iter().zip(1..) {
         let lent = "a0".repeat(digest.len() / 2);
-        for operation in ["digest", "pieces"] {
-            let line = format!("{operation} {number} {message} - {lent} -> 0 {digest}");
-            assert_has(&printed, &line);
-        }
+        assert_has(
+            &printed,
+            &format!("digest {number} {message} - {lent} -> 0 {digest}"),
+        );
+        let front = format!("read-digest {number} 1 {} ", 4 * message.len());
+        let end = format!(" {lent} -> 0 {digest}");
+        let mut lines = printed.lines();
+        let read = lines.any(|line| line.starts_with(&front) && line.ends_with(&end));
+        assert!(read, "{front}..{end}");
     }
 }
 
@@ -169,8 +175,7 @@ fn lines_have_annex_b_3() {
     let hash = "ab32ca451748255e3bf0e34a5ad600f0ce7660ecea2fe083ba54139b770766d0";
     let printed = kept("stdout");
     for line in [
-        "q 11 a4323129 -> 0 95f80b6e",
-        "g 11 0000025600000256 00000256 -> 0 a58d6363636326c8",
+        "q-and-g 11 a4323129 0000025600000256 00000256 -> 0 95f80b6e a58d6363636326c8",
         &format!("end-state 11 616263 - {} -> 0 {hash}", "a0".repeat(32)),
     ] {
         assert_has(&printed, line);
@@ -267,27 +272,23 @@ fn every_answer_has_a_line() {
                 "update" => 7,
                 _ => 3,
             };
-            let given = matches!(
-                operation,
-                "digest" | "end-state" | "pieces" | "update" | "recover"
-            ) && call.get(place).is_some_and(|&word| word != "-");
+            let given = matches!(operation, "digest" | "end-state" | "update" | "recover")
+                && call.get(place).is_some_and(|&word| word != "-");
             let number = answer[0].split('@').next();
             call[0] == operation && given == bits && number == Some(refusal.to_string().as_str())
         })
     };
-    let answers: [(&str, bool, &[u8]); 28] = [
+    let answers: [(&str, bool, &[u8]); 25] = [
         ("permute", false, &[0, 1, 17, 6]),
         ("unpermute", false, &[0, 1, 17, 6]),
         ("permute-words", false, &[0]),
-        ("q", false, &[0]),
-        ("g", false, &[0]),
+        ("q-and-g", false, &[0]),
         ("encrypt", false, &[0]),
         ("decrypt", false, &[0]),
         ("round", false, &[0]),
         ("unround", false, &[0]),
         ("digest", false, &[0, 1, 5]),
         ("end-state", false, &[0, 1, 5]),
-        ("pieces", false, &[0]),
         ("start", false, &[0, 1]),
         ("update", false, &[0, 2, 3, 16, 4]),
         ("finish", false, &[0, 2, 3]),
@@ -299,7 +300,6 @@ fn every_answer_has_a_line() {
         ("recover", false, &[0, 1, 7, 17, 6, 5, 8]),
         ("digest", true, &[0, 1, 15, 5]),
         ("end-state", true, &[0, 1, 15, 5]),
-        ("pieces", true, &[0]),
         ("recover", true, &[0, 1, 15, 7, 17, 6, 5, 8]),
         ("update", true, &[0, 2, 3, 15, 16, 4]),
         ("check-manifest", false, &[0, 12, 13, 14]),

@@ -103,27 +103,20 @@ fn word_at(bytes: &[u8], i: usize) -> u64
     answers::u32_at(bytes, i) as u64
 }
 
-// Lesamnta-LW's function Q on a word.
-fn q(line: &[u8]) {
+// Lesamnta-LW's functions: Q on a word, and G on two words and the word of a round key.
+fn q_and_g(line: &[u8]) {
     let mut x = [0u8; 4];
     text::bytes(line, 2, &mut x);
+    let mut y = [0u8; 8];
+    text::bytes(line, 3, &mut y);
+    let mut key = [0u8; 4];
+    text::bytes(line, 4, &mut key);
     let mut table = [0u64; lesamnta::TABLE_WORDS];
     lesamnta::fill_table(&mut table);
     show::status(Status::Done);
     show::word(lesamnta::word_q(word_at(&x, 0), &table), 8);
-}
-
-// Its function G on two words and the word of a round key.
-fn g(line: &[u8]) {
-    let mut x = [0u8; 8];
-    text::bytes(line, 2, &mut x);
-    let mut key = [0u8; 4];
-    text::bytes(line, 3, &mut key);
-    let mut table = [0u64; lesamnta::TABLE_WORDS];
-    lesamnta::fill_table(&mut table);
-    let y = word_at(&x, 0) * 4294967296 + word_at(&x, 4);
-    show::status(Status::Done);
-    show::word(lesamnta::word_g(y, word_at(&key, 0), &table), 16);
+    let two = word_at(&y, 0) * 4294967296 + word_at(&y, 4);
+    show::word(lesamnta::word_g(two, word_at(&key, 0), &table), 16);
 }
 
 fn ciphered(key: [u8; 16], state: [u8; 32], way: Direction) -> [u8; 32] {
@@ -169,46 +162,6 @@ fn updated(h: Hasher, piece: &[u8], ending: Ending) -> Advanced {
         Ending::Whole => hasher::update(h, piece),
         Ending::Bits(k) => hasher::update_bits(h, piece, k),
     }
-}
-
-// The running hash that has taken all bytes but the last, one at a time.
-fn by_bytes(h: Hasher, message: &[u8]) -> Hasher {
-    let mut g = h;
-    let mut i = 1;
-    while i < message.len() {
-        let after = hasher::update(g, &message[i - 1..i]);
-        g = after.hasher;
-        i += 1;
-    }
-    g
-}
-
-fn last<'a>(message: &'a [u8]) -> &'a [u8] {
-    let n = message.len();
-    if n == 0 {
-        return message;
-    }
-    &message[n - 1..]
-}
-
-fn digest_by_bytes(v: u32, message: &[u8], ending: Ending, out: &mut [u8]) {
-    let begun = hasher::start(v);
-    let h = by_bytes(begun.hasher, message);
-    let taken = updated(h, last(message), ending);
-    let ended = hasher::finish(taken.hasher);
-    let status = hasher::digest(ended.hasher, out);
-    show::result(status, out);
-}
-
-// The digest of a message that is taken byte by byte.
-fn pieces(line: &[u8]) {
-    let v = text::number(line, 1);
-    let mut message = [0u8; text::ROOM];
-    let n = text::bytes(line, 2, &mut message);
-    let ending = text::ending(line, 3);
-    let mut out = [0u8; text::ROOM];
-    let m = text::bytes(line, 4, &mut out);
-    digest_by_bytes(v, &message[..n], ending, &mut out[..m]);
 }
 
 // The running hash that a line gives: variant, stage, total, state and held bits.
@@ -342,33 +295,52 @@ fn report(line: &[u8]) {
     counts(&list[..a], &first[..b], &other[..c], &second[..d]);
 }
 
-// Makes the call that a line asks for; false if it asks for none.
-pub fn is_made(line: &[u8]) -> bool {
+// Each of these makes the call that a line asks for, and gives false if it asks for none of them.
+fn is_permutation(line: &[u8]) -> bool {
     if text::is_call(line, b"permute", b"nb") {
         permute(line, Direction::Forward);
     } else if text::is_call(line, b"unpermute", b"nb") {
         permute(line, Direction::Backward);
     } else if text::is_call(line, b"permute-words", b"nb") {
         return permute_words(line);
-    } else if text::is_call(line, b"round", b"nxb") {
+    } else {
+        return false;
+    }
+    true
+}
+
+fn is_step(line: &[u8]) -> bool {
+    if text::is_call(line, b"round", b"nxb") {
         return round(line, Direction::Forward);
     } else if text::is_call(line, b"unround", b"nxb") {
         return round(line, Direction::Backward);
-    } else if text::is_call(line, b"q", b"nw") {
-        q(line);
-    } else if text::is_call(line, b"g", b"ndw") {
-        g(line);
+    } else if text::is_call(line, b"q-and-g", b"nwdw") {
+        q_and_g(line);
     } else if text::is_call(line, b"encrypt", b"nkc") {
         cipher(line, Direction::Forward);
     } else if text::is_call(line, b"decrypt", b"nkc") {
         cipher(line, Direction::Backward);
-    } else if text::is_call(line, b"digest", b"nbeb") {
+    } else {
+        return false;
+    }
+    true
+}
+
+fn is_whole(line: &[u8]) -> bool {
+    if text::is_call(line, b"digest", b"nbeb") {
         hash(line, Wanted::Digest);
     } else if text::is_call(line, b"end-state", b"nbeb") {
         hash(line, Wanted::EndState);
-    } else if text::is_call(line, b"pieces", b"nbeb") {
-        pieces(line);
-    } else if text::is_call(line, b"start", b"n") {
+    } else if text::is_call(line, b"recover", b"nbenbb") {
+        lost_block(line);
+    } else {
+        return false;
+    }
+    true
+}
+
+fn is_running(line: &[u8]) -> bool {
+    if text::is_call(line, b"start", b"n") {
         show::running(hasher::start(text::number(line, 1)));
     } else if text::is_call(line, b"update", b"uunikbe") {
         update(line);
@@ -378,14 +350,19 @@ pub fn is_made(line: &[u8]) -> bool {
         read(line, Wanted::Digest);
     } else if text::is_call(line, b"read-end-state", b"uunikb") {
         read(line, Wanted::EndState);
-    } else if text::is_call(line, b"segment", b"-bbn") {
+    } else {
+        return false;
+    }
+    true
+}
+
+fn is_listed(line: &[u8]) -> bool {
+    if text::is_call(line, b"segment", b"-bbn") {
         segment(line);
     } else if text::is_call(line, b"list-digest", b"nbbb") {
         hash_list(line, Wanted::Digest);
     } else if text::is_call(line, b"list-end-state", b"nbbb") {
         hash_list(line, Wanted::EndState);
-    } else if text::is_call(line, b"recover", b"nbenbb") {
-        lost_block(line);
     } else if text::is_call(line, b"check-manifest", b"-b") {
         check_manifest(line);
     } else if text::is_call(line, b"report", b"-bbbb") {
@@ -394,4 +371,8 @@ pub fn is_made(line: &[u8]) -> bool {
         return false;
     }
     true
+}
+
+pub fn is_made(line: &[u8]) -> bool {
+    is_permutation(line) || is_step(line) || is_whole(line) || is_running(line) || is_listed(line)
 }

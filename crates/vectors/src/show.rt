@@ -1,5 +1,4 @@
 // What is printed after a line: an arrow, then the words of the answer, each with a space before it.
-use answers::Refusal;
 use answers::Status;
 use hasher::Advanced;
 use libc::STDOUT_FILENO;
@@ -38,26 +37,14 @@ pub fn bytes(s: &[u8]) {
     }
 }
 
-fn entry(k: u16) {
-    text(b"@");
-    io::print_decimal(STDOUT_FILENO, k as u64);
-}
-
-// The number, with the entry that 10 and 11 name.
-fn refusal(r: Refusal) {
-    number(answers::number_of(r) as u64);
-    match r {
-        Refusal::Misordered(k) => entry(k),
-        Refusal::PastEnd(k) => entry(k),
-        _ => {}
-    }
-}
-
-// 0, or the refusal.
+// The answer's number, 0 for Done, with the entry that 10 and 11 name.
 pub fn status(s: Status) {
-    match s {
-        Status::Done => number(0),
-        Status::Refused(r) => refusal(r),
+    let answer = answers::answer_of(s);
+    let refusal = answer % 256;
+    number(refusal as u64);
+    if refusal == 10 || refusal == 11 {
+        text(b"@");
+        io::print_decimal(STDOUT_FILENO, (answer / 256) as u64);
     }
 }
 

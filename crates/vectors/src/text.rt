@@ -94,9 +94,12 @@ fn value(c: u8) -> u8
     16
 }
 
-// Whether a word has digits of this base alone, and a number of them in these bounds.
-fn has_digits(word: &[u8], base: u8, least: usize, most: usize) -> bool {
-    if word.len() < least || most < word.len() {
+// Whether a word has digits of this base alone, one at least and not more than this.
+fn has_digits(word: &[u8], base: u8, most: usize) -> bool {
+    if word.len() == 0 {
+        return false;
+    }
+    if most < word.len() {
         return false;
     }
     let mut i = 0;
@@ -109,23 +112,32 @@ fn has_digits(word: &[u8], base: u8, least: usize, most: usize) -> bool {
     true
 }
 
-// Whether a word is of the kind that a letter of a form names.
-fn is_kind(word: &[u8], letter: u8) -> bool {
+// The digits of a counter, a word of 32 bits, one of 64, a key or held bits, a state of the cipher, that of a running hash.
+fn digits_of(letter: u8) -> usize {
     match letter {
-        // A dash; a number; a number of a byte; how many bits of a last byte count, a dash if all do.
-        b'-' => is_same(word, b"-"),
-        b'n' => has_digits(word, 10, 1, 9),
-        b'u' => has_digits(word, 10, 1, 2),
-        b'e' => is_same(word, b"-") || has_digits(word, 10, 1, 9),
-        // Bytes; a counter; a word of 32 bits and one of 64; a key, or held bits; a state of the cipher and of a running hash.
-        b'b' => is_same(word, b"-") || word.len() % 2 == 0 && has_digits(word, 16, 2, 1024),
-        b'x' => has_digits(word, 16, 2, 2),
-        b'w' => has_digits(word, 16, 8, 8),
-        b'd' => has_digits(word, 16, 16, 16),
-        b'k' => has_digits(word, 16, 32, 32),
-        b'c' => has_digits(word, 16, 64, 64),
-        b'i' => has_digits(word, 16, 72, 72),
-        _ => false,
+        b'x' => 2,
+        b'w' => 8,
+        b'd' => 16,
+        b'k' => 32,
+        b'c' => 64,
+        b'i' => 72,
+        _ => 0,
+    }
+}
+
+// Whether a word is of the kind that a letter of a form names: a dash; a number; a number of a byte; how many bits the
+// last byte contributes, a dash for all; bytes; or as many bytes as the digits say.
+fn is_kind(word: &[u8], letter: u8) -> bool {
+    let dash = is_same(word, b"-");
+    let decimal = has_digits(word, 10, 9);
+    let hex = has_digits(word, 16, 2 * ROOM);
+    match letter {
+        b'-' => dash,
+        b'n' => decimal,
+        b'u' => decimal && word.len() <= 2,
+        b'e' => dash || decimal,
+        b'b' => dash || hex && word.len() % 2 == 0,
+        _ => hex && word.len() == digits_of(letter),
     }
 }
 

@@ -2,13 +2,13 @@
 //! b7 3 are three bits of one byte, in SPONGENT 111 and in the others 101.
 
 use super::lost::{self, add_recover, LONG, MESSAGE};
-use super::running::{add_finish, add_read, add_start, add_update, near, words};
+use super::running::{self, add_finish, add_read, add_start, add_update, near, words};
 use super::whole::{add_result, add_whole};
 use super::{hexadecimal, name, size, Cases, LESAMNTA_LW};
 use crate::recover::recover_bits;
-use crate::running::{start, Running};
+use crate::running::Running;
 use crate::variants::{Variant, VARIANTS};
-use crate::{digest_bits, end_state_bits, DONE};
+use crate::{digest_bits, end_state_bits};
 
 pub fn add(cases: &mut Cases) {
     cases.heading("1 to 7 bits of a byte");
@@ -17,7 +17,7 @@ pub fn add(cases: &mut Cases) {
             add_digest(cases, variant.number, b"\xb7", bits, size(variant, false));
         }
     }
-    cases.heading("three bits of the last byte: the end state, the digest byte by byte, and the block at place 1");
+    cases.heading("three bits of the last byte: the end state, the digest in two pieces, and the block at place 1");
     for variant in &VARIANTS {
         add_end(cases, variant, MESSAGE, 3);
     }
@@ -48,7 +48,7 @@ fn add_end_state(cases: &mut Cases, number: u32, message: &[u8], bits: u32, byte
     add_result(cases, name(true), number, message, &bits, result, bytes);
 }
 
-/// The end state, the digest of the message taken byte by byte, and the block
+/// The end state, the digest of the message taken in two pieces, and the block
 /// at place 1.
 fn add_end(cases: &mut Cases, variant: &Variant, message: &[u8], bits: u32) {
     let number = variant.number;
@@ -59,18 +59,14 @@ fn add_end(cases: &mut Cases, variant: &Variant, message: &[u8], bits: u32) {
     add_lost(cases, number, message, bits, 1, &image, LONG);
 }
 
+/// The digest of a message in two pieces, of the last of which `bits` bits of
+/// the last byte count.
 fn add_pieces(cases: &mut Cases, variant: &Variant, message: &[u8], bits: u32) {
-    let number = variant.number;
-    let (last, before) = message.split_last().expect("a message of some bytes");
-    let mut running = start(number).1;
-    for piece in before.chunks(1) {
-        running = running.update(piece).1;
-    }
-    running = running.update_bits(&[*last], bits).1;
-    let mut digest = vec![0; size(variant, false)];
-    assert_eq!(running.finish().1.read(false, &mut digest), DONE);
-    let (bits, bytes) = (bits.to_string(), digest.len());
-    add_result(cases, "pieces", number, message, &bits, Ok(digest), bytes);
+    let (first, last) = message.split_at(5);
+    let begun = add_start(cases, variant.number);
+    let half = add_update(cases, begun, first);
+    let taken = add_update_bits(cases, half, last, bits);
+    running::add_end(cases, variant, taken);
 }
 
 /// One call for a lost block, with an output of so many bytes.

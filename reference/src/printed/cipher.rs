@@ -16,21 +16,16 @@ const DECRYPT: Operation = ("decrypt", decrypt);
 
 pub fn add(cases: &mut Cases) {
     cases.heading("Annex B.3: Q, G, and the cipher in the two steps of the message abc, and back");
-    add_q(cases, 0xa432_3129);
-    add_g(cases, 0x0000_0256_0000_0256, 0x0000_0256);
+    add_functions(cases, 0xa432_3129, 0x0000_0256_0000_0256, 0x0000_0256);
     add_steps(cases, LESAMNTA_MESSAGE);
 }
 
-fn add_q(cases: &mut Cases, x: u32) {
-    let after = q(x);
-    cases.add(format!("q {LESAMNTA_LW} {x:08x}"), format!("0 {after:08x}"));
-}
-
-fn add_g(cases: &mut Cases, y: u64, key: u32) {
-    let after = g(y, key);
+/// Q of a word, and G of two words and the word of a round key.
+fn add_functions(cases: &mut Cases, x: u32, y: u64, key: u32) {
+    let [q, g] = [format!("{:08x}", q(x)), format!("{:016x}", g(y, key))];
     cases.add(
-        format!("g {LESAMNTA_LW} {y:016x} {key:08x}"),
-        format!("0 {after:016x}"),
+        format!("q-and-g {LESAMNTA_LW} {x:08x} {y:016x} {key:08x}"),
+        format!("0 {q} {g}"),
     );
 }
 

@@ -2,12 +2,26 @@
 //! too long, and one that is not well formed; and of Lesamnta-LW, which holds
 //! the longest blocks.
 
-use super::{hexadecimal, lent, name, Cases, LESAMNTA_LW};
+use super::{annex_b_message, hexadecimal, lent, name, size, Cases, LESAMNTA_LW};
 use crate::running::{start, Running};
+use crate::variants::{Variant, VARIANTS};
 use crate::BIT_LIMIT;
 
 pub fn add(cases: &mut Cases) {
-    cases.heading("a running hash is its variant, stage, total, state and held bits; its stages");
+    cases.heading(
+        "Annex B in three pieces: a running hash is its variant, stage, total, state and held bits",
+    );
+    for variant in &VARIANTS {
+        let message = annex_b_message(variant);
+        let (first, rest) = message.split_at(1);
+        let (second, third) = rest.split_at(rest.len() / 2);
+        let mut running = add_start(cases, variant.number);
+        for piece in [first, second, third] {
+            running = add_update(cases, running, piece);
+        }
+        add_end(cases, variant, running);
+    }
+    cases.heading("an open one is not read, and a closed one takes nothing more");
     add_stages(cases);
     cases.heading("one byte before the longest message, and at it");
     add_limit(cases);
@@ -57,6 +71,12 @@ pub fn add_finish(cases: &mut Cases, running: Running) -> Running {
     let [before, after] = [running, closed].map(|r| words(&r));
     cases.add(format!("finish {before}"), format!("{status} {after}"));
     closed
+}
+
+/// Closes a running hash and reads its digest.
+pub fn add_end(cases: &mut Cases, variant: &Variant, running: Running) {
+    let closed = add_finish(cases, running);
+    add_read(cases, closed, false, size(variant, false));
 }
 
 /// A read into an output of so many bytes.

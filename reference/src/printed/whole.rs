@@ -3,18 +3,17 @@
 //! a0 before.
 
 use super::{annex_b_message, hexadecimal, lent, name, size, Cases, LESAMNTA_LW};
-use crate::running::{start, write_front};
-use crate::variants::{Variant, VARIANTS};
-use crate::{digest, end_state, DONE};
+use crate::running::write_front;
+use crate::variants::VARIANTS;
+use crate::{digest, end_state};
 
 pub fn add(cases: &mut Cases) {
-    cases.heading("Annex B: digest and end state of a whole message, and the digest byte by byte");
+    cases.heading("Annex B: digest and end state of a whole message");
     for variant in &VARIANTS {
         let message = annex_b_message(variant);
         for image in [false, true] {
             add_whole(cases, image, variant.number, message, size(variant, image));
         }
-        add_pieces(cases, variant, message);
     }
     cases.heading("the empty message; an output with two bytes more, which stay");
     add_whole(cases, false, 1, b"", 10);
@@ -62,17 +61,4 @@ pub fn add_result(
         format!("{operation} {number} {message} {bits} {before}"),
         format!("{status} {out}"),
     );
-}
-
-/// The digest of the message taken byte by byte.
-fn add_pieces(cases: &mut Cases, variant: &Variant, message: &[u8]) {
-    let number = variant.number;
-    let mut running = start(number).1;
-    for piece in message.chunks(1) {
-        running = running.update(piece).1;
-    }
-    let mut digest = vec![0; size(variant, false)];
-    assert_eq!(running.finish().1.read(false, &mut digest), DONE);
-    let bytes = digest.len();
-    add_result(cases, "pieces", number, message, "-", Ok(digest), bytes);
 }
