@@ -76,7 +76,8 @@ fn layers_back(s: [u8; 36], n: usize, counter: u8, reversed: u8)
     show::bytes(&added[0..n]);
 }
 
-// A round of SPONGENT with its counter: the counter in reverse, and the state after each layer. False if no state is given.
+// A round of SPONGENT with its counter: the counter in reverse, and the state after each layer. False if there is no
+// state.
 fn round(line: &[u8], way: Direction) -> bool {
     let mut byte = [0u8; 1];
     text::bytes(line, 2, &mut byte);
@@ -295,26 +296,28 @@ fn report(line: &[u8]) {
     counts(&list[..a], &first[..b], &other[..c], &second[..d]);
 }
 
-// Each of these makes the call that a line asks for, and gives false if it asks for none of them.
+// Each of these makes the call that a line asks for, and gives false if it asks for none of them. A function has few
+// calls, since the time to prove it grows faster than their number.
 fn is_permutation(line: &[u8]) -> bool {
     if text::is_call(line, b"permute", b"nb") {
         permute(line, Direction::Forward);
     } else if text::is_call(line, b"unpermute", b"nb") {
         permute(line, Direction::Backward);
-    } else if text::is_call(line, b"permute-words", b"nb") {
-        return permute_words(line);
     } else {
-        return false;
+        return text::is_call(line, b"permute-words", b"nb") && permute_words(line);
     }
     true
 }
 
-fn is_step(line: &[u8]) -> bool {
+fn is_round(line: &[u8]) -> bool {
     if text::is_call(line, b"round", b"nxb") {
         return round(line, Direction::Forward);
-    } else if text::is_call(line, b"unround", b"nxb") {
-        return round(line, Direction::Backward);
-    } else if text::is_call(line, b"q-and-g", b"nwdw") {
+    }
+    text::is_call(line, b"unround", b"nxb") && round(line, Direction::Backward)
+}
+
+fn is_cipher(line: &[u8]) -> bool {
+    if text::is_call(line, b"q-and-g", b"nwdw") {
         q_and_g(line);
     } else if text::is_call(line, b"encrypt", b"nkc") {
         cipher(line, Direction::Forward);
@@ -346,7 +349,14 @@ fn is_running(line: &[u8]) -> bool {
         update(line);
     } else if text::is_call(line, b"finish", b"uunik") {
         show::running(hasher::finish(given(line)));
-    } else if text::is_call(line, b"read-digest", b"uunikb") {
+    } else {
+        return false;
+    }
+    true
+}
+
+fn is_read(line: &[u8]) -> bool {
+    if text::is_call(line, b"read-digest", b"uunikb") {
         read(line, Wanted::Digest);
     } else if text::is_call(line, b"read-end-state", b"uunikb") {
         read(line, Wanted::EndState);
@@ -356,14 +366,21 @@ fn is_running(line: &[u8]) -> bool {
     true
 }
 
-fn is_listed(line: &[u8]) -> bool {
+fn is_list(line: &[u8]) -> bool {
     if text::is_call(line, b"segment", b"-bbn") {
         segment(line);
     } else if text::is_call(line, b"list-digest", b"nbbb") {
         hash_list(line, Wanted::Digest);
     } else if text::is_call(line, b"list-end-state", b"nbbb") {
         hash_list(line, Wanted::EndState);
-    } else if text::is_call(line, b"check-manifest", b"-b") {
+    } else {
+        return false;
+    }
+    true
+}
+
+fn is_manifest(line: &[u8]) -> bool {
+    if text::is_call(line, b"check-manifest", b"-b") {
         check_manifest(line);
     } else if text::is_call(line, b"report", b"-bbbb") {
         report(line);
@@ -373,6 +390,14 @@ fn is_listed(line: &[u8]) -> bool {
     true
 }
 
+fn is_step(line: &[u8]) -> bool {
+    is_permutation(line) || is_round(line) || is_cipher(line)
+}
+
+fn is_hash(line: &[u8]) -> bool {
+    is_whole(line) || is_running(line) || is_read(line)
+}
+
 pub fn is_made(line: &[u8]) -> bool {
-    is_permutation(line) || is_step(line) || is_whole(line) || is_running(line) || is_listed(line)
+    is_step(line) || is_hash(line) || is_list(line) || is_manifest(line)
 }

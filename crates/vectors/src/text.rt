@@ -1,4 +1,5 @@
-// The words of a line, which single spaces part, and what a word says: a number, bytes in hexadecimal, or a dash for none.
+// The words of a line, which single spaces part, and what a word says: a number, bytes in hexadecimal, or a dash for
+// none.
 ghost use mathlib.Core.Path.{_≡_};
 ghost use mathlib.Core.List.{_++_};
 ghost use Prim.Native.Nat.{_+_, _-_, _*_, _%_, _≤_, _<_};
@@ -112,7 +113,8 @@ fn has_digits(word: &[u8], base: u8, most: usize) -> bool {
     true
 }
 
-// The digits of a counter, a word of 32 bits, one of 64, a key or held bits, a state of the cipher, that of a running hash.
+// The digits of a counter, a word of 32 bits, one of 64, a key or held bits, a state of the cipher, and that of a
+// running hash.
 fn digits_of(letter: u8) -> usize {
     match letter {
         b'x' => 2,

@@ -1,6 +1,6 @@
-//! The running hash, of PHOTON-100: the wrong stages, where a message becomes
-//! too long, and one that is not well formed; and of Lesamnta-LW, which holds
-//! the longest blocks.
+//! The running hash: Annex B in pieces; of PHOTON-100 the wrong stages, the
+//! longest message, and one that is not well formed; and of Lesamnta-LW, which
+//! holds the longest blocks.
 
 use super::{annex_b_message, hexadecimal, lent, name, size, Cases, LESAMNTA_LW};
 use crate::running::{start, Running};
