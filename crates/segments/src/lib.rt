@@ -226,13 +226,7 @@ fn update_all(h: Hasher, list: &[u8], buffer: &[u8]) -> Hasher
 }
 
 // The digest over a list and its segments, or the image of the end state: refusals 1, 9, 10, 11, 4, 5. A refusal leaves every byte.
-pub fn hash_list(
-    variant: u32,
-    list: &[u8],
-    buffer: &[u8],
-    wanted: Wanted,
-    out: &mut [u8],
-) -> Status
+pub fn hash_list(variant: u32, list: &[u8], buffer: &[u8], wanted: Wanted, out: &mut [u8]) -> Status
     ensures { λ r. ⌜ (r ≡ listStatus variant (now (list .entry)) (now (buffer .entry)) wanted (length (now (out .entry))))
         × (now (out .exit) ≡ listInto variant (now (list .entry)) (now (buffer .entry)) wanted (now (out .entry))) ⌝ }
 {
