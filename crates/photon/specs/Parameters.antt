@@ -1,7 +1,7 @@
 -- For the code: the parameters of PHOTON by a variant's number.
 -- Assumes nothing.
 use mathlib.Core.List.{List, []}
-use Prim.Native.Nat.{ℕ, _-_}
+use Prim.Native.Nat.{ℕ, _+_, _-_}
 use Rattle.standard.specs.declared.Direction.{Direction}
 use Rattle.standard.specs.declared.Direction.the-variants.{Forward, Backward}
 use Rattle.standard.specs.Photon.{PhotonParameters}
@@ -33,7 +33,11 @@ abbrev pub shiftFactor : ℕ → Direction → ℕ
 shiftFactor d Forward = 1
 shiftFactor d Backward = d - 1
 
--- and by how many places row i of d cells rotates left
-abbrev pub rotation : ℕ → Direction → ℕ → ℕ
-rotation d Forward i = i
-rotation d Backward i = d - i
+-- the row from which the others count how far they rotate left
+abbrev pub rotationFrom : ℕ → Direction → ℕ
+rotationFrom d Forward = 0
+rotationFrom d Backward = d
+
+-- which is as far as the two rows are apart
+abbrev pub distance : ℕ → ℕ → ℕ
+distance i k = i - k + (k - i)

@@ -18,7 +18,7 @@ ghost use Rattle.standard.specs.Families.{stateIn};
 ghost use Rattle.standard.specs.Variants.{variant};
 ghost use Rattle.standard.specs.Layout.{stateRoom, packedState};
 ghost use Rattle.bytes.specs.Cells.{cellIn};
-ghost use Rattle.photon.specs.Parameters.{photonOf, boxOf, rotation, shiftFactor};
+ghost use Rattle.photon.specs.Parameters.{photonOf, boxOf, rotationFrom, distance, shiftFactor};
 ghost use Rattle.photon.specs.Rows.{lane, lanes, columnFrom, oddSum, nth, Mixing, NoneFrom, SmallRows};
 use crate::STATE_BYTES;
 use crate::UNZ;
@@ -140,19 +140,27 @@ fn rotate_row(row: [u8; 8], d: usize, by: usize) -> [u8; 8]
     unpacked(y)
 }
 
-// By how many places row i rotates: the inverse rotates on to where the row began. A row past the matrix rotates by
-// one, and nothing reads it.
-fn rotation_of(d: usize, i: usize, way: Direction) -> usize
+// The row from which the others count how far they rotate: row 0 or, for the inverse, the row past the last.
+fn rotation_from(d: usize, way: Direction) -> usize
+    ensures { λ r. ⌜ r ≡ rotationFrom d way ⌝ }
+{
+    match way {
+        Direction::Forward => 0,
+        Direction::Backward => d,
+    }
+}
+
+// By how many places row i rotates. A row past the matrix rotates by one, and nothing reads it. As a distance, and not by
+// a `match` here, it leaves the loop over the rows short enough for the compiler to put it into its caller.
+fn rotation_of(d: usize, i: usize, from: usize) -> usize
     requires { ⌜ (2 ≤ d) × (0 < i) ⌝ }
-    ensures { λ r. ⌜ ((0 < r) × (r < d)) × (i < d → r ≡ rotation d way i) ⌝ }
+    requires { ⌜ (from ≡ 0) ⊎ (from ≡ d) ⌝ }
+    ensures { λ r. ⌜ ((0 < r) × (r < d)) × (i < d → r ≡ distance i from) ⌝ }
 {
     if d <= i {
         return 1;
     }
-    match way {
-        Direction::Forward => i,
-        Direction::Backward => d - i,
-    }
+    if from <= i { i - from } else { from - i }
 }
 
 // Row 0 stays as it is.
@@ -160,10 +168,11 @@ fn shift_rows(g: [[u8; 8]; 8], d: usize, way: Direction) -> [[u8; 8]; 8]
     requires { ⌜ (2 ≤ d) × (d ≤ 8) ⌝ }
     ensures { λ r. ⌜ window d r ≡ shiftRows d (shiftFactor d way) (window d g) ⌝ }
 {
+    let from = rotation_from(d, way);
     let mut out = g;
     let mut i = 1;
     while i < 8 {
-        let by = rotation_of(d, i, way);
+        let by = rotation_of(d, i, from);
         out[i] = rotate_row(out[i], d, by);
         i += 1;
     }

@@ -132,7 +132,7 @@ pub fn segment<'a>(list: &[u8], buffer: &'a [u8], k: usize) -> &'a [u8]
     ensures { λ r. ⌜ (now r ≡ segmentOf (now (list .entry)) (now (buffer .entry)) k)
         × (ptr r ≡ further (segmentAt (now (list .entry)) (length (now (buffer .entry))) k) (ptr (buffer .entry))) ⌝ }
 {
-    if let Status::Done = check(list, buffer, k) {
+    if let Status::Done = check_entry(list, buffer, k) {
         let a = offset_at(list, k) as usize;
         let e = end_at(list, k) as usize;
         &buffer[a..e]

@@ -1,4 +1,4 @@
--- `segments::check_bounds` meets its contract: the checks of a step, then those of the entry. Assumes nothing.
+-- `segments::check_entry` meets its contract: the checks of a step, then those of the entry. Assumes nothing.
 use mathlib.Core.Path.{_≡_, sym, _∙_}
 use borrow.Author.Needs.{needs}
 use Rattle.answers.proofs.Rows.{refused-first, row-second}
