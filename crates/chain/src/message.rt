@@ -11,6 +11,7 @@ ghost use Rattle.answers.specs.Checks.{firstRefusal};
 ghost use Rattle.chain.specs.Messages.{isBitNumber, numberChecks, messageChecks};
 ghost use Rattle.chain.specs.MessageBytes.{given, countOf};
 use crate::sizes;
+use crate::sizes::Family;
 use answers::MAX_MESSAGE_BYTES;
 use answers::Refusal;
 use answers::Status;
@@ -73,19 +74,19 @@ pub fn counted(v: u8, b: u8, k: usize) -> u32
     ensures { λ r. ⌜ (r ≡ countedOf (variant v .family) k b) × (r < 2 ^ k) ⌝ }
 {
     let x = b as u32;
-    if v <= 5 {
-        return x >> (8 - k);
+    let family = sizes::family_of(v);
+    match family {
+        Family::Photon => x >> (8 - k),
+        Family::Spongent => x % (1 << k),
+        Family::Lesamnta => x >> (8 - k),
     }
-    if v == 11 {
-        return x >> (8 - k);
-    }
-    x % (1 << k)
 }
 
 // A byte with its counting bits at the high end, and zeros after them.
 pub fn counted_byte(v: u8, b: u8, k: usize) -> u8
     requires { ⌜ (known v ≡ true) × (k ≤ 8) ⌝ }
-    ensures { λ r. ⌜ bitsOf high-first 8 r ≡ bitsOf high-first k (countedOf (variant v .family) k b) ++ replicate (8 - k) false ⌝ }
+    ensures { λ r. ⌜ bitsOf high-first 8 r
+        ≡ bitsOf high-first k (countedOf (variant v .family) k b) ++ replicate (8 - k) false ⌝ }
 {
     (counted(v, b, k) << (8 - k)) as u8
 }

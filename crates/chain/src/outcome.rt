@@ -15,6 +15,8 @@ ghost use Rattle.chain.specs.Words.{TableOf};
 ghost use Rattle.chain.specs.Outcomes.{outcome};
 use crate::blocks;
 use crate::blocks::Held;
+use crate::sizes;
+use crate::sizes::Family;
 use crate::sizes::STATE_BYTES;
 use crate::squeeze;
 use crate::state;
@@ -82,6 +84,25 @@ fn with_photon288(
     outcome_with(5, s, held, piece, last, count, wanted, &table)
 }
 
+fn with_photon(
+    v: u8,
+    s: [u8; STATE_BYTES],
+    held: Held,
+    piece: &[u8],
+    last: u8,
+    count: usize,
+    wanted: Wanted,
+) -> [u8; STATE_BYTES]
+    requires { ⌜ (1 ≤ v) × (v ≤ 5) × (held .nibbles ≤ 32) × (count ≤ 2 ^ 32) ⌝ }
+    ensures { λ r. ⌜ r ≡ outcome (variant v) wanted
+        (afterBlocks (variant v) (stateIn (variant v) s) held (now (piece .entry) ++ last ∷ []) count) ⌝ }
+{
+    if v == 5 {
+        return with_photon288(s, held, piece, last, count, wanted);
+    }
+    with_photon4(v, s, held, piece, last, count, wanted)
+}
+
 fn with_spongent(
     v: u8,
     s: [u8; STATE_BYTES],
@@ -133,16 +154,12 @@ pub fn outcome_after(
     ensures { λ r. ⌜ r ≡ outcome (variant v) wanted
         (afterBlocks (variant v) (stateIn (variant v) s) held (now (piece .entry) ++ last ∷ []) count) ⌝ }
 {
-    if v <= 4 {
-        return with_photon4(v, s, held, piece, last, count, wanted);
+    let family = sizes::family_of(v);
+    match family {
+        Family::Photon => with_photon(v, s, held, piece, last, count, wanted),
+        Family::Spongent => with_spongent(v, s, held, piece, last, count, wanted),
+        Family::Lesamnta => with_lesamnta(s, held, piece, last, count),
     }
-    if v == 5 {
-        return with_photon288(s, held, piece, last, count, wanted);
-    }
-    if v == 11 {
-        return with_lesamnta(s, held, piece, last, count);
-    }
-    with_spongent(v, s, held, piece, last, count, wanted)
 }
 
 // The digest that a state gives, at the front of bytes that have room for a state.

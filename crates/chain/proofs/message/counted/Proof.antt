@@ -6,7 +6,7 @@ use borrow.Author.Needs.{needs}
 use Rattle.standard.specs.Messages.{countedOf}
 use Rattle.standard.specs.Variants.{variant}
 use Rattle.standard.proofs.PartBytes.{counted-lt}
-use Rattle.standard.proofs.Variants.{known-low, known-high}
+use Rattle.chain.proofs.FamilyLaws.{numbers-of}
 use Rattle.chain.proofs.MessageLaws.{photon-counts, spongent-counts, lesamnta-counts}
 use Rattle.bytes.proofs.Shifts.{power, power-pos}
 use Rattle.chain.proofs.message.counted.Statement.{statement}
@@ -19,23 +19,29 @@ told s n e = (e, subst (λ (m : ℕ). m < 2 ^ s .args .k) (sym e) (counted-lt (v
 
 returns : tie.Need-returns
 returns c =
-    let s = c .before in
+    let f = c .before .before in
+    let s = f .before in
     let a = s .args in
-    told s _ (sym (photon-counts (a .v) (known-low (a .v) (s .pre .0)) (omega arith) (a .k) (a .b)))
+    let n = numbers-of (a .v) (s .pre .0) (f .family-of .ensures) (c .enum-told .given .1) in
+    told s _ (sym (photon-counts (a .v) (n .0) (n .1) (a .k) (a .b)))
 
 returns-2 : tie.Need-returns-2
 returns-2 c =
-    let s = c .before .before in
+    let f = c .before .before in
+    let s = f .before in
     let a = s .args in
-    told s _ (sym (lesamnta-counts (a .v) (c .if2 .taken) (a .k) (a .b)))
+    let n = numbers-of (a .v) (s .pre .0) (f .family-of .ensures) (c .enum-told2 .given .1) in
+    told s _ (ap (λ (n : ℕ). a .b % n) (power (a .k) (s .pre .1)) ∙ sym (spongent-counts (a .v) (n .0) (n .1) (a .k) (a .b)))
 
 returns-3 : tie.Need-returns-3
 returns-3 c =
-    let s = c .before .before in
+    let f = c .before .before in
+    let s = f .before in
     let a = s .args in
-    told s _ (ap (λ (n : ℕ). a .b % n) (power (a .k) (s .pre .1)) ∙ sym (spongent-counts (a .v) (omega arith) (omega (arith, known-high (a .v) (s .pre .0))) (a .k) (a .b)))
+    told s _ (sym (lesamnta-counts (a .v) (numbers-of (a .v) (s .pre .0) (f .family-of .ensures) (c .enum-told3 .given .1)) (a .k) (a .b)))
 
 pub counted-spec : {M : Type 1} → statement M
 counted-spec =
-    tie.close (tie.spec (λ c. search needs) (λ c. search needs) (λ c. search needs) returns (λ c. search needs) (λ c. search needs) (λ c. search needs) returns-2 (λ c. search needs) (λ c. search needs)
-    (λ c. power-pos (c .before .before .args .k) (c .before .before .pre .1)) returns-3)
+    tie.close (tie.spec (λ c κs. search needs) (λ c. search needs) (λ c. search needs) (λ c. search needs) (λ c. search needs)
+    (λ c. search needs) (λ c. search needs) (λ c. search needs) (λ c. power-pos (c .before .before .before .args .k) (c .before .before .before .pre .1))
+    (λ c. search needs) (λ c. search needs) (λ c. search needs) (λ c. search needs) returns returns-2 returns-3)
