@@ -55,7 +55,7 @@ pub mod variants;
 
 pub use message::Message;
 pub use padding::Padding;
-pub use printed::{padding_table, rounds_page, vector_lines};
+pub use printed::{cases, padding_table, rounds_page, Cases};
 pub use variants::{sponges, variant, Family, Variant, VARIANTS};
 
 /// The number of a call that was not refused.

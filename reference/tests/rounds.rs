@@ -95,8 +95,8 @@ fn values_of_page() -> Vec<Value> {
     values
 }
 
-/// The values of variant 6 that the proved program prints. Panics unless
-/// there are three rounds of each direction.
+/// The values of variant 6 that the proved program reads and prints. Panics
+/// unless there are three rounds of each direction.
 fn values_of_program() -> Vec<Value> {
     let printed = text("../crates/vectors/stdout");
     let mut values = Vec::new();
@@ -108,8 +108,11 @@ fn values_of_program() -> Vec<Value> {
             .collect();
         assert_eq!(lines.len(), 3, "lines that begin with {front}");
         for (round, line) in names.rounds.iter().zip(lines) {
-            let (before, after) = line.split_once(" 0 ").expect("a call that is done");
-            let digits: Vec<&str> = before.split(':').chain(after.split(':')).collect();
+            let (given, told) = line.split_once(" -> 0 ").expect("a call that is done");
+            let (counter, before) = given.split_once(' ').expect("a counter and a state");
+            let (reversed, layers) = told.split_once(' ').expect("a counter and states");
+            let mut digits = vec![counter, reversed, before];
+            digits.extend(layers.split(' '));
             assert_eq!(digits.len(), 6, "{line}");
             for (name, digits) in names.values.iter().zip(digits) {
                 values.push(value(round, name, digits));

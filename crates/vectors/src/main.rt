@@ -1,24 +1,47 @@
-// Runs the proved code on the examples of Annex B, on the known values and on one call of each kind that is refused, and prints a
-// line for each call: the operation, the variant, what was given, the answer's number and what came of it.
-mod bits;
-mod cipher;
-mod lists;
-mod lost;
-mod permutations;
-mod reports;
-mod rounds;
-mod running;
+// Makes the calls that standard input lists, one a line, and prints each line with an arrow and the answer after it.
+mod calls;
 mod show;
-mod whole;
+mod text;
+
+use libc::STDIN_FILENO;
+
+// The input has fewer bytes than this.
+const ROOM: usize = 262144;
+
+// A line that begins with # is a heading.
+fn is_heading(line: &[u8]) -> bool {
+    if line.len() == 0 {
+        return false;
+    }
+    line[0] == b'#'
+}
+
+fn answer(line: &[u8]) {
+    show::text(line);
+    if !is_heading(line) {
+        show::text(b" ->");
+        if !calls::is_made(line) {
+            show::text(b" not a call");
+        }
+    }
+    show::text(b"\n");
+}
+
+fn answer_all(input: &[u8]) {
+    let mut at = 0;
+    while at < input.len() {
+        let end = text::find(input, at, b'\n');
+        answer(&input[at..end]);
+        at = text::after(input, at, b'\n');
+    }
+}
 
 fn main() {
-    permutations::all();
-    rounds::all();
-    cipher::all();
-    whole::all();
-    running::all();
-    lists::all();
-    lost::all();
-    bits::all();
-    reports::all();
+    let mut input = [0u8; ROOM];
+    let n = io::read_full(STDIN_FILENO, &mut input);
+    if n == ROOM {
+        show::text(b"the input is too long\n");
+        return;
+    }
+    answer_all(&input[..n]);
 }

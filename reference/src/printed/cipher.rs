@@ -1,9 +1,7 @@
 //! Lesamnta-LW's functions Q and G on the words of Annex B.3, and its cipher:
 //! the two steps that lead to Annex B.3's digest, each followed by its inverse.
 
-use std::fmt::Write;
-
-use super::{hexadecimal, LESAMNTA_LW, LESAMNTA_MESSAGE};
+use super::{hexadecimal, Cases, LESAMNTA_LW, LESAMNTA_MESSAGE};
 use crate::lesamnta::{decrypt, encrypt, g, q, Key, State};
 use crate::message::Message;
 use crate::padding::{block, block_count, Padding};
@@ -16,24 +14,23 @@ type Operation = (&'static str, fn(Key, State) -> State);
 const ENCRYPT: Operation = ("encrypt", encrypt);
 const DECRYPT: Operation = ("decrypt", decrypt);
 
-pub fn add(lines: &mut String) {
-    add_q(lines, 0xa432_3129);
-    add_g(lines, 0x0000_0256_0000_0256, 0x0000_0256);
-    add_steps(lines, LESAMNTA_MESSAGE);
+pub fn add(cases: &mut Cases) {
+    cases.heading("Annex B.3: Q, G, and the cipher in the two steps of the message abc, and back");
+    add_functions(cases, 0xa432_3129, 0x0000_0256_0000_0256, 0x0000_0256);
+    add_steps(cases, LESAMNTA_MESSAGE);
 }
 
-fn add_q(lines: &mut String, x: u32) {
-    let after = q(x);
-    writeln!(lines, "q {LESAMNTA_LW} {x:08x} 0 {after:08x}").expect("memory");
-}
-
-fn add_g(lines: &mut String, y: u64, key: u32) {
-    let after = g(y, key);
-    writeln!(lines, "g {LESAMNTA_LW} {y:016x}+{key:08x} 0 {after:016x}").expect("memory");
+/// Q of a word, and G of two words and the word of a round key.
+fn add_functions(cases: &mut Cases, x: u32, y: u64, key: u32) {
+    let [q, g] = [format!("{:08x}", q(x)), format!("{:016x}", g(y, key))];
+    cases.add(
+        format!("q-and-g {LESAMNTA_LW} {x:08x} {y:016x} {key:08x}"),
+        format!("0 {q} {g}"),
+    );
 }
 
 /// The cipher and its inverse in every step that a message takes.
-fn add_steps(lines: &mut String, message: &[u8]) {
+fn add_steps(cases: &mut Cases, message: &[u8]) {
     let variant = variant(LESAMNTA_LW).expect("Lesamnta-LW");
     let message = Message::whole(message).bits(Family::LesamntaLw);
     let mut value = image::of_state(variant, &chain::start_state(variant));
@@ -43,17 +40,20 @@ fn add_steps(lines: &mut String, message: &[u8]) {
         let key = value[..16].try_into().expect("half a chaining value");
         let state = [&block, &value[16..]].concat();
         let state = state.try_into().expect("a block and the other half");
-        let after = add_line(lines, ENCRYPT, key, state);
-        add_line(lines, DECRYPT, key, after);
+        let after = add_call(cases, ENCRYPT, key, state);
+        add_call(cases, DECRYPT, key, after);
         value = after.to_vec();
     }
 }
 
-/// Makes the call, adds its line, and gives the state after it.
-fn add_line(lines: &mut String, operation: Operation, key: Key, state: State) -> State {
+/// Makes the call, adds it, and gives the state after it.
+fn add_call(cases: &mut Cases, operation: Operation, key: Key, state: State) -> State {
     let (name, call) = operation;
     let after = call(key, state);
     let [key, state, output] = [&key[..], &state, &after].map(hexadecimal);
-    writeln!(lines, "{name} {LESAMNTA_LW} {key}+{state} 0 {output}").expect("memory");
+    cases.add(
+        format!("{name} {LESAMNTA_LW} {key} {state}"),
+        format!("0 {output}"),
+    );
     after
 }

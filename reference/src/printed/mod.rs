@@ -1,5 +1,9 @@
-//! The lines that the programs print. A line of the program `vectors` has
-//! the form `OP VARIANT INPUT STATUS OUTPUT`.
+//! What the programs read and print. The program `vectors` reads calls, one a
+//! line, `OP VARIANT ARGUMENT ..`, and prints each line with its answer,
+//! `OP VARIANT ARGUMENT .. -> STATUS RESULT ..`. Bytes are in hexadecimal as
+//! they lie in memory, with a dash for none; all other numbers are in decimal,
+//! but for counters and the words of Lesamnta-LW. An output is given as its
+//! bytes before the call. A line that begins with # is a heading.
 
 mod bits;
 mod cipher;
@@ -16,7 +20,7 @@ use std::fmt::Write;
 use crate::digest_with;
 use crate::padding::Padding;
 use crate::segments::Refusal;
-use crate::variants::{variant, Family, Variant, VARIANTS};
+use crate::variants::{Family, Variant, VARIANTS};
 
 pub use rounds::rounds_page;
 
@@ -32,19 +36,56 @@ const LESAMNTA_MESSAGE: &[u8] = b"abc";
 /// Lesamnta-LW.
 const LESAMNTA_LW: u32 = 11;
 
-/// Every line of the program `vectors`.
-pub fn vector_lines() -> String {
-    let mut lines = String::new();
-    permutations::add(&mut lines);
-    rounds::add(&mut lines);
-    cipher::add(&mut lines);
-    whole::add(&mut lines);
-    running::add(&mut lines);
-    lists::add(&mut lines);
-    lost::add(&mut lines);
-    bits::add(&mut lines);
-    reports::add(&mut lines);
-    lines
+/// The cases of the program `vectors`: headings, and calls with their answers.
+#[derive(Default)]
+pub struct Cases(Vec<Line>);
+
+enum Line {
+    Heading(&'static str),
+    Call { call: String, answer: String },
+}
+
+impl Cases {
+    /// What the program reads.
+    pub fn input(&self) -> String {
+        let line = |line: &Line| match line {
+            Line::Heading(text) => format!("# {text}\n"),
+            Line::Call { call, .. } => format!("{call}\n"),
+        };
+        self.0.iter().map(line).collect()
+    }
+
+    /// What it prints.
+    pub fn output(&self) -> String {
+        let line = |line: &Line| match line {
+            Line::Heading(text) => format!("# {text}\n"),
+            Line::Call { call, answer } => format!("{call} -> {answer}\n"),
+        };
+        self.0.iter().map(line).collect()
+    }
+
+    fn heading(&mut self, text: &'static str) {
+        self.0.push(Line::Heading(text));
+    }
+
+    fn add(&mut self, call: String, answer: String) {
+        self.0.push(Line::Call { call, answer });
+    }
+}
+
+/// Every case of the program `vectors`.
+pub fn cases() -> Cases {
+    let mut cases = Cases::default();
+    permutations::add(&mut cases);
+    rounds::add(&mut cases);
+    cipher::add(&mut cases);
+    whole::add(&mut cases);
+    running::add(&mut cases);
+    lists::add(&mut cases);
+    lost::add(&mut cases);
+    bits::add(&mut cases);
+    reports::add(&mut cases);
+    cases
 }
 
 /// For each SPONGENT example of Annex B.2, the digest with either padding.
@@ -94,12 +135,9 @@ fn name(image: bool) -> &'static str {
     }
 }
 
-/// A digest, or an end state's image, as its line shows it.
-fn result_hexadecimal(number: u32, image: bool, result: &[u8]) -> String {
-    match image {
-        true => image_hexadecimal(number, result),
-        false => hexadecimal(result),
-    }
+/// An output before a call: so many bytes a0.
+fn lent(bytes: usize) -> Vec<u8> {
+    vec![0xa0; bytes]
 }
 
 /// The number of a refusal, with the entry that 10 and 11 name.
@@ -108,18 +146,6 @@ fn status<T>(answer: &Result<T, Refusal>) -> String {
         Ok(_) => String::from("0"),
         Err((number, None)) => number.to_string(),
         Err((number, Some(entry))) => format!("{number}@{entry}"),
-    }
-}
-
-/// An image as Annex B prints states, from the leftmost bit. SPONGENT's
-/// leftmost bit is in the last byte.
-fn image_hexadecimal(number: u32, image: &[u8]) -> String {
-    match variant(number).map(|variant| variant.family) {
-        Some(Family::Spongent) => {
-            let reversed: Vec<u8> = image.iter().rev().copied().collect();
-            hexadecimal(&reversed)
-        }
-        _ => hexadecimal(image),
     }
 }
 

@@ -1,9 +1,7 @@
 //! The permutation and its inverse: the single permutations of Annex B
 //! forward and back, and a call for each way to be refused.
 
-use std::fmt::Write;
-
-use super::{image_hexadecimal, LESAMNTA_LW, SPONGENT_MESSAGE};
+use super::{hexadecimal, Cases, LESAMNTA_LW, SPONGENT_MESSAGE};
 use crate::bits::{unpack, Order};
 use crate::variants::{sponges, Family, Variant};
 use crate::{image, permute, sponge, unpermute};
@@ -14,16 +12,23 @@ type Operation = (&'static str, fn(u32, &mut [u8]) -> u8);
 const PERMUTE: Operation = ("permute", permute);
 const UNPERMUTE: Operation = ("unpermute", unpermute);
 
+/// The permutation by look-ups on words, which takes an image that is sound.
+const PERMUTE_WORDS: Operation = ("permute-words", permute);
+
 /// A line for each call of either permutation.
-pub fn add(lines: &mut String) {
+pub fn add(cases: &mut Cases) {
+    cases.heading("Annex B: one permutation by plain steps and by words, and back");
     for variant in sponges() {
         let before = annex_b_image(variant);
-        let after = add_line(lines, PERMUTE, variant.number, &before);
-        add_line(lines, UNPERMUTE, variant.number, &after);
+        let after = add_call(cases, PERMUTE, variant.number, &before);
+        add_call(cases, PERMUTE_WORDS, variant.number, &before);
+        add_call(cases, UNPERMUTE, variant.number, &after);
     }
+    cases
+        .heading("refused: no variant, a byte too few, a spare nibble that is not zero, no sponge");
     for (number, image) in refused_calls() {
-        add_line(lines, PERMUTE, number, &image);
-        add_line(lines, UNPERMUTE, number, &image);
+        add_call(cases, PERMUTE, number, &image);
+        add_call(cases, UNPERMUTE, number, &image);
     }
 }
 
@@ -53,13 +58,16 @@ fn refused_calls() -> [(u32, Vec<u8>); 5] {
     ]
 }
 
-/// Makes the call on a copy of the image, adds its line, and gives the bytes
-/// after the call.
-fn add_line(lines: &mut String, operation: Operation, number: u32, image: &[u8]) -> Vec<u8> {
+/// Makes the call on a copy of the image, adds it, and gives the bytes after
+/// the call.
+fn add_call(cases: &mut Cases, operation: Operation, number: u32, image: &[u8]) -> Vec<u8> {
     let (name, call) = operation;
     let mut after = image.to_vec();
     let status = call(number, &mut after);
-    let [input, output] = [image, &after].map(|bytes| image_hexadecimal(number, bytes));
-    writeln!(lines, "{name} {number} {input} {status} {output}").expect("memory");
+    let [before, changed] = [image, &after].map(hexadecimal);
+    cases.add(
+        format!("{name} {number} {before}"),
+        format!("{status} {changed}"),
+    );
     after
 }

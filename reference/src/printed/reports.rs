@@ -1,29 +1,26 @@
 //! Reports: a stream of tables against a manifest, and manifests that are
 //! refused.
 
-use std::fmt::Write;
-
-use super::{hexadecimal, LESAMNTA_LW};
+use super::{hexadecimal, Cases, LESAMNTA_LW};
 use crate::digest;
 use crate::manifest::{check, report, Counts, RECORD_BYTES};
 
 const CONTENTS: &[u8] = b"Bar 7 hold.";
 
-pub fn add(lines: &mut String) {
+pub fn add(cases: &mut Cases) {
     let list = [record(7, 1), record(258, 6)].concat();
-    // A byte too few; a record that begins a byte too late.
+    cases.heading("manifests: a sound one, a byte too few, a record that begins a byte too late");
     let cut = &list[..69];
     for list in [&list, cut, &list[1..36]] {
-        add_check(lines, list);
+        add_check(cases, list);
     }
-    // A digest of Lesamnta-LW leaves no byte behind it.
-    add_check(lines, &record(7, LESAMNTA_LW as u8));
+    cases.heading("a digest of Lesamnta-LW leaves no byte after it");
+    add_check(cases, &record(7, LESAMNTA_LW as u8));
     let row = row();
     let part = |from: usize, to: usize| &row[RECORD_BYTES * from..RECORD_BYTES * to];
-    // Falling; an axis twice, and once more in a wrong record; a wrong record
-    // behind one that does not rise, and the other way round.
+    cases.heading("falling; an axis twice, also in a wrong record; a wrong record after one that does not rise, and before");
     for (from, to) in [(1, 3), (2, 4), (3, 5), (1, 5), (4, 7)] {
-        add_check(lines, part(from, to));
+        add_check(cases, part(from, to));
     }
     // The right one; one of no axis; an empty one; one that lacks a byte.
     let mut stream = [
@@ -34,14 +31,14 @@ pub fn add(lines: &mut String) {
     ]
     .concat();
     stream.pop();
-    // In a header, and within a table.
+    cases.heading("reports over a stream cut in two, in a header and within a table; each piece after its manifest");
     for (list, place) in [(&list[..], 3), (&list, 10), (cut, 10), (part(1, 3), 10)] {
-        add_report(lines, list, stream.split_at(place));
+        add_report(cases, list, stream.split_at(place));
     }
-    // Behind the first table a manifest that does not rise, and one cut short.
+    cases.heading("after the first table a manifest that does not rise, and one cut short");
     let (first, second) = stream.split_at(table(7, CONTENTS).len());
     for other in [part(1, 3), cut] {
-        add_strayed(lines, [&list, other], [first, second]);
+        add_strayed(cases, [&list, other], [first, second]);
     }
 }
 
@@ -70,28 +67,30 @@ fn status<T>(answer: &Result<T, u8>) -> u8 {
     answer.as_ref().err().copied().unwrap_or(0)
 }
 
-fn add_check(lines: &mut String, list: &[u8]) {
+fn add_check(cases: &mut Cases, list: &[u8]) {
     let status = status(&check(list));
     let list = hexadecimal(list);
-    writeln!(lines, "check-manifest - {list} {status} -").expect("memory");
+    cases.add(format!("check-manifest - {list}"), status.to_string());
 }
 
-/// The counts over a stream in two pieces, all 0 where the manifest is refused.
-fn add_report(lines: &mut String, list: &[u8], (first, second): (&[u8], &[u8])) {
+/// The counts over a stream in two pieces, all 0 if the manifest is refused.
+fn add_report(cases: &mut Cases, list: &[u8], (first, second): (&[u8], &[u8])) {
     let answer = report(list, [first, second].concat().as_slice()).expect("a slice");
-    let status = status(&answer);
-    let counts = counted(answer.unwrap_or_default());
-    let input = [list, first, second].map(hexadecimal).join("+");
-    writeln!(lines, "report - {input} {status} {counts}").expect("memory");
+    add_counts(cases, [list, first, list, second], answer);
 }
 
 /// The second piece comes with a manifest in which no axis can be looked up, and
 /// nothing of it counts.
-fn add_strayed(lines: &mut String, [list, other]: [&[u8]; 2], [first, second]: [&[u8]; 2]) {
+fn add_strayed(cases: &mut Cases, [list, other]: [&[u8]; 2], [first, second]: [&[u8]; 2]) {
     let answer = report(list, first).expect("a slice");
-    let counts = counted(answer.expect("a sound manifest"));
-    let input = [list, other, first, second].map(hexadecimal).join("+");
-    writeln!(lines, "report-strayed - {input} 0 {counts}").expect("memory");
+    add_counts(cases, [list, first, other, second], answer);
+}
+
+fn add_counts(cases: &mut Cases, given: [&[u8]; 4], answer: Result<Counts, u8>) {
+    let given = given.map(hexadecimal).join(" ");
+    let status = status(&answer);
+    let counts = counted(answer.unwrap_or_default());
+    cases.add(format!("report - {given}"), format!("{status} {counts}"));
 }
 
 /// The counts in the order of the program's lines.
@@ -104,5 +103,5 @@ fn counted(counts: Counts) -> String {
         untold,
         unlisted,
     } = counts;
-    format!("{listed}:{tables}:{equal}:{unequal}:{untold}:{unlisted}")
+    format!("{listed} {tables} {equal} {unequal} {untold} {unlisted}")
 }

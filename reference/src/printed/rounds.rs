@@ -5,7 +5,7 @@
 use std::fmt::Write;
 
 use super::permutations::annex_b_image;
-use super::{hexadecimal, spongent_variants};
+use super::{hexadecimal, spongent_variants, Cases};
 use crate::permute;
 use crate::spongent::{self, Direction, Round};
 use crate::variants::{variant, Variant};
@@ -42,11 +42,12 @@ const WAYS: [Way; 2] = [
 ];
 
 /// A line for each of the first rounds of each SPONGENT variant, both ways.
-pub fn add(lines: &mut String) {
+pub fn add(cases: &mut Cases) {
+    cases.heading("SPONGENT round by round: counter and state; reversed counter and the state after each layer");
     for variant in spongent_variants() {
         for way in &WAYS {
             for round in first_rounds(variant, way.direction) {
-                add_line(lines, way.operation, variant.number, &round);
+                add_round(cases, way.operation, variant.number, &round);
             }
         }
     }
@@ -76,18 +77,17 @@ fn first_rounds(variant: &Variant, direction: Direction) -> Vec<Round> {
     spongent::of_size(variant.state_bits).trace(direction, SHOWN, &image)
 }
 
-/// The line of one round: the counters and the state before it, and the
-/// states after its layers.
-fn add_line(lines: &mut String, operation: &str, number: u32, round: &Round) {
+/// One round: the counter and the state before it, then the reversed counter
+/// and the states after its layers.
+fn add_round(cases: &mut Cases, operation: &str, number: u32, round: &Round) {
     let [counter, reversed] = [round.counter, round.reversed];
     let before = hexadecimal(&round.before);
     let layers = round.layers.each_ref().map(|state| hexadecimal(state));
-    let after = layers.join(":");
-    writeln!(
-        lines,
-        "{operation} {number} {counter:02x}:{reversed:02x}:{before} 0 {after}"
-    )
-    .expect("memory");
+    let after = layers.join(" ");
+    cases.add(
+        format!("{operation} {number} {counter:02x} {before}"),
+        format!("0 {reversed:02x} {after}"),
+    );
 }
 
 /// One round on the page: its counters, and a line for each state.

@@ -2,62 +2,63 @@
 //! empty message, and a call for each way to be refused. Outputs hold bytes
 //! a0 before.
 
-use std::fmt::Write;
-
-use super::{annex_b_message, hexadecimal, name, result_hexadecimal, size, LESAMNTA_LW};
-use crate::running::{start, write_front};
-use crate::variants::{Variant, VARIANTS};
+use super::{annex_b_message, hexadecimal, lent, name, size, Cases, LESAMNTA_LW};
+use crate::running::write_front;
+use crate::variants::VARIANTS;
 use crate::{digest, end_state};
 
-pub fn add(lines: &mut String) {
+pub fn add(cases: &mut Cases) {
+    cases.heading("Annex B: digest and end state of a whole message");
     for variant in &VARIANTS {
         let message = annex_b_message(variant);
         for image in [false, true] {
-            add_whole(lines, image, variant.number, message, size(variant, image));
+            add_whole(cases, image, variant.number, message, size(variant, image));
         }
-        add_pieces(lines, variant, message);
     }
-    add_whole(lines, false, 1, b"", 10);
-    add_whole(lines, false, LESAMNTA_LW, b"", 32);
-    // Two bytes more, which stay; a byte too few; no variant.
+    cases.heading("the empty message; an output with two bytes more, which stay");
+    add_whole(cases, false, 1, b"", 10);
+    add_whole(cases, false, LESAMNTA_LW, b"", 32);
+    add_whole(cases, false, 1, b"\xab\xcd", 12);
+    cases.heading("refused: a byte too few, no variant");
     for (image, number, bytes) in [
-        (false, 1, 12),
         (false, 1, 9),
         (true, 1, 12),
         (false, 0, 36),
         (true, 256 + 1, 36),
     ] {
-        add_whole(lines, image, number, b"\xab\xcd", bytes);
+        add_whole(cases, image, number, b"\xab\xcd", bytes);
     }
 }
 
 /// One call, with an output of so many bytes.
-pub fn add_whole(lines: &mut String, image: bool, number: u32, message: &[u8], bytes: usize) {
+pub fn add_whole(cases: &mut Cases, image: bool, number: u32, message: &[u8], bytes: usize) {
     let result = match image {
         true => end_state(number, message),
         false => digest(number, message),
     };
-    let mut out = vec![0xa0; bytes];
+    add_result(cases, name(image), number, message, "-", result, bytes);
+}
+
+/// A result of a message, of whose last byte `bits` bits count, a dash for all,
+/// into an output of so many bytes.
+pub fn add_result(
+    cases: &mut Cases,
+    operation: &str,
+    number: u32,
+    message: &[u8],
+    bits: &str,
+    result: Result<Vec<u8>, u8>,
+    bytes: usize,
+) {
+    let before = lent(bytes);
+    let mut out = before.clone();
     let status = match result {
         Ok(result) => write_front(&result, &mut out),
         Err(refusal) => refusal,
     };
-    let name = name(image);
-    let input = hexadecimal(message);
-    let output = result_hexadecimal(number, image, &out);
-    writeln!(lines, "{name} {number} {input} {status} {output}").expect("memory");
-}
-
-/// The digest of the message taken byte by byte.
-fn add_pieces(lines: &mut String, variant: &Variant, message: &[u8]) {
-    let number = variant.number;
-    let mut running = start(number).1;
-    for piece in message.chunks(1) {
-        running = running.update(piece).1;
-    }
-    let mut out = vec![0xa0; size(variant, false)];
-    let status = running.finish().1.read(false, &mut out);
-    let input = hexadecimal(message);
-    let output = hexadecimal(&out);
-    writeln!(lines, "pieces {number} {input} {status} {output}").expect("memory");
+    let [message, before, out] = [message, &before, &out].map(hexadecimal);
+    cases.add(
+        format!("{operation} {number} {message} {bits} {before}"),
+        format!("{status} {out}"),
+    );
 }
