@@ -8,10 +8,10 @@ use answers::Status;
 use chain::BLOCK_BYTES;
 use chain::STATE_BYTES;
 
-mod checks; // checks.rt: the rows of checks
-mod results; // results.rt: what is read of a running hash that is closed
-mod running; // running.rt: start, update and finish
-mod whole; // whole.rt: a message that is there whole
+pub mod checks; // checks.rt: the rows of checks
+pub mod results; // results.rt: what is read of a running hash that is closed
+pub mod running; // running.rt: start, update and finish
+pub mod whole; // whole.rt: a message that is there whole
 
 pub use checks::check_hash;
 pub use checks::check_open;
