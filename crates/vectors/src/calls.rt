@@ -186,8 +186,15 @@ fn update(line: &[u8]) {
     show::running(updated(given(line), &piece[..n], text::ending(line, 7)));
 }
 
+fn read_off(h: Hasher, wanted: Wanted, out: &mut [u8]) -> Status {
+    match wanted {
+        Wanted::Digest => hasher::digest(h, out),
+        Wanted::EndState => hasher::end_state(h, out),
+    }
+}
+
 fn read_into(h: Hasher, wanted: Wanted, out: &mut [u8]) {
-    let status = hasher::read(h, wanted, out);
+    let status = read_off(h, wanted, out);
     show::result(status, out);
 }
 
