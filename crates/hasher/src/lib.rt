@@ -32,8 +32,8 @@ pub use whole::hash;
 pub use whole::hash_bits;
 pub use whole::hash_with;
 
-// Any bytes are one. Stage 0 is open, 1 is closed. The total counts bits. The state is an image at the front of its bytes; the held
-// bits are those of the message so far that fill no block.
+// Any bytes are one. Stage 0 is open, 1 is closed. The total counts bits. The state is an image at the front of its
+// bytes; the held bits are those of the message so far that fill no block.
 #[repr(C)]
 pub struct Hasher {
     pub total: u32,

@@ -139,8 +139,8 @@ fn rotation_from(d: usize, way: Direction) -> usize
     }
 }
 
-// By how many places row i rotates. A row past the matrix rotates by one, and nothing reads it. As a distance, and not by
-// a `match` here, it leaves the loop over the rows short enough for the compiler to put it into its caller.
+// By how many places row i rotates. A row past the matrix rotates by one, and nothing reads it. As a distance, and not
+// by a `match` here, it leaves the loop over the rows short enough for the compiler to put it into its caller.
 fn rotation_of(d: usize, i: usize, from: usize) -> usize
     requires { ⌜ (2 ≤ d) × (0 < i) ⌝ }
     requires { ⌜ (from ≡ 0) ⊎ (from ≡ d) ⌝ }

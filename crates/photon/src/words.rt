@@ -1,9 +1,8 @@
 // The state in words, a column of the matrix in each; the block step by look-ups, in which one entry of a table has the
-// S-box and the column step of a byte; and the tables.
-//
-// The sizes of a variant stand in each call from outside, so that these loops are compiled for each variant, without a
-// loop or a division. That holds as long as the compiler finds them cheap enough to put them into their caller: it gives
-// up at a little more code than is here, and all is eight times slower then.
+// S-box and the column step of a byte; and the tables. The sizes of a variant stand in each call from outside, so that
+// these loops are compiled for each variant, without a loop or a division. That holds as long as the compiler finds
+// them cheap enough to put them into their caller: it gives up at a little more code than is here, and all is eight
+// times slower then.
 ghost use mathlib.Core.Path.{_≡_};
 ghost use mathlib.Core.Bool.{cond};
 ghost use mathlib.Core.List.{_++_, flatMap};
