@@ -1,5 +1,5 @@
-// The blocks of a bit string that comes as held nibbles, a piece and a last byte after it, with zeros past that. The last byte is what a caller makes
-// of bits that end inside a byte and of the padding's 1 bit.
+// The blocks of a bit string that comes as held nibbles, a piece and a last byte after it, with zeros past that. The
+// last byte is what a caller makes of bits that end inside a byte and of the padding's 1 bit.
 ghost use mathlib.Core.Path.{_≡_};
 ghost use mathlib.Core.Bool.{true};
 ghost use mathlib.Core.List.{[], _∷_, _++_};
@@ -79,8 +79,8 @@ pub fn block_at(held: Held, piece: &[u8], last: u8, first: usize, q: usize) -> [
     out
 }
 
-// Whether q nibbles from the nibble `first` on lie wholly in a piece of `length` bytes after p held nibbles and, if they are whole bytes, begin at a
-// byte of it.
+// Whether q nibbles from the nibble `first` on lie wholly in a piece of `length` bytes after p held nibbles and, if
+// they are whole bytes, begin at a byte of it.
 fn is_inside(p: usize, length: usize, first: usize, q: usize) -> bool
     requires { ⌜ (q ≤ 32) × (first ≤ 2 ^ 40) ⌝ }
     ensures { λ r. ⌜ (r ≡ true → (p ≤ first) × (first - p + q ≤ 2 * length) × (q % 2 ≡ 0 → (first - p) % 2 ≡ 0)) ⌝ }
@@ -98,7 +98,8 @@ fn is_inside(p: usize, length: usize, first: usize, q: usize) -> bool
     m % 2 == 0
 }
 
-// The block step for q nibbles from the nibble `first` on: straight from the piece if they are all there, else from the bytes that they make.
+// The block step for q nibbles from the nibble `first` on: straight from the piece if they are all there, else from the
+// bytes that they make.
 fn step_at(
     v: u8,
     w: &mut [u64; 8],
@@ -112,7 +113,8 @@ fn step_at(
     requires { ⌜ (known v ≡ true) × (4 * q ≡ variant v .r) × (held .nibbles ≤ 32) × (first ≤ 2 ^ 40) ⌝ }
     requires { ⌜ TableOf v (now table) ⌝ }
     ensures { λ _. ⌜ stateInWords (variant v) (now (w .exit))
-        ≡ step (variant v) (stateInWords (variant v) (now (w .entry))) (blockFrom held (now (piece .entry) ++ last ∷ []) first q) ⌝ }
+        ≡ step (variant v) (stateInWords (variant v) (now (w .entry))) (blockFrom held (now (piece .entry)
+        ++ last ∷ []) first q) ⌝ }
 {
     if is_inside(held.nibbles, piece.len(), first, q) {
         state::step_words(v, w, piece, first - held.nibbles, table);
@@ -135,7 +137,8 @@ pub fn run_words(
     requires { ⌜ (known v ≡ true) × (held .nibbles ≤ 32) × (count ≤ 2 ^ 32) ⌝ }
     requires { ⌜ TableOf v (now table) ⌝ }
     ensures { λ _. ⌜ stateInWords (variant v) (now (w .exit))
-        ≡ afterBlocks (variant v) (stateInWords (variant v) (now (w .entry))) held (now (piece .entry) ++ last ∷ []) count ⌝ }
+        ≡ afterBlocks (variant v) (stateInWords (variant v) (now (w .entry))) held (now (piece .entry)
+        ++ last ∷ []) count ⌝ }
 {
     let q = (sizes::block_bits(v) / 4) as usize;
     let mut j: usize = 0;

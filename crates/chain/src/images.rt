@@ -18,7 +18,7 @@ use answers::Refusal;
 use answers::Status;
 use standard::Direction;
 
-// The bytes at the front of 36, zeros behind them.
+// The bytes at the front of 36, zeros after them.
 pub fn at_front(bytes: &[u8]) -> [u8; STATE_BYTES]
     requires { ⌜ length (now bytes) ≤ stateRoom ⌝ }
     ensures { λ r. ⌜ r ≡ now (bytes .entry) ++ replicate (stateRoom - length (now (bytes .entry))) 0 ⌝ }
@@ -43,7 +43,8 @@ pub fn is_image(v: u8, image: &[u8]) -> bool
 fn permute_state(v: u8, image: &mut [u8], way: Direction)
     requires { ⌜ (known v ≡ true) × (isSponge (variant v) ≡ true) ⌝ }
     requires { ⌜ isImage (variant v) (now image) ≡ true ⌝ }
-    ensures { λ _. ⌜ now (image .exit) ≡ imageOf (variant v) (permutedState (variant v) way (stateIn (variant v) (now (image .entry)))) ⌝ }
+    ensures { λ _. ⌜ now (image .exit)
+        ≡ imageOf (variant v) (permutedState (variant v) way (stateIn (variant v) (now (image .entry)))) ⌝ }
 {
     let s = at_front(image);
     let r = state::permuted(v, s, way);

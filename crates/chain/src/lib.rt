@@ -1,5 +1,5 @@
-// The chain of every variant on bytes: sizes, states, rows of blocks, padding, messages and the squeezed digest; and the permutation on an image that a
-// caller lends.
+// The chain of every variant on bytes: sizes, states, rows of blocks, padding, messages and the squeezed digest; and
+// the permutation on an image that a caller lends.
 pub mod blocks;
 pub mod images;
 pub mod message;

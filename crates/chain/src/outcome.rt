@@ -1,4 +1,5 @@
-// A state after a row of blocks, or the digest that it gives: the table is made once for all of it, and the state stays in words until the end.
+// A state after a row of blocks, or the digest that it gives: the table is made once for all of it, and the state stays
+// in words until the end.
 ghost use mathlib.Core.Path.{_≡_};
 ghost use mathlib.Core.Bool.{true};
 ghost use mathlib.Core.List.{[], _∷_, _++_};
@@ -46,7 +47,8 @@ fn outcome_with(
     }
 }
 
-// Each table is as large as it has to be, and lies in a function of its own: a call needs the room of its family's alone.
+// Each table is as large as it has to be, and lies in a function of its own: a call needs the room of its family's
+// alone.
 
 // PHOTON with cells of four bits.
 fn with_photon4(
@@ -170,7 +172,8 @@ pub fn digest_of(v: u8, s: [u8; STATE_BYTES]) -> [u8; STATE_BYTES]
     outcome_after(v, s, Held::none(), b"", 0, 0, Wanted::Digest)
 }
 
-// The permutation of a sponge by look-ups: the step of a block of zeros. It promises what `state::permuted` does by the standard's steps.
+// The permutation of a sponge by look-ups: the step of a block of zeros. It promises what `state::permuted` does by the
+// standard's steps.
 pub fn permuted_by_words(v: u8, s: [u8; STATE_BYTES]) -> [u8; STATE_BYTES]
     requires { ⌜ (known v ≡ true) × (isSponge (variant v) ≡ true) ⌝ }
     ensures { λ r. ⌜ r ≡ packedState (variant v) (permutedState (variant v) Forward (stateIn (variant v) s)) ⌝ }

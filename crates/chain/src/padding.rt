@@ -1,4 +1,5 @@
-// Padding: the 1 bit after a message's bits, the blocks that a padded message has, and in Lesamnta-LW the last one, which has the length.
+// Padding: the 1 bit after a message's bits, the blocks that a padded message has, and in Lesamnta-LW the last one,
+// which has the length.
 ghost use mathlib.Core.Path.{_≡_};
 ghost use mathlib.Core.Bool.{true, false, cond};
 ghost use mathlib.Core.List.{[], _∷_, _++_};
@@ -48,8 +49,8 @@ pub fn last_byte(held: [u8; BLOCK_BYTES], c: usize) -> u8
     with_padding_bit(x >> (8 - k), k)
 }
 
-// A message as the code holds it: its first `front` bytes are whole, the byte after them has the rest of its bits and the padding's 1 bit, and it has
-// `bits` bits.
+// A message as the code holds it: its first `front` bytes are whole, the byte after them has the rest of its bits and
+// the padding's 1 bit, and it has `bits` bits.
 pub struct Split {
     pub front: usize,
     pub last: u8,
@@ -57,9 +58,12 @@ pub struct Split {
 }
 
 pub fn split_of(v: u8, message: &[u8], ending: Ending) -> Split
-    requires { ⌜ (known v ≡ true) × (firstRefusal (numberChecks (given (now message) ending)) ≡ Done) × (length (now message) ≤ maxBytes) ⌝ }
-    ensures { λ r. ⌜ (r .front ≤ length (now (message .entry))) × (r .bits ≡ length (givenBits (variant v) (given (now (message .entry)) ending))) ⌝ }
-    ensures { λ r. ⌜ Padded (givenBits (variant v) (given (now (message .entry)) ending)) (take (r .front) (now (message .entry)) ++ r .last ∷ []) ⌝ }
+    requires { ⌜ (known v ≡ true) × (firstRefusal (numberChecks (given (now message) ending)) ≡ Done)
+        × (length (now message) ≤ maxBytes) ⌝ }
+    ensures { λ r. ⌜ (r .front ≤ length (now (message .entry)))
+        × (r .bits ≡ length (givenBits (variant v) (given (now (message .entry)) ending))) ⌝ }
+    ensures { λ r. ⌜ Padded (givenBits (variant v) (given (now (message .entry)) ending))
+        (take (r .front) (now (message .entry)) ++ r .last ∷ []) ⌝ }
 {
     let n = message.len();
     let k = message::count_of(ending) as usize;
@@ -78,8 +82,8 @@ pub fn split_of(v: u8, message: &[u8], ending: Ending) -> Split
     }
 }
 
-// The number of blocks up to and including the padding's 1 bit, after `bits` bits. In Lesamnta-LW, if the bits end at a block's end, the 1 bit opens the
-// block that has the length and is not counted here.
+// The number of blocks up to and including the padding's 1 bit, after `bits` bits. In Lesamnta-LW, if the bits end at a
+// block's end, the 1 bit opens the block that has the length and is not counted here.
 pub fn data_blocks(v: u8, bits: usize) -> usize
     requires { ⌜ known v ≡ true ⌝ }
     requires { ⌜ bits ≤ maxBits ⌝ }

@@ -15,8 +15,8 @@ pub const BLOCK_BYTES: usize = 16;
 
 pub const DIGEST_BYTES: usize = 32;
 
-// Tables 1 and 9 and Lesamnta-LW by a variant's number, 0 for no variant: the bits of the state (t), of a block that is taken in (r), of
-// one that is given out (r'; Lesamnta-LW gives its state out at once) and of the digest (n).
+// Tables 1 and 9 and Lesamnta-LW by a variant's number, 0 for no variant: the bits of the state (t), of a block that is
+// taken in (r), of one that is given out (r'; Lesamnta-LW gives its state out at once) and of the digest (n).
 const SIZES: [[u32; 4]; 12] = [
     [0, 0, 0, 0],
     [100, 20, 16, 80],

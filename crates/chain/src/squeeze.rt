@@ -20,11 +20,13 @@ use crate::sizes::BLOCK_BYTES;
 use crate::sizes::STATE_BYTES;
 use crate::state;
 
-// The first q half bytes of s behind the first p half bytes.
+// The first q nibbles of s after the first p nibbles.
 fn put_front(out: &mut [u8], p: usize, s: &[u8], q: usize)
     requires { ⌜ (length (now out) ≡ stateRoom) × (length (now s) ≡ stateRoom) × (p + q ≤ 64) ⌝ }
     requires { ⌜ now out ≡ pack high-first stateRoom (unpack high-first (4 * p) (now out)) ⌝ }
-    ensures { λ _. ⌜ now (out .exit) ≡ pack high-first stateRoom (unpack high-first (4 * p) (now (out .entry)) ++ take (4 * q) (bitsIn high-first (now (s .entry)))) ⌝ }
+    ensures { λ _. ⌜ now (out .exit)
+        ≡ pack high-first stateRoom (unpack high-first (4 * p) (now (out .entry))
+        ++ take (4 * q) (bitsIn high-first (now (s .entry)))) ⌝ }
 {
     let mut i: usize = 0;
     while i < q {
@@ -33,14 +35,17 @@ fn put_front(out: &mut [u8], p: usize, s: &[u8], q: usize)
     }
 }
 
-// The digest squeezed out of the state of the words, zeros behind it: whole output blocks with the permutation after each, which is the step of a block of zeros, and
-// what the last has to give. The words hold the state that gave the last.
+// The digest squeezed out of the state of the words, zeros after it: whole output blocks with the permutation after
+// each, which is the step of a block of zeros, and what the last has to give. The words hold the state that gave the
+// last.
 pub fn squeezed(v: u8, w: &mut [u64; 8], table: &[u64]) -> [u8; STATE_BYTES]
     requires { ⌜ (known v ≡ true) × (isSponge (variant v) ≡ true) ⌝ }
     requires { ⌜ TableOf v (now table) ⌝ }
-    ensures { λ r. ⌜ r ≡ pack high-first stateRoom (givenOut (variant v .family) (variant v) (stateInWords (variant v) (now (w .entry)))) ⌝ }
+    ensures { λ r. ⌜ r ≡ pack high-first stateRoom
+        (givenOut (variant v .family) (variant v) (stateInWords (variant v) (now (w .entry)))) ⌝ }
     ensures { λ _. ⌜ stateInWords (variant v) (now (w .exit))
-        ≡ iterate (outputCount (outputBits (variant v)) (variant v .n) - 1) (permutedState (variant v) Forward) (stateInWords (variant v) (now (w .entry))) ⌝ }
+        ≡ iterate (outputCount (outputBits (variant v)) (variant v .n) - 1) (permutedState (variant v) Forward)
+        (stateInWords (variant v) (now (w .entry))) ⌝ }
 {
     let n = sizes::digest_bytes(v) * 2;
     let q = sizes::output_nibbles(v);

@@ -29,7 +29,7 @@ abbrev pub resultSize : Variant → Wanted → ℕ
 resultSize H Digest = H .n / 8
 resultSize H EndState = imageSize H
 
--- the result has room in so many bytes: 5
+-- the result has room: 5
 abbrev pub roomChecks : Variant → Wanted → ℕ → List Check
 roomChecks H wanted room = when (ltb room (resultSize H wanted)) OutputTooShort ∷ []
 
@@ -48,7 +48,7 @@ readStatus h wanted n = firstRefusal (readChecks h wanted n)
 unfoldable pub readInto : Hasher → Wanted → List ℕ → List ℕ
 readInto h wanted out = written (readStatus h wanted (length out)) (resultOf (variantOf h) wanted (stateOf h)) out
 
--- Whole message, into so many bytes: 1, 15, 4, 5
+-- Whole message: 1, 15, 4, 5
 abbrev pub hashChecks : ℕ → Given → Wanted → ℕ → List Check
 hashChecks v g wanted room = messageChecks v g ++ roomChecks (variant v) wanted room
 

@@ -73,7 +73,7 @@ grown h bits =
     (run (variantOf h) (stateOf h) (wholeBlocks (variantOf h .r) (heldIn h ++ bits)))
     (restOf (variantOf h .r) (heldIn h ++ bits))
 
--- the message has ended: its padding goes behind the held bits, and the blocks that they make run through the state
+-- the message has ended: its padding goes after the held bits, and the blocks that they make run through the state
 unfoldable pub ended : Hasher → Hasher
 ended h =
     going h 1 (h .total)

@@ -30,7 +30,7 @@ pub fn check_open(h: Hasher) -> Status
     Status::Done
 }
 
-// Whether so many bytes may follow what was taken: refusals 16, 4.
+// Whether `bytes` bytes may follow what was taken: refusals 16, 4.
 fn check_follow(h: Hasher, bytes: usize) -> Status
     requires { ⌜ h .total ≤ maxBits ⌝ }
     ensures { λ r. ⌜ r ≡ firstRefusal (followChecks h (8 * bytes)) ⌝ }
@@ -65,7 +65,7 @@ pub fn check_update(h: Hasher, piece: &[u8], ending: Ending) -> Status
     check_follow(h, piece.len())
 }
 
-// Whether a result has room in so many bytes: refusal 5.
+// Whether a result has room in `room` bytes: refusal 5.
 pub fn check_room(v: u8, wanted: Wanted, room: usize) -> Status
     ensures { λ r. ⌜ r ≡ firstRefusal (roomChecks (variant v) wanted room) ⌝ }
 {

@@ -8,10 +8,10 @@ use answers::Status;
 use chain::BLOCK_BYTES;
 use chain::STATE_BYTES;
 
-mod checks; // checks.rt: the rows of checks
-mod results; // results.rt: what is read of a running hash that is closed
-mod running; // running.rt: start, update and finish
-mod whole; // whole.rt: a message that is there whole
+pub mod checks; // checks.rt: the rows of checks
+pub mod results; // results.rt: what is read of a running hash that is closed
+pub mod running; // running.rt: start, update and finish
+pub mod whole; // whole.rt: a message that is there whole
 
 pub use checks::check_hash;
 pub use checks::check_open;
@@ -32,8 +32,8 @@ pub use whole::hash;
 pub use whole::hash_bits;
 pub use whole::hash_with;
 
-// Any bytes are one. Stage 0 is open, 1 is closed. The total counts bits. The state is an image at the front of its bytes; the held
-// bits are those of the message so far that fill no block.
+// Any bytes are one. Stage 0 is open, 1 is closed. The total counts bits. The state is an image at the front of its
+// bytes; the held bits are those of the message so far that fill no block.
 #[repr(C)]
 pub struct Hasher {
     pub total: u32,

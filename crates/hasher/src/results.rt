@@ -33,7 +33,8 @@ fn write_result(v: u8, wanted: Wanted, state: [u8; STATE_BYTES], out: &mut [u8])
     requires { ⌜ known v ≡ true ⌝ }
     requires { ⌜ Holds v state ⌝ }
     requires { ⌜ resultSize (variant v) wanted ≤ length (now out) ⌝ }
-    ensures { λ _. ⌜ now (out .exit) ≡ written Done (resultOf (variant v) wanted (stateIn (variant v) state)) (now (out .entry)) ⌝ }
+    ensures { λ _. ⌜ now (out .exit)
+        ≡ written Done (resultOf (variant v) wanted (stateIn (variant v) state)) (now (out .entry)) ⌝ }
 {
     let n = result_size(v, wanted);
     match wanted {
@@ -47,7 +48,8 @@ fn write_result(v: u8, wanted: Wanted, state: [u8; STATE_BYTES], out: &mut [u8])
 
 // The digest, or the image of the end state: refusals 2, 3, 5. Reading changes nothing of the running hash.
 pub fn read(h: Hasher, wanted: Wanted, out: &mut [u8]) -> Status
-    ensures { λ r. ⌜ (r ≡ readStatus h wanted (length (now (out .entry)))) × (now (out .exit) ≡ readInto h wanted (now (out .entry))) ⌝ }
+    ensures { λ r. ⌜ (r ≡ readStatus h wanted (length (now (out .entry))))
+        × (now (out .exit) ≡ readInto h wanted (now (out .entry))) ⌝ }
 {
     let s = checks::check_read(h, wanted, out.len());
     let Status::Done = s else {
@@ -59,13 +61,15 @@ pub fn read(h: Hasher, wanted: Wanted, out: &mut [u8]) -> Status
 }
 
 pub fn digest(h: Hasher, out: &mut [u8]) -> Status
-    ensures { λ r. ⌜ (r ≡ readStatus h Digest (length (now (out .entry)))) × (now (out .exit) ≡ readInto h Digest (now (out .entry))) ⌝ }
+    ensures { λ r. ⌜ (r ≡ readStatus h Digest (length (now (out .entry))))
+        × (now (out .exit) ≡ readInto h Digest (now (out .entry))) ⌝ }
 {
     read(h, Wanted::Digest, out)
 }
 
 pub fn end_state(h: Hasher, out: &mut [u8]) -> Status
-    ensures { λ r. ⌜ (r ≡ readStatus h EndState (length (now (out .entry)))) × (now (out .exit) ≡ readInto h EndState (now (out .entry))) ⌝ }
+    ensures { λ r. ⌜ (r ≡ readStatus h EndState (length (now (out .entry))))
+        × (now (out .exit) ≡ readInto h EndState (now (out .entry))) ⌝ }
 {
     read(h, Wanted::EndState, out)
 }

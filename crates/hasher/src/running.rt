@@ -74,8 +74,8 @@ pub fn start(variant: u32) -> Advanced
     started_over(blank, variant)
 }
 
-// The message goes on with the piece and with the first k bits of a last byte, which has zeros after them: the whole blocks of the held
-// bits and these run through the state, and what is left is held.
+// The message goes on with the piece and with the first k bits of a last byte, which has zeros after them: the whole
+// blocks of the held bits and these run through the state, and what is left is held.
 fn grown(h: Hasher, piece: &[u8], last: u8, k: usize) -> Hasher
     requires { ⌜ Open h ⌝ }
     requires { ⌜ (wholeSoFar h ≡ true) × (k ≤ 8) × (h .total + (8 * length (now piece) + k) ≤ maxBits) ⌝ }
@@ -128,7 +128,7 @@ fn grown_by(h: Hasher, piece: &[u8], ending: Ending) -> Hasher
     }
 }
 
-// A piece, all bits of whose last byte count or so many: refusals 2, 3, 15, 16, 4.
+// A piece, of whose last byte all bits count or as many as are said: refusals 2, 3, 15, 16, 4.
 pub fn update_with(h: Hasher, piece: &[u8], ending: Ending) -> Advanced
     ensures { λ r. ⌜ r ≡ updated h (given (now (piece .entry)) ending) ⌝ }
 {

@@ -24,9 +24,10 @@ use chain::sizes;
 use chain::state;
 use standard::Wanted;
 
-// What is wanted of a message's end state, at the front of bytes that have room for either. The message is the first `bits` bits of `front` and the
-// last byte, which has the padding's 1 bit after them. A sponge's padded blocks are one run, for which a table is made but once; Lesamnta-LW has a
-// block more after them, and gives its end state out as it is.
+// What is wanted of a message's end state, at the front of bytes that have room for either. The message is the first
+// `bits` bits of `front` and the last byte, which has the padding's 1 bit after them. A sponge's padded blocks are one
+// run, for which a table is made but once; Lesamnta-LW has a block more after them, and gives its end state out as it
+// is.
 fn end_of(v: u8, front: &[u8], last: u8, bits: usize, wanted: Wanted) -> [u8; STATE_BYTES]
     requires { ⌜ known v ≡ true ⌝ }
     requires { ⌜ HoldsMessage (now front) last bits ⌝ }
@@ -47,7 +48,8 @@ fn end_of_given(v: u8, message: &[u8], ending: Ending, wanted: Wanted) -> [u8; S
     requires { ⌜ (known v ≡ true) × (firstRefusal (numberChecks (given (now message) ending)) ≡ Done)
         × (length (now message) ≤ maxBytes) ⌝ }
     ensures { λ r. ⌜ take (resultSize (variant v) wanted) r
-        ≡ resultOf (variant v) wanted (endState (variant v) (givenBits (variant v) (given (now (message .entry)) ending))) ⌝ }
+        ≡ resultOf (variant v) wanted
+        (endState (variant v) (givenBits (variant v) (given (now (message .entry)) ending))) ⌝ }
 {
     let m = padding::split_of(v, message, ending);
     end_of(v, &message[..m.front], m.last, m.bits, wanted)

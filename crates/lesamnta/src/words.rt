@@ -15,17 +15,12 @@ ghost use Rattle.lesamnta.specs.CipherTables.{BoxTable, ConstantTable, c
 ghost use Rattle.lesamnta.specs.Words.{stateOfFour};
 use crate::tables::BOXES;
 use crate::tables::CONSTANTS;
+use bytes::widen;
 
 // The words of the table that the rounds look up: 256 for bytes, and a constant for each of 64 rounds.
 pub const TABLE_WORDS: usize = 320;
 
 // ---- the table
-
-fn wide(x: u32) -> u64
-    ensures { λ r. ⌜ (r ≡ x) × (r < 2 ^ 32) ⌝ }
-{
-    x as u64
-}
 
 // An entry twice in a word, so that a turn by whole bytes is a shift.
 fn put_boxes(out: &mut [u64], boxes: &[u32; 256])
@@ -34,7 +29,7 @@ fn put_boxes(out: &mut [u64], boxes: &[u32; 256])
 {
     let mut i: usize = 0;
     while i < 256 {
-        out[i] = wide(boxes[i]) * 0x100000001;
+        out[i] = widen::u32_to_u64(boxes[i]) * 0x100000001;
         i += 1;
     }
 }
@@ -45,7 +40,7 @@ fn put_constants(out: &mut [u64], constants: &[u32; 64])
 {
     let mut r: usize = 0;
     while r < 64 {
-        out[256 + r] = wide(constants[r]);
+        out[256 + r] = widen::u32_to_u64(constants[r]);
         r += 1;
     }
 }
@@ -175,22 +170,16 @@ pub fn deciphered(x: [u64; 4], keys: [u64; 64], table: &[u64]) -> [u64; 4]
 
 // ---- words and bytes
 
-fn byte(x: u8) -> u64
-    ensures { λ r. ⌜ (r ≡ x) × (r < 256) ⌝ }
-{
-    x as u64
-}
-
 // The word of four bytes, the first the highest.
 fn u32_at(bytes: &[u8], at: usize) -> u64
     requires { ⌜ at + 4 ≤ length (now bytes) ⌝ }
     ensures { λ r. ⌜ (r ≡ valueOf high-first (take 32 (drop (8 * at) (bitsIn high-first (now (bytes .entry))))))
         × (r < 2 ^ 32) ⌝ }
 {
-    let first = byte(bytes[at]);
-    let second = byte(bytes[at + 1]);
-    let third = byte(bytes[at + 2]);
-    let fourth = byte(bytes[at + 3]);
+    let first = widen::u8_to_u64(bytes[at]);
+    let second = widen::u8_to_u64(bytes[at + 1]);
+    let third = widen::u8_to_u64(bytes[at + 2]);
+    let fourth = widen::u8_to_u64(bytes[at + 3]);
     ((first * 256 + second) * 256 + third) * 256 + fourth
 }
 

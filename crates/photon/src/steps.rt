@@ -23,13 +23,8 @@ ghost use Rattle.photon.specs.Rows.{lane, lanes, columnFrom, oddSum, nth
 use crate::STATE_BYTES;
 use crate::UNZ;
 use crate::Z;
+use bytes::widen;
 use standard::Direction;
-
-fn wide(x: u8) -> usize
-    ensures { λ r. ⌜ r ≡ x ⌝ }
-{
-    x as usize
-}
 
 // The steps work on all eight rows and columns, whatever the size of the matrix: a loop of a fixed number of turns is
 // compiled without a loop, and the rows stay in registers.
@@ -40,7 +35,7 @@ fn sub_row(table: &[u8; 256], row: [u8; 8]) -> [u8; 8]
     let mut out = row;
     let mut j = 0;
     while j < 8 {
-        let k = wide(out[j]);
+        let k = widen::u8_to_usize(out[j]);
         out[j] = table[k];
         j += 1;
     }
@@ -64,7 +59,7 @@ fn with_first(row: [u8; 8], x: u8) -> [u8; 8]
     ensures { λ r. ⌜ ((j : ℕ) → j < 8 → getD r j 0 ≡ inFirst j (bitXor (getD row 0 0) x) (getD row j 0)) ⌝ }
 {
     let cells = packed(row);
-    let first = wide64(x);
+    let first = widen::u8_to_u64(x);
     unpacked(cells ^ first)
 }
 
@@ -81,12 +76,6 @@ fn add_constants(g: [[u8; 8]; 8], rc: u8, ic: [u8; 8]) -> [[u8; 8]; 8]
     out
 }
 
-fn wide64(x: u8) -> u64
-    ensures { λ r. ⌜ r ≡ x ⌝ }
-{
-    x as u64
-}
-
 // A row as one number, so that a sum or a doubling works on its eight cells at once.
 fn packed(row: [u8; 8]) -> u64
     ensures { λ r. ⌜ ((j : ℕ) → j < 8 → lane j r ≡ getD row j 0) ⌝ }
@@ -94,7 +83,7 @@ fn packed(row: [u8; 8]) -> u64
     let mut out: u64 = 0;
     let mut j = 0;
     while j < 8 {
-        out = out * 256 + wide64(row[7 - j]);
+        out = out * 256 + widen::u8_to_u64(row[7 - j]);
         j += 1;
     }
     out
@@ -150,8 +139,8 @@ fn rotation_from(d: usize, way: Direction) -> usize
     }
 }
 
-// By how many places row i rotates. A row past the matrix rotates by one, and nothing reads it. As a distance, and not by
-// a `match` here, it leaves the loop over the rows short enough for the compiler to put it into its caller.
+// By how many places row i rotates. A row past the matrix rotates by one, and nothing reads it. As a distance, and not
+// by a `match` here, it leaves the loop over the rows short enough for the compiler to put it into its caller.
 fn rotation_of(d: usize, i: usize, from: usize) -> usize
     requires { ⌜ (2 ≤ d) × (0 < i) ⌝ }
     requires { ⌜ (from ≡ 0) ⊎ (from ≡ d) ⌝ }

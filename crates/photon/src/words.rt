@@ -1,9 +1,8 @@
 // The state in words, a column of the matrix in each; the block step by look-ups, in which one entry of a table has the
-// S-box and the column step of a byte; and the tables.
-//
-// The sizes of a variant stand in each call from outside, so that these loops are compiled for each variant, without a
-// loop or a division. That holds as long as the compiler finds them cheap enough to put them into their caller: it gives
-// up at a little more code than is here, and all is eight times slower then.
+// S-box and the column step of a byte; and the tables. The sizes of a variant stand in each call from outside, so that
+// these loops are compiled for each variant, without a loop or a division. That holds as long as the compiler finds
+// them cheap enough to put them into their caller: it gives up at a little more code than is here, and all is eight
+// times slower then.
 ghost use mathlib.Core.Path.{_≡_};
 ghost use mathlib.Core.Bool.{cond};
 ghost use mathlib.Core.List.{_++_, flatMap};
@@ -27,6 +26,7 @@ ghost use Rattle.photon_tables.specs.Tables.{Entries, Pairs};
 ghost use Rattle.photon.specs.Parameters.{photonOf};
 ghost use Rattle.photon.specs.Words.{matrixIn, roundThen, stateOfColumns, TableFor};
 use crate::STATE_BYTES;
+use bytes::widen;
 
 // ---- rows of cells into columns
 
@@ -60,12 +60,6 @@ fn wide_nibble(x: u8, n: usize) -> u64
     bytes::nibbles::nibble_of(x, n) as u64
 }
 
-fn wide_byte(x: u8) -> u64
-    ensures { λ r. ⌜ (r ≡ x) × (r < 256) ⌝ }
-{
-    x as u64
-}
-
 // n cells of four bits added to a row, a column each: those from the nibble `odd` on of the bytes from `at` on.
 fn add_nibbles(w: &mut [u64; 8], n: usize, bit: usize, bytes: &[u8], at: usize, odd: usize)
     requires { ⌜ (length (now w) ≡ 8) × (n ≤ 8) × (bit ≤ 28) × (odd ≤ 2)
@@ -94,7 +88,7 @@ fn add_bytes(w: &mut [u64; 8], n: usize, bit: usize, bytes: &[u8], at: usize)
 {
     let mut j: usize = 0;
     while j < n {
-        w[j] = w[j] ^ (wide_byte(bytes[at + j]) << bit);
+        w[j] = w[j] ^ (widen::u8_to_u64(bytes[at + j]) << bit);
         j += 1;
     }
 }
@@ -473,12 +467,6 @@ pub const PAIR_WORDS: usize = 1040;
 
 pub const SHARE_WORDS: usize = 1552;
 
-fn wide(x: u32) -> u64
-    ensures { λ r. ⌜ r ≡ x ⌝ }
-{
-    x as u64
-}
-
 // Sixteen entries from the place `at` on: the sixteen shares from `from` on, with `above` over each.
 fn fill(out: &mut [u64], at: usize, shares: &[u32; 144], from: usize, above: u64)
     requires { ⌜ (at + 16 ≤ length (now out)) × (from ≤ 128) × (at ≤ 2 ^ 32) ⌝ }
@@ -489,7 +477,7 @@ fn fill(out: &mut [u64], at: usize, shares: &[u32; 144], from: usize, above: u64
 {
     let mut x: usize = 0;
     while x < 16 {
-        out[at + x] = wide(shares[from + x]) ^ above;
+        out[at + x] = widen::u32_to_u64(shares[from + x]) ^ above;
         x += 1;
     }
 }
@@ -511,7 +499,7 @@ fn pair_rows(v: usize, out: &mut [u64], shares: &[u32; 144])
             16 + 16 * h,
             shares,
             16 + 32 * k,
-            wide(shares[32 + 32 * k + y]) << 32,
+            widen::u32_to_u64(shares[32 + 32 * k + y]) << 32,
         );
         h += 1;
     }

@@ -10,7 +10,8 @@ use entries::SHARES_196;
 use entries::SHARES_256;
 use entries::SHARES_288;
 
-// A function for each table, so that each caller makes only its own: a constant array is laid down anew wherever it is named.
+// A function for each table, so that each caller makes only its own: a constant array is laid down anew wherever it is
+// named.
 
 pub fn shares_100() -> [u32; 144]
     ensures { λ r. ⌜ Entries 144 photon100 r ⌝ }

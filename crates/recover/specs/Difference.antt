@@ -15,7 +15,7 @@ use Rattle.chain.specs.TakenBack.{permutedState, unrun}
 abbrev pub stateBefore : Variant → List Bool → ℕ → List Bool
 stateBefore H m place = run H (startState H) (take place (blocksOf H m))
 
--- the state behind it, if the message ends in the state s
+-- the state after it, if the message ends in the state s
 abbrev pub stateBehind : Variant → List Bool → ℕ → List Bool → List Bool
 stateBehind H m place s = unrun H s (drop (suc place) (blocksOf H m))
 

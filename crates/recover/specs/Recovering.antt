@@ -27,11 +27,11 @@ isEmpty (b ∷ bs) = false
 abbrev pub blockSize : Variant → ℕ
 blockSize H = bytesFor (H .r)
 
--- document 02, Q-7: what is no sponge is searched at the last of so many blocks alone
+-- document 02, Q-7: what is no sponge is searched at the last block alone
 abbrev pub searchable : Variant → ℕ → ℕ → Bool
 searchable H count place = cond (isSponge H) true (eqb (suc place) count)
 
--- the place among so many blocks, the image and the output of n bytes: 7; 17; 6; 5
+-- the place among the blocks, the image and the output of n bytes: 7; 17; 6; 5
 abbrev pub placedChecks : Variant → ℕ → ℕ → List ℕ → ℕ → List Check
 placedChecks H count place image n =
     unless (ltb place count) OutOfRange

@@ -1,5 +1,6 @@
-// The block of a message that leads to a given end state: the state is run forward to its place, the end state of a sponge back to it.
-// The inner functions take a message as its whole bytes, a last byte with the rest of its bits and the padding's 1 bit, and the number of its bits.
+// The block of a message that leads to a given end state: the state is run forward to its place, the end state of a
+// sponge back to it. The inner functions take a message as its whole bytes, a last byte with the rest of its bits and
+// the padding's 1 bit, and the number of its bits.
 ghost use mathlib.Core.Path.{_≡_};
 ghost use mathlib.Core.Bool.{true};
 ghost use mathlib.Core.List.{_++_};
@@ -39,7 +40,8 @@ pub fn block_bytes(v: u8) -> usize
     (sizes::block_bits(v) as usize + 7) / 8
 }
 
-// The state of a sponge after block `place` if the message ends in the state `end`: the blocks after it taken back, the last first.
+// The state of a sponge after block `place` if the message ends in the state `end`: the blocks after it taken back, the
+// last first.
 fn run_back(
     v: u8,
     front: &[u8],
@@ -52,7 +54,8 @@ fn run_back(
     requires { ⌜ HoldsMessage (now front) last bits ⌝ }
     requires { ⌜ place < length (blocksOf (variant v) (messageIn (now front) last bits)) ⌝ }
     requires { ⌜ Holds v end ⌝ }
-    ensures { λ r. ⌜ r ≡ packedState (variant v) (stateBehind (variant v) (messageIn (now (front .entry)) last bits) place (stateIn (variant v) end)) ⌝ }
+    ensures { λ r. ⌜ r ≡ packedState (variant v)
+        (stateBehind (variant v) (messageIn (now (front .entry)) last bits) place (stateIn (variant v) end)) ⌝ }
 {
     let q = (sizes::block_bits(v) / 4) as usize;
     let n = padding::block_count(v, bits);
@@ -80,11 +83,12 @@ fn second_half(s: [u8; STATE_BYTES]) -> [u8; STATE_BYTES]
     out
 }
 
-// What lies between two states of Lesamnta-LW: what was enciphered under the key in the first, with the half of it that went in beside the block
-// xored out.
+// What lies between two states of Lesamnta-LW: what was enciphered under the key in the first, with the half of it that
+// went in beside the block xored out.
 fn cipher_difference(s: [u8; STATE_BYTES], end: [u8; STATE_BYTES]) -> [u8; STATE_BYTES]
     requires { ⌜ Holds 11 s ⌝ }
-    ensures { λ r. ⌜ r ≡ packedState (variant 11) (between (variant 11 .family) (variant 11) (stateIn (variant 11) s) (stateIn (variant 11) end)) ⌝ }
+    ensures { λ r. ⌜ r ≡ packedState (variant 11)
+        (between (variant 11 .family) (variant 11) (stateIn (variant 11) s) (stateIn (variant 11) end)) ⌝ }
 {
     let x = lesamnta::decrypt_front(&s, &end);
     let enciphered = images::at_front(&x);
@@ -92,8 +96,8 @@ fn cipher_difference(s: [u8; STATE_BYTES], end: [u8; STATE_BYTES]) -> [u8; STATE
     plain::xored(enciphered, &half)
 }
 
-// What lies between the states on both sides of the place. For a sponge it is the state before the block, and the one that the permutation has to take
-// to the state after it, xored.
+// What lies between the states on both sides of the place. For a sponge it is the state before the block, and the one
+// that the permutation has to take to the state after it, xored.
 fn difference(
     v: u8,
     front: &[u8],
@@ -105,9 +109,11 @@ fn difference(
     requires { ⌜ known v ≡ true ⌝ }
     requires { ⌜ HoldsMessage (now front) last bits ⌝ }
     requires { ⌜ place < length (blocksOf (variant v) (messageIn (now front) last bits)) ⌝ }
-    requires { ⌜ searchable (variant v) (length (blocksOf (variant v) (messageIn (now front) last bits))) place ≡ true ⌝ }
+    requires { ⌜ searchable (variant v) (length (blocksOf (variant v) (messageIn (now front) last bits))) place
+        ≡ true ⌝ }
     requires { ⌜ Holds v end ⌝ }
-    ensures { λ r. ⌜ r ≡ packedState (variant v) (difference (variant v) (messageIn (now (front .entry)) last bits) place (stateIn (variant v) end)) ⌝ }
+    ensures { λ r. ⌜ r ≡ packedState (variant v)
+        (difference (variant v) (messageIn (now (front .entry)) last bits) place (stateIn (variant v) end)) ⌝ }
 {
     let start = state::start(v);
     let before = outcome::run_blocks(v, start, Held::none(), front, last, place);
@@ -131,9 +137,14 @@ fn put_block(
 ) -> Status
     requires { ⌜ known v ≡ true ⌝ }
     requires { ⌜ HoldsMessage (now front) last bits ⌝ }
-    requires { ⌜ firstRefusal (placedChecks (variant v) (blockCount (variant v) (length (messageIn (now front) last bits))) place (now image) (length (now out))) ≡ Done ⌝ }
-    ensures { λ r. ⌜ (r ≡ firstRefusal (foundChecks v (messageIn (now (front .entry)) last bits) place (now (image .entry))))
-        × (now (out .exit) ≡ written r (recoveredBlock v (messageIn (now (front .entry)) last bits) place (now (image .entry))) (now (out .entry))) ⌝ }
+    requires { ⌜ firstRefusal (placedChecks (variant v)
+        (blockCount (variant v) (length (messageIn (now front) last bits))) place (now image) (length (now out)))
+        ≡ Done ⌝ }
+    ensures { λ r. ⌜ (r ≡ firstRefusal (foundChecks v (messageIn (now (front .entry)) last bits) place
+        (now (image .entry))))
+        × (now (out .exit)
+        ≡ written r (recoveredBlock v (messageIn (now (front .entry)) last bits) place (now (image .entry)))
+        (now (out .entry))) ⌝ }
 {
     let end = images::at_front(image);
     let block = difference(v, front, last, bits, place, end);
@@ -144,7 +155,8 @@ fn put_block(
     Status::Done
 }
 
-// Whether a place among `count` blocks may be searched: of Lesamnta-LW the last alone, since no block after it can be taken back.
+// Whether a place among `count` blocks may be searched: of Lesamnta-LW the last alone, since no block after it can be
+// taken back.
 fn is_searchable(v: u8, count: usize, place: usize) -> bool
     requires { ⌜ place < count ⌝ }
     ensures { λ r. ⌜ r ≡ searchable (variant v) count place ⌝ }
@@ -155,7 +167,8 @@ fn is_searchable(v: u8, count: usize, place: usize) -> bool
     place + 1 == count
 }
 
-// Whether the place is among `count` blocks and may be searched, the image is one, and n bytes of output hold a block: refusals 7, 17, 6, 5.
+// Whether the place is among `count` blocks and may be searched, the image is one, and n bytes of output hold a block:
+// refusals 7, 17, 6, 5.
 fn check_place(v: u8, count: usize, place: usize, image: &[u8], n: usize) -> Status
     requires { ⌜ known v ≡ true ⌝ }
     ensures { λ r. ⌜ r ≡ firstRefusal (placedChecks (variant v) count place (now (image .entry)) n) ⌝ }
@@ -187,9 +200,13 @@ fn recover_at(
 ) -> Status
     requires { ⌜ known v ≡ true ⌝ }
     requires { ⌜ HoldsMessage (now front) last bits ⌝ }
-    ensures { λ r. ⌜ (r ≡ firstRefusal (placedChecks (variant v) (blockCount (variant v) (length (messageIn (now (front .entry)) last bits))) place (now (image .entry)) (length (now (out .entry)))
+    ensures { λ r. ⌜ (r ≡ firstRefusal (placedChecks (variant v)
+        (blockCount (variant v) (length (messageIn (now (front .entry)) last bits))) place (now (image .entry))
+        (length (now (out .entry)))
         ++ foundChecks v (messageIn (now (front .entry)) last bits) place (now (image .entry))))
-        × (now (out .exit) ≡ written r (recoveredBlock v (messageIn (now (front .entry)) last bits) place (now (image .entry))) (now (out .entry))) ⌝ }
+        × (now (out .exit)
+        ≡ written r (recoveredBlock v (messageIn (now (front .entry)) last bits) place (now (image .entry)))
+        (now (out .entry))) ⌝ }
 {
     let count = padding::block_count(v, bits);
     let s = check_place(v, count, place, image, out.len());
@@ -208,8 +225,10 @@ pub fn recover_with(
     image: &[u8],
     out: &mut [u8],
 ) -> Status
-    ensures { λ r. ⌜ (r ≡ recoverStatus variant (given (now (message .entry)) ending) place (now (image .entry)) (length (now (out .entry))))
-        × (now (out .exit) ≡ recoverInto variant (given (now (message .entry)) ending) place (now (image .entry)) (now (out .entry))) ⌝ }
+    ensures { λ r. ⌜ (r ≡ recoverStatus variant (given (now (message .entry)) ending) place (now (image .entry))
+        (length (now (out .entry))))
+        × (now (out .exit)
+        ≡ recoverInto variant (given (now (message .entry)) ending) place (now (image .entry)) (now (out .entry))) ⌝ }
 {
     let s = message::check_message(variant, message, ending);
     let Status::Done = s else {
@@ -222,8 +241,10 @@ pub fn recover_with(
 
 // In a message all of whose bits count: refusals 1, 4, 7, 17, 6, 5, 8.
 pub fn recover(variant: u32, message: &[u8], place: usize, image: &[u8], out: &mut [u8]) -> Status
-    ensures { λ r. ⌜ (r ≡ recoverStatus variant (bytes (now (message .entry))) place (now (image .entry)) (length (now (out .entry))))
-        × (now (out .exit) ≡ recoverInto variant (bytes (now (message .entry))) place (now (image .entry)) (now (out .entry))) ⌝ }
+    ensures { λ r. ⌜ (r ≡ recoverStatus variant (bytes (now (message .entry))) place (now (image .entry))
+        (length (now (out .entry))))
+        × (now (out .exit)
+        ≡ recoverInto variant (bytes (now (message .entry))) place (now (image .entry)) (now (out .entry))) ⌝ }
 {
     recover_with(variant, message, Ending::Whole, place, image, out)
 }
@@ -237,8 +258,10 @@ pub fn recover_bits(
     image: &[u8],
     out: &mut [u8],
 ) -> Status
-    ensures { λ r. ⌜ (r ≡ recoverStatus variant (partial (now (message .entry)) bits) place (now (image .entry)) (length (now (out .entry))))
-        × (now (out .exit) ≡ recoverInto variant (partial (now (message .entry)) bits) place (now (image .entry)) (now (out .entry))) ⌝ }
+    ensures { λ r. ⌜ (r ≡ recoverStatus variant (partial (now (message .entry)) bits) place (now (image .entry))
+        (length (now (out .entry))))
+        × (now (out .exit)
+        ≡ recoverInto variant (partial (now (message .entry)) bits) place (now (image .entry)) (now (out .entry))) ⌝ }
 {
     recover_with(variant, message, Ending::Bits(bits), place, image, out)
 }

@@ -1,4 +1,5 @@
-// Lists of segments of a buffer: an entry by its number, its check, the segment that it names, and the digest over all of them.
+// Lists of segments of a buffer: an entry by its number, its check, the segment that it names, and the digest over all
+// of them.
 ghost use mathlib.Core.Path.{_≡_};
 ghost use mathlib.Core.Bool.{true};
 ghost use Prim.Native.Nat.{_+_, _*_, _≤_, _<_};
@@ -159,7 +160,8 @@ fn check_all(list: &[u8], buffer: &[u8]) -> Status
     Status::Done
 }
 
-// The bytes of the message: two of count, the list, and what the entries name. No sum wraps: 512 lengths of four bytes stay far below a usize.
+// The bytes of the message: two of count, the list, and what the entries name. No sum wraps: 512 lengths of four bytes
+// stay far below a usize.
 fn message_length(list: &[u8]) -> usize
     requires { ⌜ isList (now list) ≡ true ⌝ }
     ensures { λ r. ⌜ r ≡ length (headerOf (now (list .entry))) + totalOf (now (list .entry)) ⌝ }
@@ -225,15 +227,11 @@ fn update_all(h: Hasher, list: &[u8], buffer: &[u8]) -> Hasher
     g
 }
 
-// The digest over a list and its segments, or the image of the end state: refusals 1, 9, 10, 11, 4, 5. A refusal leaves every byte.
-pub fn hash_list(
-    variant: u32,
-    list: &[u8],
-    buffer: &[u8],
-    wanted: Wanted,
-    out: &mut [u8],
-) -> Status
-    ensures { λ r. ⌜ (r ≡ listStatus variant (now (list .entry)) (now (buffer .entry)) wanted (length (now (out .entry))))
+// The digest over a list and its segments, or the image of the end state: refusals 1, 9, 10, 11, 4, 5. A refusal leaves
+// every byte.
+pub fn hash_list(variant: u32, list: &[u8], buffer: &[u8], wanted: Wanted, out: &mut [u8]) -> Status
+    ensures { λ r. ⌜ (r ≡ listStatus variant (now (list .entry)) (now (buffer .entry)) wanted
+        (length (now (out .entry))))
         × (now (out .exit) ≡ listInto variant (now (list .entry)) (now (buffer .entry)) wanted (now (out .entry))) ⌝ }
 {
     let s = check_list(variant, list, buffer, wanted, out.len());

@@ -22,9 +22,3 @@ pub const LAST_COUNTERS: [u8; 5] = [0x1F, 0x3F, 0x3F, 0x3F, 0x7F];
 pub const S_BOX: [u8; 16] = [14, 13, 11, 0, 2, 1, 4, 15, 7, 10, 8, 5, 9, 12, 3, 6];
 
 pub const S_BOX_BACK: [u8; 16] = [3, 5, 4, 14, 6, 11, 15, 8, 10, 12, 9, 2, 13, 1, 0, 7];
-
-fn wide64(x: u8) -> u64
-    ensures { λ r. ⌜ r ≡ x ⌝ }
-{
-    x as u64
-}

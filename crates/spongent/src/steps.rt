@@ -14,6 +14,7 @@ ghost use Rattle.standard.specs.Sponge.{permutation};
 ghost use Rattle.standard.specs.Variants.{variant};
 ghost use Rattle.spongent.specs.Parameters.{spongentOf, tapsOf};
 ghost use Rattle.spongent.specs.Pairs.{Joined, pairAt, planePair};
+use bytes::widen;
 use standard::Direction;
 
 // The byte with its bits in the reverse order.
@@ -193,10 +194,10 @@ fn joined(w: u8, x: u8, y: u8, z: u8) -> u8
     requires { ⌜ (w < 4) × ((x < 4) × ((y < 4) × (z < 4))) ⌝ }
     ensures { λ r. ⌜ (r % 4 ≡ w) × ((r / 4 % 4 ≡ x) × ((r / 16 % 4 ≡ y) × (r / 64 % 4 ≡ z))) ⌝ }
 {
-    let all = crate::wide64(w)
-        + crate::wide64(x) * 0x100
-        + crate::wide64(y) * 0x10000
-        + crate::wide64(z) * 0x1000000;
+    let all = widen::u8_to_u64(w)
+        + widen::u8_to_u64(x) * 0x100
+        + widen::u8_to_u64(y) * 0x10000
+        + widen::u8_to_u64(z) * 0x1000000;
     (all * 0x1041040 / 0x1000000 % 0x100) as u8
 }
 

@@ -17,6 +17,8 @@ ghost use Rattle.spongent.specs.Parameters.{spongentOf};
 ghost use Rattle.spongent.specs.Words.{bytesIn, stateOfBytes, Permuted, pairIn, spreadWord, lanesInto};
 ghost use Rattle.spongent.specs.Words.{ByteTable, wordTableSize, WordTable};
 use crate::tables::SPREAD;
+use bytes::compare;
+use bytes::widen;
 
 // The words of the table that the block step looks up: 256 for each of the eight bytes of a word.
 pub const TABLE_WORDS: usize = 2048;
@@ -31,19 +33,12 @@ fn byte_of(w: u64, k: usize) -> usize
     ((w >> (8 * k)) % 256) as usize
 }
 
-// The lesser of two numbers.
-fn least(a: usize, b: usize) -> usize
-    ensures { λ r. ⌜ r ≡ min a b ⌝ }
-{
-    if a < b { a } else { b }
-}
-
 // A byte as byte k of a word. That it is below 256 is known here, and not to a caller that read it from an array.
 fn byte_at(x: u8, k: usize) -> u64
     requires { ⌜ k < 8 ⌝ }
     ensures { λ r. ⌜ (r ≡ x * 2 ^ (8 * k)) × (x < 256) ⌝ }
 {
-    crate::wide64(x) << (8 * k)
+    widen::u8_to_u64(x) << (8 * k)
 }
 
 // The words that hold the state of the bytes. The slice of the array tells its length.
@@ -169,14 +164,14 @@ fn round(w: &mut [u64; 8], n: usize, counter: u8, reversed: u8, table: &[u64])
     ensures { λ _. ⌜ unpack low-first (8 * n) (bytesIn (now (w .exit)))
         ≡ spongentRound (8 * n) Forward (unpack low-first (8 * n) (bytesIn (now (w .entry)))) counter ⌝ }
 {
-    w[0] = w[0] ^ crate::wide64(counter);
+    w[0] = w[0] ^ widen::u8_to_u64(counter);
     w[(n - 1) / 8] = w[(n - 1) / 8] ^ byte_at(reversed, (n - 1) % 8);
     let mut out = [0u64; 8];
     let mut j: usize = 0;
     while 8 * j < n {
         put_lanes(
             &mut out,
-            spread_word(w[j], least(8, n - 8 * j), table),
+            spread_word(w[j], compare::min(8, n - 8 * j), table),
             16 * j,
             n,
         );

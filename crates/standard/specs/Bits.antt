@@ -48,13 +48,13 @@ bitsIn o (b ∷ bs) = bitsOf o 8 b ++ bitsIn o bs
 unfoldable pub unpack : Order → ℕ → List ℕ → List Bool
 unpack o t bytes = take t (bitsIn o bytes)
 
--- the first w of the bits, with zeros behind them where there are fewer
+-- the first w of the bits, with zeros after them if there are fewer
 unfoldable pub filled : ℕ → List Bool → List Bool
 filled zero bs = []
 filled (suc w) [] = false ∷ filled w []
 filled (suc w) (b ∷ bs) = b ∷ filled w bs
 
--- n bytes of the bits, with zeros behind them
+-- n bytes of the bits, with zeros after them
 unfoldable pub pack : Order → ℕ → List Bool → List ℕ
 pack o zero bs = []
 pack o (suc n) bs = valueOf o (filled 8 bs) ∷ pack o n (drop 8 bs)

@@ -33,7 +33,7 @@ padded H m = m ++ padding H (length m)
 unfoldable pub wholeBlocks : ℕ → List Bool → List (List Bool)
 wholeBlocks r bs = cut r (length bs / r) bs
 
--- the bits behind them, which fill no block
+-- the bits after them, which fill no block
 unfoldable pub restOf : ℕ → List Bool → List Bool
 restOf r bs = drop (length bs / r * r) bs
 

@@ -53,7 +53,7 @@ order H = orderOf (H .family)
 abbrev pub imageSize : Variant → ℕ
 imageSize H = bytesFor (H .t)
 
--- the image of a state: zeros behind its bits (document 01)
+-- the image of a state: zeros after its bits (document 01)
 unfoldable pub imageOf : Variant → List Bool → List ℕ
 imageOf H s = pack (order H) (imageSize H) s
 

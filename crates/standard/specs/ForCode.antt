@@ -1,19 +1,11 @@
 -- For the code: what its contracts cite and its laws ask beyond the standard.
 -- Assumes nothing.
 use mathlib.Core.Path.{_≡_}
-use mathlib.Core.Bool.{Bool, true, false}
 use mathlib.Core.List.{List, []}
 use Prim.Native.Nat.{ℕ, _*_, _^_, _≤_, _<_}
 use lib.ListN.{getD, length}
-use Rattle.standard.specs.declared.Direction.{Direction}
-use Rattle.standard.specs.declared.Direction.the-variants.{Forward, Backward}
 use Rattle.standard.specs.Grid.{Grid, tab, at}
 use Rattle.standard.specs.Families.{Family, sponge, lesamnta, Variant}
-
--- the direction that a flag asks for
-abbrev pub direction : Bool → Direction
-direction false = Forward
-direction true = Backward
 
 -- the bits of an output block of a sponge; Lesamnta-LW has none
 abbrev pub outputOf : Family → ℕ

@@ -40,7 +40,7 @@ outputCount r′ n = (n + (r′ - 1)) / r′
 unfoldable pub outputBlocks : Permutation → ℕ → ℕ → List Bool → List (List Bool)
 outputBlocks P r′ n s = tab (outputCount r′ n) (λ i. take r′ (iterate i (permutation P Forward) s))
 
--- 5.2.3, 5.3.3: the n bits of the digest, the output blocks one after the other and cut behind. Byte 0 of an output block comes first, each byte's most
+-- 5.2.3, 5.3.3: the n bits of the digest, the output blocks one after the other and cut at its end. Byte 0 of an output block comes first, each byte's most
 -- significant bit first (document 01; for SPONGENT B.2 agrees).
 unfoldable pub squeezed : Permutation → ℕ → ℕ → List Bool → List Bool
 squeezed P r′ n s = take n (flatMap (turned (bitOrder P)) (outputBlocks P r′ n s))

@@ -19,7 +19,7 @@ pub record DifferWithin {A : Type 0} (p n : ℕ) (x y : List A) : Type 0 where
 unfoldable pub inOneBlock : Variant → ℕ → ℕ → Bool
 inOneBlock H p n = leb (8 * p % H .r + 8 * n) (H .r)
 
--- the bytes after which blocks begin as they did, for a rate of whole half bytes: one block or two
+-- the bytes after which blocks begin as they did, for a rate of whole nibbles: one block or two
 unfoldable pub period : Variant → ℕ
 period H = cond (eqb (H .r % 8) 0) (H .r / 8) (H .r / 4)
 

@@ -5,9 +5,6 @@ mod text;
 
 use libc::STDIN_FILENO;
 
-// The input has fewer bytes than this.
-const ROOM: usize = 262144;
-
 // A line that begins with # is a heading.
 fn is_heading(line: &[u8]) -> bool {
     if line.len() == 0 {
@@ -36,10 +33,11 @@ fn answer_all(input: &[u8]) {
     }
 }
 
+// The input has to have fewer bytes than the buffer, so that none is left over.
 fn main() {
-    let mut input = [0u8; ROOM];
+    let mut input = io::large_buffer();
     let n = io::read_full(STDIN_FILENO, &mut input);
-    if n == ROOM {
+    if n == input.len() {
         show::text(b"the input is too long\n");
         return;
     }

@@ -159,9 +159,9 @@ fn has_form(line: &[u8], start: usize, form: &[u8]) -> bool
     at == line.len()
 }
 
-// Whether a line has this name, and words of this form after it.
-pub fn is_call(line: &[u8], name: &[u8], form: &[u8]) -> bool {
-    is_same(word(line, 0), name) && has_form(line, place(line, 1), form)
+// Whether a line has the name that is the first word of the call, and words of the form that is the second.
+pub fn is_call(line: &[u8], call: &[u8]) -> bool {
+    is_same(word(line, 0), word(call, 0)) && has_form(line, place(line, 1), word(call, 1))
 }
 
 fn decimal_value(c: u8) -> u64

@@ -9,10 +9,10 @@ use Rattle.lesamnta.proofs.words.u32_at.Tie as tie
 returns : tie.Need-returns
 returns c =
     let s = c .before .before .before .before .before .before .before .before .before in
-    let first = c .before .before .before .before .before .before .byte .ensures in
-    let second = c .before .before .before .before .byte2 .ensures in
-    let third = c .before .before .byte3 .ensures in
-    let fourth = c .byte4 .ensures in
+    let first = c .before .before .before .before .before .before .u8-to-u64 .ensures in
+    let second = c .before .before .before .before .u8-to-u642 .ensures in
+    let third = c .before .before .u8-to-u643 .ensures in
+    let fourth = c .u8-to-u644 .ensures in
     (read-half (s .args .bytes .now) (s .args .at) (s .pre) _ _ _ _ (first .0) (second .0) (third .0) (fourth .0) (first .1) (second .1) (third .1) (fourth .1), omega arith)
 
 pub u32-at-spec : {M : Type 1} → statement M

@@ -17,14 +17,14 @@ add-out : tie.Need-add-out Inv-loop μ-loop
 add-out c =
     let l = c .before .before .loop in
     let s = c .before .before .before in
-    omega (arith, held-room _ _ _ (omega arith) (l .inv .1), c .wide64 .ensures, bytes-lt 8 (s .args .t1) _ (s .good .0) (7 - l .j))
+    omega (arith, held-room _ _ _ (omega arith) (l .inv .1), c .u8-to-u64 .ensures .0, bytes-lt 8 (s .args .t1) _ (s .good .0) (7 - l .j))
 
 loop-again : tie.Need-loop-again Inv-loop μ-loop
 loop-again c =
     let l = c .before .before .loop in
     let s = c .before .before .before in
-    let byte : c .wide64 .result < 256 = rw (c .wide64 .ensures) (bytes-lt 8 (s .args .t1) _ (s .good .0) (7 - l .j)) in
-    (omega arith, held-more (s .args .t1) (l .j) (l .out) _ (omega arith) byte (c .wide64 .ensures) (l .inv .1))
+    let byte : c .u8-to-u64 .result < 256 = rw (c .u8-to-u64 .ensures .0) (bytes-lt 8 (s .args .t1) _ (s .good .0) (7 - l .j)) in
+    (omega arith, held-more (s .args .t1) (l .j) (l .out) _ (omega arith) byte (c .u8-to-u64 .ensures .0) (l .inv .1))
 
 returns : tie.Need-returns Inv-loop μ-loop
 returns c = λ j h.

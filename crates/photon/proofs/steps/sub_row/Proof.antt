@@ -18,12 +18,12 @@ element-copy-out-out : tie.Need-element-copy-out-out Inv-loop μ-loop
 element-copy-out-out c =
     let l = c .before .before .loop in
     let s = c .before .before .before in
-    rw (c .wide .ensures, l .inv .1 .rest (l .j) (omega arith)) (bytes-lt 8 (s .args .row) _ (s .good .1 .0) (l .j))
+    rw (c .u8-to-usize .ensures .0, l .inv .1 .rest (l .j) (omega arith)) (bytes-lt 8 (s .args .row) _ (s .good .1 .0) (l .j))
 
 loop-again : tie.Need-loop-again Inv-loop μ-loop
 loop-again c =
     let l = c .before .before .before .loop in
-    (omega arith, upto-more (l .j) _ (l .out) _ (omega arith) (rw (c .before .wide .ensures, l .inv .1 .rest (l .j) (omega arith))) (l .inv .1))
+    (omega arith, upto-more (l .j) _ (l .out) _ (omega arith) (rw (c .before .u8-to-usize .ensures .0, l .inv .1 .rest (l .j) (omega arith))) (l .inv .1))
 
 pub sub-row-spec : {M : Type 1} → statement M
 sub-row-spec =

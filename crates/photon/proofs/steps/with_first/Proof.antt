@@ -22,10 +22,10 @@ first-only row p w x e ew hx (suc j) h =
 
 returns : tie.Need-returns
 returns c = λ j h.
-    let w = c .before .wide64 in
+    let w = c .before .u8-to-u64 in
     let p = c .before .before .packed in
     let a = c .before .before .before .args in
-    c .unpacked .ensures j h ∙ lane-xor j (p .result) (w .result) ∙ first-only (a .row) (p .result) (w .result) (a .x) (p .ensures) (w .ensures) (omega arith) j h
+    c .unpacked .ensures j h ∙ lane-xor j (p .result) (w .result) ∙ first-only (a .row) (p .result) (w .result) (a .x) (p .ensures) (w .ensures .0) (omega arith) j h
 
 pub with-first-spec : {M : Type 1} → statement M
 with-first-spec = tie.close (tie.spec (λ c κs. search needs) (λ c κs. search needs) (λ c κs. search needs) returns)

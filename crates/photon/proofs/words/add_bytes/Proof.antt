@@ -23,7 +23,7 @@ loop-again c =
     let given = c .before .before .before .before .before .shared-slice-known .given in
     let a = c .before .before .before .before .before .before .args in (
       omega arith,
-      upto-more (l .j) _ (l .w) _ (omega arith) (ap₂ bitXor (l .inv .1 .rest (l .j) (omega arith)) (byte-cell (a .bytes .now) (λ i. omega (arith, given i)) (a .at + l .j) (a .bit) _ (omega arith) (omega arith) (c .wide-byte .ensures .1) (c .wide-byte .ensures .0))) (l .inv .1),
+      upto-more (l .j) _ (l .w) _ (omega arith) (ap₂ bitXor (l .inv .1 .rest (l .j) (omega arith)) (byte-cell (a .bytes .now) (λ i. omega (arith, given i)) (a .at + l .j) (a .bit) _ (omega arith) (omega arith) (c .u8-to-u64 .ensures .1) (c .u8-to-u64 .ensures .0))) (l .inv .1),
     )
 
 returns : tie.Need-returns Inv-loop μ-loop

@@ -19,7 +19,7 @@ loop-again : tie.Need-loop-again Inv-loop μ-loop
 loop-again c =
     let l = c .before .before .before .loop in
     let a = c .before .before .before .before .before .args in
-    (omega arith, filled-more (a .at) _ (l .x) _ (l .out) _ (omega arith) (ap (λ (x : ℕ). bitXor x (a .above)) (c .wide .ensures)) (l .inv .1))
+    (omega arith, filled-more (a .at) _ (l .x) _ (l .out) _ (omega arith) (ap (λ (x : ℕ). bitXor x (a .above)) (c .u32-to-u64 .ensures .0)) (l .inv .1))
 
 returns : tie.Need-returns Inv-loop μ-loop
 returns c =

@@ -40,7 +40,7 @@ loop-again c =
     let l = c .before .before .before .before .before .before .before .loop in
     let s = c .before .before .before .before .before .before .before .before .before .before .before .before .before .before in
     let f = c .before .before .fill2 .ensures in
-    (omega arith, l .inv .1, paired-more (s .args .shares .now) (l .out) _ (l .h) (l .inv .2) (f .0) (λ x h. f .1 x h ∙ ap (λ (y : ℕ). bitXor (getD (s .args .shares .now) (16 + 32 * (l .h / 16) + x) 0) (y * 2 ^ 32 % 2 ^ 64)) (c .before .before .before .wide .ensures)) (f .2))
+    (omega arith, l .inv .1, paired-more (s .args .shares .now) (l .out) _ (l .h) (l .inv .2) (f .0) (λ x h. f .1 x h ∙ ap (λ (y : ℕ). bitXor (getD (s .args .shares .now) (16 + 32 * (l .h / 16) + x) 0) (y * 2 ^ 32 % 2 ^ 64)) (c .before .before .before .u32-to-u64 .ensures .0)) (f .2))
 
 returns : tie.Need-returns Inv-loop μ-loop
 returns c =

@@ -30,7 +30,7 @@ returns c =
     let s = c .before .before .before .before in
     let a = s .args in
     pairs-back (a .w) (a .x) (a .y) (a .z) _ (omega arith) (omega arith) (omega arith) (omega arith)
-    (rw (c .before .before .before .wide64 .ensures, c .before .before .wide642 .ensures, c .before .wide643 .ensures, c .wide644 .ensures)
+    (rw (c .before .before .before .u8-to-u64 .ensures .0, c .before .before .u8-to-u642 .ensures .0, c .before .u8-to-u643 .ensures .0, c .u8-to-u644 .ensures .0)
     (side-by-side (a .w) (a .x) (a .y) (a .z) (omega arith) (omega arith) (omega arith) (omega arith)))
 
 pub joined-spec : {M : Type 1} → statement M

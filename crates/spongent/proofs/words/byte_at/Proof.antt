@@ -11,7 +11,7 @@ use Rattle.spongent.proofs.words.byte_at.Tie as tie
 returns : tie.Need-returns
 returns c =
     let a = c .before .args in
-    (ap (λ (x : ℕ). x * 2 ^ (8 * a .k) % 2 ^ 64) (c .wide64 .ensures) ∙ byte-shifted (a .x) (a .k) (omega arith) (omega arith), omega arith)
+    (ap (λ (x : ℕ). x * 2 ^ (8 * a .k) % 2 ^ 64) (c .u8-to-u64 .ensures .0) ∙ byte-shifted (a .x) (a .k) (omega arith) (omega arith), omega arith)
 
 pub byte-at-spec : {M : Type 1} → statement M
 byte-at-spec = tie.close (tie.spec (λ c κs. search needs) (λ c. search needs) (λ c. search needs) returns)

@@ -22,7 +22,7 @@ loop-holds c = let a = c .before .before .before .before .before .args in (omega
 spread-word-requires : tie.Need-spread-word-requires Inv-loop μ-loop
 spread-word-requires c κs =
     let s = c .before .before .before .before .before .before .before .before .before .before in
-    (rw (c .least .ensures) (min-le-left 8 _), s .pre .1 .1)
+    (rw (c .min .ensures) (min-le-left 8 _), s .pre .1 .1)
 
 put-lanes-requires : tie.Need-put-lanes-requires Inv-loop μ-loop
 put-lanes-requires c κs = (omega arith, (omega arith, (omega arith, omega arith)))
@@ -34,19 +34,19 @@ loop-again c =
       omega arith,
       omega arith,
       looked-more nibbles (a .n) (omega arith) (omega arith) _ (l .j) _ _ (l .out) _ (omega arith)
-          (c .before .before .least .ensures) (c .before .spread-word .ensures) (c .put-lanes .ensures .1) (l .inv .2),
+          (c .before .before .min .ensures) (c .before .spread-word .ensures) (c .put-lanes .ensures .1) (l .inv .2),
     )
 
 returns : tie.Need-returns Inv-loop μ-loop
 returns c =
     let l = c .before .loop in
     let reverse = c .before .before .byte-at in
-    let first = c .before .before .before .before .wide64 in
+    let first = c .before .before .before .before .u8-to-u64 in
     let s = c .before .before .before .before .before .before .before in
     let a = s .args in (
       omega arith,
       looked-round (a .w .now) (a .n) (a .counter) (a .reversed) (first .result) (reverse .result) (omega arith) (omega arith) (omega arith) (omega arith) (s .pre .1 .0)
-          (first .ensures) (reverse .ensures .0) (l .j) (l .out) (omega arith) (l .inv .2),
+          (first .ensures .0) (reverse .ensures .0) (l .j) (l .out) (omega arith) (l .inv .2),
     )
 
 pub round-spec : {M : Type 1} → statement M
