@@ -294,7 +294,7 @@ pub fn hash_list(
     before: &[u8],
 ) -> (u32, Vec<u8>) {
     let mut out = before.to_vec();
-    let result = segments::digest_list(variant, list, buffer, wanted != 0, &mut out);
+    let result = segments::hash_list(variant, list, buffer, wanted != 0, &mut out);
     only_read(&[list, buffer], || {
         expect_bytes(before, (answer(result), out), |out| {
             wickslate::hash_list(variant, list, buffer, wanted, out)

@@ -11,7 +11,7 @@ use wickslate_reference::manifest::{held, list_of, Record};
 use wickslate_reference::VARIANTS;
 
 /// As many records as can be.
-const MOST_BYTES: usize = 17_920;
+const MAX_BYTES: usize = 17_920;
 
 /// Sound records of these axes, in this order. Behind the digest there is room
 /// for a wrong byte.
@@ -104,13 +104,13 @@ fn the_longest_manifest() {
         (of_axes((0..1024).rev()), 14),
     ] {
         for (bytes, expected) in [
-            (MOST_BYTES - 35, refusal),
-            (MOST_BYTES - 1, 12),
-            (MOST_BYTES, refusal),
-            (MOST_BYTES + 1, 12),
-            (MOST_BYTES + 34, 12),
-            (MOST_BYTES + 35, 12),
-            (2 * MOST_BYTES, 12),
+            (MAX_BYTES - 35, refusal),
+            (MAX_BYTES - 1, 12),
+            (MAX_BYTES, refusal),
+            (MAX_BYTES + 1, 12),
+            (MAX_BYTES + 34, 12),
+            (MAX_BYTES + 35, 12),
+            (2 * MAX_BYTES, 12),
         ] {
             assert_eq!(check_manifest(&long[..bytes]), expected, "{bytes} bytes");
         }

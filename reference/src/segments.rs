@@ -62,7 +62,7 @@ pub fn message(list: &[u8], buffer: &[u8]) -> Result<Vec<u8>, Refusal> {
 
 /// The digest, or the end state's image, of that message. Refusals 1, 9, 10,
 /// 11, 4 and 5.
-pub fn digest_list(
+pub fn hash_list(
     number: u32,
     list: &[u8],
     buffer: &[u8],

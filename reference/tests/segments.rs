@@ -1,7 +1,7 @@
 //! The message over a segment list: what it is made of, and what it tells
 //! apart.
 
-use wickslate_reference::segments::{digest_list, message};
+use wickslate_reference::segments::{hash_list, message};
 use wickslate_reference::{digest, message_check, Message, MESSAGE_LIMIT, VARIANTS};
 
 const SIX: &[u8] = &[0, 1, 2, 3, 4, 5];
@@ -56,7 +56,7 @@ fn the_result_is_that_of_the_message() {
     for variant in &VARIANTS {
         let number = variant.number;
         let mut out = vec![0; variant.digest_bytes()];
-        assert_eq!(digest_list(number, &list, SIX, false, &mut out), Ok(()));
+        assert_eq!(hash_list(number, &list, SIX, false, &mut out), Ok(()));
         assert_eq!(digest(number, &message), Ok(out), "{}", variant.name);
     }
 }
@@ -71,7 +71,7 @@ fn the_added_bytes_count() {
     assert!(message_check(1, Message::whole(&message)).is_ok());
     let longer = list(&[(0, MESSAGE_LIMIT as u32 - 9)]);
     assert_eq!(
-        digest_list(1, &longer, &buffer, false, &mut []),
+        hash_list(1, &longer, &buffer, false, &mut []),
         Err((4, None))
     );
 }

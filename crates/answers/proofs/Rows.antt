@@ -10,7 +10,7 @@ use native.Mathlib.Nat.{not-suc-le-zero, le-of-suc-le-suc, zero-lt-suc}
 use Rattle.answers.specs.declared.Refusal.{Refusal}
 use Rattle.answers.specs.declared.Status.{Status}
 use Rattle.answers.specs.declared.Status.the-variants.{Done, Refused}
-use Rattle.answers.specs.Checks.{Check, firstRefusal, each, Pass}
+use Rattle.answers.specs.Checks.{Check, firstRefusal, each}
 use Rattle.answers.specs.Outputs.{whenDone}
 use Rattle.answers.specs.Promises.{RefusedHere, PassedAll, PassingSays}
 use Rattle.answers.proofs.Statuses.{not-done, done-or, kept, both-done}

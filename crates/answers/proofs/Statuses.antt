@@ -12,7 +12,7 @@ use Rattle.answers.specs.declared.Refusal.{Refusal}
 use Rattle.answers.specs.declared.Refusal.the-variants.{UnknownVariant, Malformed, WrongStage, TooLong, OutputTooShort, BadImage, OutOfRange, NoBlock, BadList, Misordered, PastEnd, BadManifest, BadRecord, NotRising, BadBitNumber, InsideByte, NotSponge}
 use Rattle.answers.specs.declared.Status.{Status}
 use Rattle.answers.specs.declared.Status.the-variants.{Done, Refused}
-use Rattle.answers.specs.Refusals.{number, entry, answer}
+use Rattle.answers.specs.Refusals.{number, entry}
 use Rattle.answers.specs.Outputs.{whenDone}
 use Rattle.answers.specs.Promises.{AnswerTells, AnswerNumber, AnswerEntry}
 use Rattle.answers.proofs.Status as type

@@ -4,7 +4,6 @@ pub mod text;
 ghost use mathlib.Core.Path.{_≡_};
 ghost use Prim.Native.Nat.{_+_, _*_};
 ghost use Rattle.answers.specs.Refusals.{number, entry, answer};
-ghost use Rattle.bytes.specs.Numbers.{bigEndian, inBytes};
 ghost use Rattle.answers.specs.Outputs.{isDone};
 
 // The maximum length of a message, in bytes and in bits.

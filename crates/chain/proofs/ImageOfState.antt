@@ -11,7 +11,6 @@ use lib.Seq.{drop-at}
 use borrow.Author.Tests.{eq-eqb}
 use Rattle.standard.specs.Bits.{Order, bitsIn, unpack}
 use Rattle.standard.specs.Rounds.{opposite}
-use Rattle.standard.specs.declared.Direction.{Direction}
 use Rattle.standard.specs.Families.{Variant, isSponge, order, imageSize, imageOf, stateIn}
 use Rattle.standard.specs.Variants.{variant, known}
 use Rattle.standard.proofs.Tests.{either}

@@ -10,7 +10,7 @@ use native.Mathlib.Omega.{arith}
 use lib.Dec.{ltb, leb}
 use lib.ListN.{length, take, replicate, length-append, length-take}
 use lib.Seq.{take-length, take-at}
-use lib.Pow.{pow-pos, shl-lt, shl-exact}
+use lib.Pow.{shl-lt, shl-exact}
 use borrow.Author.Tests.{ltb-true, ltb-false, not-true, lt-ltb, le-ltb, leb-true, le-leb}
 use Rattle.answers.specs.declared.Refusal.the-variants.{UnknownVariant, TooLong, BadBitNumber}
 use Rattle.answers.specs.declared.Status.{Status}
@@ -20,7 +20,7 @@ use Rattle.answers.specs.Outputs.{whenDone, maxBytes, maxBits}
 use Rattle.answers.proofs.Rows.{passing-says, row-append, row-second, row-both}
 use Rattle.standard.specs.Bits.{high-first, lowBits, ordered, bitsOf, bitsIn, unpack}
 use Rattle.standard.specs.Families.{Variant}
-use Rattle.standard.specs.Messages.{byteBits, countedOf, messageBits, Given, bytes, partial, givenBits}
+use Rattle.standard.specs.Messages.{byteBits, countedOf, messageBits, Given, partial, givenBits}
 use Rattle.standard.specs.PartBytes.{beforeLast, lastOf}
 use Rattle.standard.specs.Variants.{variant, known}
 use Rattle.standard.proofs.Tests.{and-true, either, one-to-five, six-to-ten}

@@ -8,7 +8,7 @@ use Prim.Native.Nat.{ℕ, zero, suc, _+_, _-_, _*_, _/_, _%_, _≤_, _<_}
 use native.Mathlib.Nat.{not-suc-le-zero, le-of-suc-le-suc, add-mul-div-right, div-eq-of-lt, le-div-iff-mul-le, min-le-left, sub-zero, zero-mul}
 use native.Mathlib.Numerals.{add-one}
 use native.Mathlib.Omega.{arith}
-use lib.ListN.{length, take, drop, length-append, length-drop, length-take, length-replicate, replicate}
+use lib.ListN.{length, take, drop, length-append, length-drop, length-take, replicate}
 use lib.Seq.{length-take-le, take-add, take-all, take-take, take-append-le}
 use Rattle.standard.specs.Bits.{Order, high-first, bitsOf, bitsIn, pack, unpack, filled, bytesFor, turned}
 use Rattle.standard.proofs.Turned.{turned-high, turned-out, turned-zeros}

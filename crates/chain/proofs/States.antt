@@ -9,7 +9,6 @@ use native.Mathlib.Omega.{arith}
 use lib.ListN.{length, getD}
 use Rattle.standard.specs.Bits.{Order, high-first, bitsIn, xorInto, turned}
 use Rattle.standard.specs.declared.Direction.the-variants.{Backward}
-use Rattle.standard.specs.Sponge.{permutation}
 use Rattle.standard.specs.Families.{Variant, isSponge, order, stateIn}
 use Rattle.standard.specs.Variants.{variant, known}
 use Rattle.standard.proofs.BitLaws.{length-unpack}

@@ -2,13 +2,12 @@
 ghost use mathlib.Core.Path.{_≡_};
 ghost use mathlib.Core.Bool.{true};
 ghost use mathlib.Core.List.{_++_};
-ghost use Prim.Native.Nat.{_+_, _-_, _%_, _≤_};
-ghost use lib.ListN.{length, take, drop, replicate};
-ghost use Rattle.standard.specs.Bits.{high-first, bitsIn};
+ghost use Prim.Native.Nat.{_-_, _≤_};
+ghost use lib.ListN.{length, replicate};
 ghost use Rattle.standard.specs.declared.Direction.the-variants.{Forward, Backward};
 ghost use Rattle.standard.specs.Families.{isSponge, imageOf, stateIn};
 ghost use Rattle.standard.specs.Variants.{variant, known};
-ghost use Rattle.standard.specs.Layout.{stateRoom, clear};
+ghost use Rattle.standard.specs.Layout.{stateRoom};
 ghost use Rattle.chain.specs.TakenBack.{permutedState};
 ghost use Rattle.chain.specs.Images.{isImage, imageStatus, permutedImage};
 use crate::sizes;

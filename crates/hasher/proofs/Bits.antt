@@ -3,19 +3,16 @@
 use mathlib.Core.Path.{_≡_, sym, ap, ap₂, _∙_}
 use mathlib.Core.Bool.{Bool}
 use mathlib.Core.List.{List, _++_}
-use Prim.Native.Nat.{ℕ}
 use lib.ListN.{length}
 use Rattle.standard.specs.Chain.{endState}
-use Rattle.standard.specs.Messages.{Given, givenBits}
+use Rattle.standard.specs.Messages.{givenBits}
 use Rattle.standard.specs.Variants.{variant}
 use Rattle.answers.specs.declared.Status.{Status}
 use Rattle.answers.specs.Checks.{firstRefusal}
 use Rattle.answers.specs.Outputs.{whenDone, written}
 use Rattle.answers.proofs.Rows.{row-append}
-use Rattle.chain.specs.Messages.{numberChecks, messageChecks, Alike}
+use Rattle.chain.specs.Messages.{numberChecks, messageChecks}
 use Rattle.chain.proofs.MessageLaws.{alike-row, alike-asked}
-use Rattle.hasher.specs.declared.Hasher.{Hasher}
-use Rattle.standard.specs.declared.Wanted.{Wanted}
 use Rattle.hasher.specs.Running.{variantOf, grown, openChecks, followChecks, updateChecks, updated}
 use Rattle.hasher.specs.Reading.{resultOf, roomChecks, hashStatus, hashInto}
 use Rattle.hasher.specs.Promises.{UpdateAlike, WholeAlike}

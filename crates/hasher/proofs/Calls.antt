@@ -4,12 +4,12 @@ use mathlib.Core.Path.{_≡_, sym, ap, _∙_, ap₂, subst}
 use mathlib.Core.Bool.{true, false, Bool}
 use mathlib.Core.List.{List, _++_}
 use mathlib.Core.Logic.{⊎-elim}
-use Prim.Native.Nat.{ℕ, _+_, _-_, _*_, _≤_, _<_, _/_, _%_}
+use Prim.Native.Nat.{ℕ, _+_, _*_, _≤_, _<_, _/_, _%_}
 use lib.Dec.{ltb}
 use lib.ListN.{length, take, drop}
 use borrow.Author.Tests.{ltb-false, not-true, lt-ltb, le-ltb, eqb-true}
 use native.Mathlib.Omega.{arith}
-use Rattle.standard.specs.Chain.{run, endState, givenOut}
+use Rattle.standard.specs.Chain.{endState, givenOut}
 use Rattle.standard.specs.Messages.{Given, givenBits}
 use Rattle.standard.specs.Variants.{known, variant}
 use Rattle.answers.specs.declared.Refusal.{Refusal}

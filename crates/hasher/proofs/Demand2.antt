@@ -1,13 +1,13 @@
 -- Demand 2: for each variant, a message taken in any pieces gives the standard's digest and end state, and so does the whole-message operation.
 -- Assumes nothing.
-use mathlib.Core.Path.{_≡_, refl, sym, ap, ap₂, _∙_, subst}
+use mathlib.Core.Path.{_≡_, refl, sym, ap, _∙_, subst}
 use mathlib.Core.Bool.{Bool, true, false}
-use mathlib.Core.List.{List, [], _∷_, _++_, flatMap, map, append-assoc, append-nil}
+use mathlib.Core.List.{List, [], _∷_, _++_, flatMap, append-assoc, append-nil}
 use mathlib.Core.Logic.{⊎-elim}
-use Prim.Native.Nat.{ℕ, zero, suc, _+_, _*_, _%_, _≤_, _<_, zero-le}
+use Prim.Native.Nat.{ℕ, zero, suc, _+_, _%_, _≤_, _<_, zero-le}
 use native.Mathlib.Nat.{le-trans}
 use native.Mathlib.Omega.{arith}
-use lib.ListN.{length, take, drop, length-append}
+use lib.ListN.{length, take, length-append}
 use borrow.Author.Tests.{eqb-true, eq-eqb}
 use Rattle.standard.specs.Bits.{high-first, bitsIn}
 use Rattle.standard.specs.Families.{Variant}
@@ -20,18 +20,18 @@ use Rattle.answers.specs.declared.Refusal.{Refusal}
 use Rattle.answers.specs.declared.Refusal.the-variants.{UnknownVariant, TooLong}
 use Rattle.answers.specs.declared.Status.{Status}
 use Rattle.answers.specs.declared.Status.the-variants.{Done, Refused}
-use Rattle.answers.specs.Outputs.{whenDone, written, maxBytes, maxBits}
+use Rattle.answers.specs.Outputs.{whenDone, written, maxBits}
 use Rattle.answers.proofs.Statuses.{not-done, kept}
 use Rattle.answers.proofs.Rows.{refused-first}
 use Rattle.chain.specs.Messages.{Fits, messageChecks}
-use Rattle.chain.proofs.MessageLaws.{message-long, message-unknown}
+use Rattle.chain.proofs.MessageLaws.{message-long}
 use Rattle.hasher.specs.declared.Hasher.{Hasher}
 use Rattle.hasher.specs.declared.Advanced.{Advanced}
 use Rattle.standard.specs.declared.Wanted.{Wanted}
 use Rattle.standard.specs.declared.Wanted.the-variants.{Digest}
 use Rattle.hasher.specs.Running.{variantOf, wholeSoFar, blank, fresh, grown, ended, started, updated, finished}
 use Rattle.hasher.specs.ForCode.{Open}
-use Rattle.hasher.specs.Reading.{resultOf, resultSize, roomChecks, readStatus, readInto, hashStatus, hashInto}
+use Rattle.hasher.specs.Reading.{resultOf, roomChecks, readStatus, readInto, hashStatus, hashInto}
 use Rattle.hasher.specs.Pieces.{joinedBits, Cut, plain, joined, andThen, allUpdated, hashed, thenStatus, thenInto, hashedStatus, hashedInto, Reads, Hashes}
 use Rattle.hasher.specs.Promises.{Demand2, Demand2Bytes, WholeIsPieces, WholeIsPiecesBytes, WholeDigest}
 use Rattle.hasher.specs.Sized.{Sized}

@@ -7,9 +7,7 @@ use mathlib.Core.Logic.{⊎-elim}
 use Prim.Native.Nat.{ℕ, _+_, _≤_}
 use lib.ListN.{length}
 use Rattle.standard.specs.Messages.{Given, givenBits}
-use Rattle.standard.specs.Variants.{known}
 use Rattle.answers.specs.declared.Status.{Status}
-use Rattle.answers.specs.declared.Status.the-variants.{Done}
 use Rattle.answers.specs.Checks.{firstRefusal}
 use Rattle.answers.specs.Outputs.{whenDone, maxBits}
 use Rattle.answers.proofs.Statuses.{done-or, kept}

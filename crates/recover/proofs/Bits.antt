@@ -2,7 +2,6 @@
 use mathlib.Core.Path.{_≡_, sym, ap, ap₂, _∙_}
 use mathlib.Core.Bool.{Bool}
 use mathlib.Core.List.{List, _++_}
-use Prim.Native.Nat.{ℕ}
 use lib.ListN.{length}
 use Rattle.answers.specs.declared.Status.{Status}
 use Rattle.answers.specs.Checks.{Check, firstRefusal}
@@ -11,7 +10,7 @@ use Rattle.answers.proofs.Rows.{row-append}
 use Rattle.standard.specs.Chain.{blockCount}
 use Rattle.standard.specs.Messages.{Given, givenBits}
 use Rattle.standard.specs.Variants.{variant}
-use Rattle.chain.specs.Messages.{messageChecks, Alike}
+use Rattle.chain.specs.Messages.{messageChecks}
 use Rattle.chain.proofs.MessageLaws.{alike-asked}
 use Rattle.recover.specs.Recovering.{placedChecks, foundChecks, recoveredBlock, recoverStatus, recoverInto}
 use Rattle.recover.specs.Promises.{RecoverAlike}

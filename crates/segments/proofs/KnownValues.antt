@@ -1,6 +1,6 @@
 -- Every known value of the papers is what the definitions give: one statement for the one list.
 -- Assumes nothing.
-use mathlib.Core.Path.{_≡_, refl}
+use mathlib.Core.Path.{refl}
 use mathlib.Core.List.{_++_, flatMap}
 use native.Mathlib.Omega.{arith}
 use Rattle.bytes.specs.Numbers.{bigEndian, inBytes}

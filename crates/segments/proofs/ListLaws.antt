@@ -21,7 +21,7 @@ use Rattle.answers.proofs.Statuses.{not-done}
 use Rattle.answers.proofs.Rows.{by-ways, each-done, done-each, each-first, First, first-of}
 use Rattle.standard.specs.Grid.{tab}
 use Rattle.standard.proofs.Tab.{tab-snoc}
-use Rattle.segments.specs.Entries.{lengthOf, endOf, formerEnd, isList, count, segmentIn, entryChecks, segmentStatus, segmentOf, entriesStatus, segmentsOf, headerOf, messageOf}
+use Rattle.segments.specs.Entries.{lengthOf, endOf, formerEnd, isList, count, segmentIn, entryChecks, segmentOf, entriesStatus, segmentsOf, headerOf, messageOf}
 use Rattle.segments.specs.Cuts.{StopsAt, totalUpTo, totalOf}
 use Rattle.segments.specs.Promises.{PassedEntries, EntriesPassed, RefusedEntry, EntryRefused, SegmentsLength, SegmentsWithin}
 use Rattle.segments.proofs.EntryLaws.{Fits, entry-fits, segment-checked, segment-entry}

@@ -3,32 +3,30 @@
 use mathlib.Core.Path.{_≡_, refl, sym, ap, ap₂, _∙_, subst}
 use mathlib.Core.List.{List, _++_, append-assoc, flatMap}
 use mathlib.Core.Logic.{⊎-elim}
-use Prim.Native.Nat.{ℕ, zero, suc, _+_, _-_, _≤_, _<_, _*_}
+use Prim.Native.Nat.{ℕ, zero, suc, _+_, _-_, _≤_, _<_}
 use native.Mathlib.Nat.{not-suc-le-zero, le-of-suc-le-suc, eq-or-lt-of-le}
 use native.Mathlib.Omega.{arith}
 use lib.ListN.{length, take, drop, length-append, length-take, length-drop}
 use lib.Seq.{drop-append-add, take-add, drop-drop, take-at, drop-at}
-use mathlib.Core.Bool.{true}
 use Rattle.answers.specs.declared.Status.the-variants.{Done}
 use Rattle.bytes.specs.Numbers.{Bytes, inBytes}
 use Rattle.answers.proofs.Rows.{done-each}
 use Rattle.bytes.proofs.ByteLaws.{take-bytes, drop-bytes, append-bytes, number-bytes}
-use Rattle.standard.specs.Values.{DifferWithin, inOneBlock}
+use Rattle.standard.specs.Values.{DifferWithin}
 use Rattle.standard.proofs.CutLaws.{take-drop-take}
 use Rattle.standard.proofs.OneValue.{differ-part, differ-append, differ-behind, one-changed-row}
-use Rattle.standard.specs.Families.{isSponge, imageSize}
+use Rattle.standard.specs.Families.{imageSize}
 use Rattle.standard.specs.Bits.{high-first}
-use Rattle.standard.specs.Chain.{blocksOf, DifferAt, endState}
 use Rattle.standard.specs.Messages.{byteBits, bytes}
 use Rattle.standard.proofs.BitLaws.{length-bitsIn}
 use Rattle.standard.specs.Variants.{variant}
 use Rattle.standard.specs.declared.Wanted.the-variants.{EndState}
-use Rattle.hasher.specs.Apart.{Differ, ToldApart}
+use Rattle.hasher.specs.Apart.{ToldApart}
 use Rattle.hasher.proofs.Apart.{row-told, block-told, value-told}
 use Rattle.segments.specs.Entries.{offsetOf, lengthOf, endOf, formerEnd, count, segmentIn, entryChecks, entriesStatus, segmentsOf, headerOf, messageOf}
 use Rattle.segments.specs.Cuts.{joinedPlace, Names, Apart}
 use Rattle.segments.specs.Promises.{ListRowTold, ListBlockTold, ListValueTold}
-use Rattle.segments.specs.Digests.{listStatus, listInto}
+use Rattle.segments.specs.Digests.{listStatus}
 use Rattle.segments.proofs.EntryLaws.{Fits, entry-fits}
 use Rattle.segments.proofs.ListLaws.{segmentsUpTo, segments-suc, passed-up-to-length, same-up-to}
 use Rattle.segments.proofs.DigestLaws.{Accepted, accepted, list-whole-into}

@@ -2,7 +2,7 @@
 // the nibbles of a byte and moves its bits at once. What lies in the words past the state is never read.
 ghost use mathlib.Core.Path.{_≡_};
 ghost use mathlib.Core.List.{_++_};
-ghost use Prim.Native.Nat.{ℕ, min, _+_, _-_, _*_, _/_, _%_, _^_, _<_, _≤_};
+ghost use Prim.Native.Nat.{ℕ, _+_, _-_, _*_, _/_, _%_, _^_, _<_, _≤_};
 ghost use lib.Bits.{bitXor};
 ghost use lib.ListN.{length, getD, set, take, drop, replicate};
 ghost use Rattle.standard.specs.Bits.{low-first, high-first, bitsIn, pack, unpack, xorInto};

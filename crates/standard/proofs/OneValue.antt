@@ -2,7 +2,7 @@
 -- Assumes nothing.
 use mathlib.Core.Path.{_≡_, refl, sym, ap, ap₂, _∙_}
 use mathlib.Core.Bool.{Bool, true}
-use mathlib.Core.List.{List, [], _∷_, _++_, map, tail}
+use mathlib.Core.List.{List, [], _++_}
 use mathlib.Core.Logic.{_⊎_, inl, inr, ⊎-elim}
 use Prim.Native.Nat.{ℕ, _+_, _-_, _*_, _/_, _%_, _≤_, _<_}
 use native.Mathlib.Nat.{add-comm, div-add-mod', mul-comm, mul-assoc, lt-of-mul-lt-mul-right, add-mul-mod-self-right}
@@ -15,9 +15,9 @@ use Rattle.standard.specs.Bits.{high-first, pack}
 use Rattle.standard.specs.Families.{Variant, isSponge}
 use Rattle.standard.specs.Chain.{startState, padding, padded, wholeBlocks, blocksOf, DifferAt, endState}
 use Rattle.standard.specs.Messages.{byteBits}
-use Rattle.standard.specs.Variants.{variants, variant, known}
+use Rattle.standard.specs.Variants.{variant, known}
 use Rattle.standard.specs.Promises.{OneChangedRow, OneChangedPart, InOneBlockMod, TwoByteValues}
-use Rattle.standard.specs.Values.{DifferWithin, inOneBlock, period, offsets, oneBlockOffsets}
+use Rattle.standard.specs.Values.{DifferWithin, inOneBlock, period, offsets}
 use Rattle.standard.proofs.Tests.{lt-or-le, either}
 use Rattle.standard.proofs.BitLaws.{length-bitsIn, pack-bitsIn, bitsIn-take, bitsIn-drop}
 use Rattle.standard.proofs.CutLaws.{cut-at, cut-fits, take-drop-take}

@@ -2,15 +2,18 @@
 use mathlib.Core.Path.{_≡_, sym, ap, _∙_}
 use mathlib.Core.List.{List, [], _∷_, _++_, foldl-append}
 use Prim.Native.Nat.{ℕ, _+_, _-_, _*_, _/_, _%_, _<_}
-use native.Mathlib.Nat.{add-mul-mod-self-left}
+use native.Mathlib.Nat.{zero-add, add-mul-mod-self-left}
 use native.Mathlib.Numerals.{add-one}
 use native.Mathlib.Omega.{arith}
 use lib.ListN.{length, getD, set, take, drop}
-use lib.Seq.{take-suc}
+use lib.Seq.{take-suc, paste-suc}
 use Rattle.standard.proofs.Tab.{length-tab, getD-tab}
 use Rattle.bytes.specs.Text.{fromDecimal}
-use Rattle.bytes.proofs.Front.{front-more}
 use Rattle.vectors.specs.Words.{pairValue, saidBytes}
+
+-- one element more over the front
+front-more : (d s : List ℕ) (i : ℕ) → i < length d → i < length s → set (take i s ++ drop i d) i (getD s i 0) ≡ take (i + 1) s ++ drop (i + 1) d
+front-more d s i hd hs = rw add-one (simp zero-add at (paste-suc d 0 s i 0 (rw zero-add hd) hs))
 
 -- one decimal digit more
 digit-more : (word : List ℕ) (i : ℕ) → i < length word → fromDecimal (take (i + 1) word) ≡ fromDecimal (take i word) * 10 + (getD word i 0 - 48)

@@ -3,7 +3,7 @@
 
 use super::whole::add_whole;
 use super::{hexadecimal, lent, name, status, Cases};
-use crate::segments::{digest_list, segment};
+use crate::segments::{hash_list, segment};
 
 /// The buffer of every list.
 const SIX: &[u8] = &[0x10, 0x11, 0x12, 0x13, 0x14, 0x15];
@@ -52,7 +52,7 @@ fn add_segment(cases: &mut Cases, list: &[u8], k: usize) {
 fn add_digest(cases: &mut Cases, image: bool, number: u32, list: &[u8], bytes: usize) {
     let before = lent(bytes);
     let mut out = before.clone();
-    let status = status(&digest_list(number, list, SIX, image, &mut out));
+    let status = status(&hash_list(number, list, SIX, image, &mut out));
     let name = name(image);
     let [list, buffer, before, out] = [list, SIX, &before, &out].map(hexadecimal);
     cases.add(

@@ -1,5 +1,5 @@
 -- `segments::check_entry` meets its contract: the checks of a step, then those of the entry. Assumes nothing.
-use mathlib.Core.Path.{_≡_, sym, _∙_}
+use mathlib.Core.Path.{sym, _∙_}
 use borrow.Author.Needs.{needs}
 use Rattle.answers.proofs.Rows.{refused-first, row-second}
 use Rattle.segments.specs.Entries.{stepChecks, entryChecks, segmentChecks}

@@ -1,5 +1,5 @@
 -- `segments::entry_at` meets its contract: refusals 9, 7, then the entry's two numbers. Assumes nothing.
-use mathlib.Core.Path.{_≡_, sym, _∙_}
+use mathlib.Core.Path.{sym, _∙_}
 use native.Mathlib.Omega.{arith}
 use borrow.Author.Needs.{needs}
 use Rattle.segments.specs.Steps.{foundAt}

@@ -1,6 +1,6 @@
 -- `segments::message_length` meets its contract: the sum is that of the header and the first k lengths. Assumes nothing.
 use mathlib.Core.List.{sum}
-use mathlib.Core.Path.{_≡_, refl, ap, _∙_}
+use mathlib.Core.Path.{_≡_, ap, _∙_}
 use Prim.Native.Nat.{_+_, _*_, _-_, _≤_}
 use native.Mathlib.Omega.{arith}
 use lib.ListN.{length}

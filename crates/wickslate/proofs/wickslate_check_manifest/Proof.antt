@@ -7,7 +7,7 @@ use Rattle.wickslate.proofs.wickslate_check_manifest.Statement.{stateme
 use Rattle.wickslate.proofs.wickslate_check_manifest.Tie as tie
 
 returns : tie.Need-returns
-returns c = c .answer-of .ensures ∙ ap answer (c .before .check-entry .ensures)
+returns c = c .answer-of .ensures ∙ ap answer (c .before .check .ensures)
 
 pub wickslate-check-manifest-spec : {M : Type 1} → statement M
 wickslate-check-manifest-spec = tie.close (tie.spec (λ c κs. search needs) (λ c κs. search needs) returns)

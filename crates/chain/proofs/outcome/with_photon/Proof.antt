@@ -1,6 +1,5 @@
 -- `chain::outcome::with_photon` meets its contract: the table is by the width of the cells. Assumes nothing.
 use native.Mathlib.Omega.{arith}
-use borrow.Author.Needs.{needs}
 use Rattle.chain.proofs.outcome.with_photon.Statement.{statement}
 use Rattle.chain.proofs.outcome.with_photon.Tie as tie
 

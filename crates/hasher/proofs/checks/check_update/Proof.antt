@@ -8,10 +8,9 @@ use Rattle.answers.specs.declared.Status.the-variants.{Done}
 use Rattle.answers.specs.Checks.{firstRefusal}
 use Rattle.answers.proofs.Rows.{refused-first, row-second}
 use Rattle.standard.specs.Messages.{Given, givenBits}
-use Rattle.chain.specs.Messages.{numberChecks, Fits}
+use Rattle.chain.specs.Messages.{numberChecks}
 use Rattle.chain.specs.MessageBytes.{given}
 use Rattle.hasher.specs.Running.{variantOf, openChecks, followChecks}
-use Rattle.hasher.specs.ForCode.{Open}
 use Rattle.hasher.proofs.WellFormed.{facts}
 use Rattle.hasher.proofs.Calls.{open-says, update-answer, same-room}
 use Rattle.hasher.proofs.checks.check_update.Statement.{statement}

@@ -1,5 +1,5 @@
 -- `hasher::whole::end_of_given` meets its contract: one run over the bytes that hold the message and the 1 bit. Assumes nothing.
-use mathlib.Core.Path.{_≡_, sym, ap, _∙_}
+use mathlib.Core.Path.{sym, ap, _∙_}
 use mathlib.Core.Bool.{Bool}
 use mathlib.Core.List.{List}
 use native.Mathlib.Omega.{arith}

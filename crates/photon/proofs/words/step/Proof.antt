@@ -1,6 +1,6 @@
 -- `photon::words::step` meets its contract: each variant's cells are added to their rows, and its rounds run. Assumes nothing.
 use mathlib.Core.Path.{_≡_, refl}
-use Prim.Native.Nat.{_+_, _/_, _%_, _≤_}
+use Prim.Native.Nat.{_+_, _/_, _%_}
 use native.Mathlib.Omega.{arith}
 use lib.Dec.{lit<, lit≤}
 use Rattle.standard.specs.Variants.{variant}
