@@ -14,7 +14,7 @@ pub fn number(n: u64) {
     io::print_decimal(STDOUT_FILENO, n);
 }
 
-// A number in hexadecimal, with at least `digits` digits.
+// A number in hexadecimal, with at least `width` digits.
 pub fn word(n: u64, width: usize) {
     text(b" ");
     io::print_hex(STDOUT_FILENO, n, width);

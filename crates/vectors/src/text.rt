@@ -7,6 +7,7 @@ ghost use lib.ListN.{length, take, drop};
 ghost use Rattle.io.specs.Counts.{Counts};
 ghost use Rattle.bytes.specs.Text.{fromDecimal};
 ghost use Rattle.vectors.specs.Words.{digitValue, pairValue, saidBytes};
+use bytes::compare;
 use chain::message::Ending;
 
 // The maximum number of bytes that a word says.
@@ -66,14 +67,7 @@ fn is_same(a: &[u8], b: &[u8]) -> bool {
     if a.len() != b.len() {
         return false;
     }
-    let mut i = 0;
-    while i < b.len() {
-        if a[i] != b[i] {
-            return false;
-        }
-        i += 1;
-    }
-    true
+    compare::is_same(a, b)
 }
 
 // What a digit says, or 16 if it is none.
@@ -95,12 +89,12 @@ fn value(c: u8) -> u8
     16
 }
 
-// Whether a word has digits of this base alone, one at least and not more than this.
-fn has_digits(word: &[u8], base: u8, most: usize) -> bool {
+// Whether a word has digits of this base alone, one at least and at most `max`.
+fn has_digits(word: &[u8], base: u8, max: usize) -> bool {
     if word.len() == 0 {
         return false;
     }
-    if most < word.len() {
+    if max < word.len() {
         return false;
     }
     let mut i = 0;
@@ -205,17 +199,11 @@ fn byte_of(upper: u8, lower: u8) -> u8
     value(upper) % 16 * 16 + value(lower) % 16
 }
 
-fn least(a: usize, b: usize) -> usize
-    ensures { λ r. ⌜ (r ≤ a) × (r ≤ b) ⌝ }
-{
-    if a < b { a } else { b }
-}
-
 fn bytes_in(word: &[u8], out: &mut [u8]) -> usize
     ensures { λ r. ⌜ (now (out .exit) ≡ take r (saidBytes (now (word .entry))) ++ drop r (now (out .entry)))
         × Counts r (now (out .exit)) ⌝ }
 {
-    let n = least(word.len() / 2, out.len());
+    let n = compare::min(word.len() / 2, out.len());
     let mut i = 0;
     while i < n {
         out[i] = byte_of(word[2 * i], word[2 * i + 1]);
