@@ -1,4 +1,6 @@
 // What a call answers: Done, or the one refusal whose condition holds and whose earlier checks passed.
+#![tactic(auto)]
+
 pub mod text;
 
 ghost use Rattle.std.specs.Prelude.{◌≡◌, ◌+◌, ◌*◌};

@@ -1,5 +1,7 @@
 // The chain of every variant on bytes: sizes, states, rows of blocks, padding, messages and the squeezed digest; and
 // the permutation on an image that a caller lends.
+#![tactic(auto)]
+
 pub mod blocks;
 pub mod images;
 pub mod message;

@@ -1,6 +1,8 @@
 // Reads a variant byte and then a message from standard input to its end, and prints the message's digest in lower-case
 // hexadecimal or, if a call is refused, "refused" and the number. The message is read in pieces and never held.
 // What is read and what is printed is up to these functions; all else is in `input` and `text`, under equations.
+#![tactic(auto)]
+
 mod input;
 mod text;
 

@@ -1,4 +1,6 @@
 // The running hash by value: start, update, finish, digest and end state, and the whole message in one call.
+#![tactic(auto)]
+
 ghost use Rattle.std.specs.Prelude.{◌≡◌, true};
 ghost use Rattle.standard.specs.Variants.{known};
 ghost use Rattle.hasher.specs.Running.{held_count, well_formed};

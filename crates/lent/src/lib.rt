@@ -1,4 +1,6 @@
 // Calls over a running hash that the caller lends and finds advanced, and the cursor that carries a lent segment list.
+#![tactic(auto)]
+
 ghost use Rattle.std.specs.Prelude.{◌≡◌, length};
 ghost use Rattle.standard.specs.Messages.{bytes, partial};
 ghost use Rattle.hasher.specs.Running.{started_over, updated, finished};

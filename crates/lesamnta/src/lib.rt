@@ -1,5 +1,7 @@
 // Lesamnta-LW (6.2), the variant 11: its block cipher, and the cipher's inverse under a key, by value. `words` has the
 // rounds by look-ups and the block step, for hashing.
+#![tactic(auto)]
+
 ghost use Rattle.std.specs.Prelude.{◌≡◌, ◌≤◌, length, take};
 ghost use Rattle.standard.specs.Bits.{high_first, bits_in, pack};
 ghost use Rattle.standard.specs.declared.Direction.TheVariants.{Forward, Backward};

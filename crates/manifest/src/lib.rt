@@ -1,4 +1,6 @@
 // Manifests: which table each axis of an installation should hold, and a report of the tables that it does hold.
+#![tactic(auto)]
+
 mod current;
 mod records;
 mod report;

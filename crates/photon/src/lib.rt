@@ -1,5 +1,7 @@
 // PHOTON (5.2): its parameters by a variant's number, 1 to 5. The permutation by the standard's steps is in `steps`,
 // the block step by look-ups in `words`.
+#![tactic(auto)]
+
 ghost use Rattle.std.specs.Prelude.{◌≡◌, ℕ, ◌-◌, ◌≤◌, ◌<◌, get_or};
 ghost use Rattle.standard.specs.Rounds.{in_turn};
 ghost use Rattle.standard.specs.ForCode.{cells};

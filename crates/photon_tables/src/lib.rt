@@ -1,4 +1,6 @@
 // The combined tables of PHOTON: S-box and column step of a cell in one look-up.
+#![tactic(auto)]
+
 ghost use Rattle.standard.specs.Variants.{photon100, photon144, photon196, photon256, photon288};
 ghost use Rattle.photon_tables.specs.Tables.{Entries};
 

@@ -1,6 +1,8 @@
 // The block of a message that leads to a given end state: the state is run forward to its place, the end state of a
 // sponge back to it. The inner functions take a message as its whole bytes, a last byte with the rest of its bits and
 // the padding's 1 bit, and the number of its bits.
+#![tactic(auto)]
+
 ghost use Rattle.std.specs.Prelude.{◌≡◌, true, ◌++◌, ◌<◌, length, drop, replicate};
 ghost use Rattle.standard.specs.Families.{is_sponge, state_in};
 ghost use Rattle.standard.specs.Chain.{blocks_of, block_count};

@@ -2,6 +2,8 @@
 // counts of the report, a line each, or, if the manifest is refused, "refused" and the number. The tables are read in
 // pieces and never held. These functions open, read and write; what they make of it is in `input` and `text`, under
 // equations.
+#![tactic(auto)]
+
 mod input;
 mod text;
 

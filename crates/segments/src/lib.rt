@@ -1,5 +1,7 @@
 // Lists of segments of a buffer: an entry by its number, its check, the segment that it names, and the digest over all
 // of them.
+#![tactic(auto)]
+
 ghost use Rattle.std.specs.Prelude.{◌≡◌, true, ◌+◌, ◌*◌, ◌≤◌, ◌<◌, length};
 ghost use Rattle.standard.specs.Messages.{bytes};
 ghost use Rattle.answers.specs.declared.Status.TheVariants.{Done};

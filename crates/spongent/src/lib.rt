@@ -1,5 +1,6 @@
 // SPONGENT (5.3), the variants 6 to 10: its parameters. `steps` has the permutation and its inverse by the standard's
 // steps, `words` the block step by look-ups, for hashing.
+#![tactic(auto)]
 
 pub mod steps;
 mod tables; // what a byte gives through the S-box, written by scripts/tables

@@ -1,4 +1,5 @@
 // The two choices that definitions and code share. Everything else here is definitions and theorems.
+#![tactic(auto)]
 
 // A permutation or a cipher itself, or its inverse.
 #[derive(Drop)]

@@ -1,4 +1,6 @@
 // Makes the calls that standard input lists, one a line, and prints each line with an arrow and the answer after it.
+#![tactic(auto)]
+
 mod calls;
 mod show;
 mod text;

@@ -1,6 +1,8 @@
 // The functions that other languages call, with numbers, slices and the running hash.
 // Each answers with one number: 0 if it is done, otherwise the number of the refusal in the low byte, and above it the
 // entry that the refusal names. The two functions of the cipher are never refused, and answer nothing.
+#![tactic(auto)]
+
 ghost use Rattle.std.specs.Prelude.{◌≡◌, length};
 ghost use Rattle.standard.specs.declared.Direction.TheVariants.{Forward, Backward};
 ghost use Rattle.lesamnta.specs.Cipher.{ciphered};
