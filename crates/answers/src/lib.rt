@@ -13,7 +13,7 @@ pub const MAX_MESSAGE_BYTES: usize = 16777215;
 pub const MAX_MESSAGE_BITS: u32 = 134217720;
 
 // Why a call was refused. The two of an entry name it.
-#[derive(Drop)]
+#[derive(Clone, Copy)]
 pub enum Refusal {
     UnknownVariant,
     Malformed,
@@ -34,7 +34,7 @@ pub enum Refusal {
     NotSponge,
 }
 
-#[derive(Drop)]
+#[derive(Clone, Copy)]
 pub enum Status {
     Done,
     Refused(Refusal),

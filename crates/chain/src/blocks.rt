@@ -12,7 +12,7 @@ use crate::sizes::BLOCK_BYTES;
 use crate::{sizes, state};
 
 // Bits of a message that wait for a block: the first nibbles of the bytes.
-#[derive(Drop)]
+#[derive(Clone, Copy)]
 pub struct Held {
     pub bytes: [u8; BLOCK_BYTES],
     pub nibbles: usize,

@@ -25,7 +25,7 @@ pub fn is_bit_number(bits: u32, n: usize) -> bool
 }
 
 // Which bits of a message's last byte count: all of them, or as many as are said.
-#[derive(Drop)]
+#[derive(Clone, Copy)]
 pub enum Ending {
     Whole,
     Bits(u32),

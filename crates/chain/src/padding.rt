@@ -44,7 +44,7 @@ pub fn last_byte(held: [u8; BLOCK_BYTES], c: usize) -> u8
 
 // A message as the code holds it: its first `front` bytes are whole, the byte after them has the rest of its bits and
 // the padding's 1 bit, and it has `bits` bits.
-#[derive(Drop)]
+#[derive(Clone, Copy)]
 pub struct Split {
     pub front: usize,
     pub last: u8,

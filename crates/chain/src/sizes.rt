@@ -30,7 +30,7 @@ const SIZES: [[u32; 4]; 12] = [
     [256, 128, 0, 256],
 ];
 
-#[derive(Drop)]
+#[derive(Clone, Copy)]
 struct Sizes {
     state: u32,
     block: u32,
@@ -58,7 +58,7 @@ pub fn is_sponge(v: u8) -> bool
 }
 
 // The families. What depends on them is in `state`.
-#[derive(Drop)]
+#[derive(Clone, Copy)]
 pub enum Family {
     Photon,
     Spongent,

@@ -7,7 +7,7 @@ use hasher::Advanced;
 
 // How the input stands after a read of it: what the call answered that took what was read, whether a further read
 // follows, and whether this one failed.
-#[derive(Drop)]
+#[derive(Clone, Copy)]
 pub struct Fed {
     pub answer: Advanced,
     pub more: bool,

@@ -21,7 +21,7 @@ pub use whole::{hash, hash_bits, hash_with};
 // Any bytes are one. Stage 0 is open, 1 is closed. The total counts bits. The state is an image at the front of its
 // bytes; the held bits are those of the message so far that fill no block.
 #[repr(C)]
-#[derive(Drop)]
+#[derive(Clone, Copy)]
 pub struct Hasher {
     pub total: u32,
     pub variant: u8,
@@ -31,7 +31,7 @@ pub struct Hasher {
 }
 
 // The answer of a call that gives a running hash: with a refusal, the one that it was given.
-#[derive(Drop)]
+#[derive(Clone, Copy)]
 pub struct Advanced {
     pub status: Status,
     pub hasher: Hasher,

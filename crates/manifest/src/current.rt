@@ -20,7 +20,7 @@ const HEADER_BYTES: usize = 6;
 // The table that is being read: its header and how many bytes of it came; after the last of them, the number of bytes
 // of the contents that are still to come, and the running hash of those that came. A table that need not be hashed has
 // one of variant 0, which takes nothing.
-#[derive(Drop)]
+#[derive(Clone, Copy)]
 pub struct Current {
     pub header: [u8; HEADER_BYTES],
     pub got: u8,

@@ -18,7 +18,7 @@ use answers::Status;
 pub const MAX_TABLES: u32 = 65535;
 
 // A report in progress. If the manifest was refused at its beginning, it takes nothing.
-#[derive(Drop)]
+#[derive(Clone, Copy)]
 pub struct Report {
     pub passed: bool,
     pub tally: Tally,
@@ -26,14 +26,14 @@ pub struct Report {
 }
 
 // A report begun: with a refusal, one of nothing.
-#[derive(Drop)]
+#[derive(Clone, Copy)]
 pub struct Beginning {
     pub status: Status,
     pub report: Report,
 }
 
 // The six counts.
-#[derive(Drop)]
+#[derive(Clone, Copy)]
 pub struct Summary {
     pub listed: u32,
     pub tables: u32,

@@ -15,7 +15,7 @@ use chain::DIGEST_BYTES;
 use hasher::Hasher;
 
 // The tables read so far. As long as no table of record k's axis has come, awaited[k] is 1.
-#[derive(Drop)]
+#[derive(Clone, Copy)]
 pub struct Tally {
     pub listed: u16,
     pub untold: u16,

@@ -7,7 +7,7 @@ use manifest::{MAX_TABLES, Report};
 
 // How the report stands after a read: whether it could be begun, what it has come to, whether a further read follows,
 // and whether this one failed.
-#[derive(Drop)]
+#[derive(Clone, Copy)]
 pub struct Fed {
     pub status: Status,
     pub report: Report,

@@ -72,14 +72,14 @@ fn check_step(list: &[u8], k: usize) -> Status
 }
 
 // What a step gives: an entry's offset and length, or refusal 9 or 7.
-#[derive(Drop)]
+#[derive(Clone, Copy)]
 pub enum Step {
     Entry(u32, u32),
     Refused(Refusal),
 }
 
 // What a step gives, and the number of the entry that is next after it.
-#[derive(Drop)]
+#[derive(Clone, Copy)]
 pub struct Found {
     pub step: Step,
     pub next: usize,

@@ -2,14 +2,14 @@
 #![tactic(auto)]
 
 // A permutation or a cipher itself, or its inverse.
-#[derive(Drop)]
+#[derive(Clone, Copy)]
 pub enum Direction {
     Forward,
     Backward,
 }
 
 // What is read off an end state.
-#[derive(Drop)]
+#[derive(Clone, Copy)]
 pub enum Wanted {
     Digest,
     EndState,

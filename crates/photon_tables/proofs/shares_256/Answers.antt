@@ -6,12 +6,8 @@ use Rattle.standard.specs.Variants.{photon256}
 use Rattle.photon_tables.specs.Columns.{mixed, share, constant_column}
 use Rattle.photon_tables.specs.Tables.{entry_of}
 use Rattle.photon_tables.proofs.EntryTests.{entries-of}
-use Rattle.photon_tables.proofs.shares_256.Statement.{statement}
-use Rattle.photon_tables.proofs.shares_256.Tie as tie
+use Rattle.photon_tables.proofs.shares_256.Goals as goal
 
-returns : tie.Need-returns
+pub returns : goal.returns
 unfolding entry_of constant_column share mixed serial dot mul times double
 returns c = entries-of 144 photon256 _ refl tt
-
-pub shares-256-spec : {M : Type 1} → statement M
-shares-256-spec = tie.close (tie.spec returns)
