@@ -35,7 +35,20 @@ def contracts():
             q = re.findall(r"\brequires\b(?:[ \t]+(\w+))?\s*\{", head2)
             e = re.findall(r"\bensures\b(?:[ \t]+(\w+))?\s*\{", head2)
             path = "::".join([c] + mod + ([impl] if impl and m.group(1)[0] in " \t" else []) + [m.group(3)])
-            out[path] = (q, e)
+            pm = re.match(r"\s*(?:<[^(]*>)?\(", rest)
+            ps = []
+            if pm:
+                i = pm.end(); dd = 1; cur = ""
+                while dd:
+                    ch = rest[i]
+                    if ch in "([{<": dd += 1
+                    elif ch in ")]}>": dd -= 1
+                    if dd == 1 and ch == ",": ps.append(cur); cur = ""
+                    elif dd: cur += ch
+                    i += 1
+                ps.append(cur)
+            ps = [re.sub(r"^(mut )", "", x.strip()).split(":")[0].strip().lstrip("&").replace("mut ", "") for x in ps if x.strip()]
+            out[path] = (q, e, ps)
     return out
 CON = contracts()
 
@@ -63,10 +76,11 @@ class Fn:
     def __init__(self, path, mod, d):
         self.path, self.mod, self.d = path, mod, d
         self.parent = {}; self.step = {}; self.callee = {}
-        for pl in d["places"]:
-            n = norm(pl[0]); self.parent[n] = norm(pl[1]) if pl[1] else None
+        self.arms, self.named = {}, {}
+        for pl, arm, cl in zip(d["places"], d["arms"], d["clauses"]):
+            n = norm(pl[0]); self.arms[n] = arm; self.named[n] = cl["fields"] if cl else None; self.parent[n] = norm(pl[1]) if pl[1] else None
             self.step[n] = (norm(pl[2][0]), pl[2][1]); self.callee[n] = pl[3]
-        self.fq = CON.get(path, ([], []))
+        self.fq = CON.get(path, ([], [], []))
     def resolve(self, place, fields, where):
         """-> ('place', P) or ('text', str)"""
         f = list(fields)
@@ -81,9 +95,14 @@ class Fn:
             if o and o == name:
                 rest = f[1:]
                 cal = self.callee.get(p)
-                if rest and rest[0] in ("ensures", "requires") and cal in CON:
-                    rest = [rest[0]] + clause(CON[cal][0 if rest[0] == "requires" else 1], rest[1:])
-                    ns = CON[cal][0 if rest[0] == "requires" else 1]
+                if self.arms.get(p):
+                    arm, _, fs = self.arms[p]
+                    for new, old, path in fs:
+                        if norm(old) == name and rest[:len(path)] == list(path):
+                            return ("text", ".".join(["c", arm, new] + rest[len(path):]))
+                if rest and rest[0] == "ensures" and (self.named.get(p) or cal in CON):
+                    ns = self.named.get(p) or CON[cal][1]
+                    rest = [rest[0]] + clause(ns, rest[1:])
                     if len(rest) == 1 and len(ns) > 1:
                         return ("text", "(" + ", ".join(".".join(["c", n, rest[0], x]) for x in ns) + ")")
                 if rest[:2] == ["given", "1"]: rest = ["is"] + rest[2:]
@@ -92,6 +111,8 @@ class Fn:
             p = self.parent.get(p)
         if f[0] in ("args", "requires", "ranges", "well-formed", "well_formed", "lifetimes", "utf8", "type_inv"):
             rest = f[1:]
+            if f[0] in ("args", "ranges") and rest and re.fullmatch(r"t\d+", rest[0]) and rest[0] not in self.fq[2] and int(rest[0][1:]) <= len(self.fq[2]):
+                rest = [self.fq[2][int(rest[0][1:]) - 1]] + rest[1:]
             if f[0] == "requires":
                 rest = clause(self.fq[0], rest)
                 if not rest and len(self.fq[0]) > 1:
@@ -146,7 +167,7 @@ def rewrite(fn, text, env, where):
         fields = [x for x in tail.split(".") if x]
         if isinstance(env[root], tuple):
             pl, fs, tx = env[root]
-            if not fields: return root
+            if not fields: return tx if tx.startswith("(") else root
             kind, v = fn.resolve(pl, fs + fields, where)
             if v.startswith(tx + "."): return root + v[len(tx):]
             return v
@@ -185,16 +206,24 @@ def answer(fn, goal, place, params, body, where, names):
             env.pop(n, None)
             if isinstance(root, tuple):
                 out.append((n, None, rewrite(fn, e, env, where))); continue
-            if v.startswith("("):
-                say(where, f"let {n} = {v}")
             env[n] = (root, fs, v)
-            out.append((n, None, v)); continue
+            if not v.startswith("("): out.append((n, None, v))
+            continue
         e2 = rewrite(fn, e, env, where); ty2 = rewrite(fn, ty, env, where) if ty else None
         env.pop(n, None)
         out.append((n, ty2, e2))
     last = rewrite(fn, last, env, where)
     if names:
         r = record_of(names, last)
+        if r is None and last.endswith(")"):
+            dd = 0
+            for j in range(len(last) - 1, -1, -1):
+                if last[j] in ")]}": dd += 1
+                elif last[j] in "([{":
+                    dd -= 1
+                    if dd == 0: break
+            q = record_of(names, last[j:])
+            if q: r = last[:j] + "(" + q + ")"
         if r: last = r
         else: say(where, f"{goal}: no tuple for {names}")
     lines = ""
@@ -280,7 +309,8 @@ def convert(proof, modpath, key):
     text = proof.read_text()
     its = items(text)
     uses = [re.sub(r"\s*\n\s*", " ", "\n".join(l)) for n, l, _ in its if n == "use"]
-    head = text.split("\n")[0] if text.startswith("--") else ""
+    head = "\n".join(re.match(r"(?:--[^\n]*\n)*", text).group().rstrip("\n").split("\n"))
+    head = head.replace(f"`bytes::", "`octets::")
     old_new = [(norm(o), n) for o, n in d["needs"]]
     def need(name):
         name = norm(name)
@@ -328,6 +358,8 @@ def convert(proof, modpath, key):
             mm = re.match(r"(\S+)((?: [^\s=]+)*) =\s*(.*)$", cl[cl.find(name):], re.S)
             if not mm: say(where, f"clause {cl[:80]}"); continue
             names = names_for(fn, goal, i)
+            if mm.group(3).strip() in ("search rules", "omega arith", "refl") and not unf:
+                answered[name] = i; ans[i] = None; continue
             ans[i] = (pre, unf) + answer(fn, goal, place, mm.group(2).split(), mm.group(3), where, names)
             answered[name] = i
             continue
@@ -360,7 +392,7 @@ def convert(proof, modpath, key):
                 continue
             b = mm.group(2).strip()
             if b == "search rules" and not unfspec: continue
-            if b == "search rules": continue
+            if b in ("search rules", "omega arith", "refl"): continue
             goal = old_new[i][1]
             ans[i] = ([], unfspec) + answer(fn, goal, norm(d["asked_at"][i][0]), mm.group(1).split(), b, where, names_for(fn, goal, i))
     folder = proof.parent
@@ -372,6 +404,7 @@ def convert(proof, modpath, key):
     lines = []
     for name, pre, body in helpers: lines.append("\n".join(pre + [body]) + "\n")
     for i in sorted(ans):
+        if ans[i] is None: continue
         pre, unf, g, b = ans[i]
         lines.append("\n".join(pre) + ("\n" if pre else "") + g + "".join(u + "\n" for u in unf) + b)
     if lines:
