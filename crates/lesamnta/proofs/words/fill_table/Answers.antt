@@ -6,16 +6,12 @@ use Rattle.standard.specs.Photon.{aes}
 use Rattle.standard.specs.Lesamnta.{shifted, generated}
 use Rattle.lesamnta.specs.CipherTables.{boxed_byte}
 use Rattle.lesamnta.proofs.CipherTableLaws.{box-table, constant-table}
-use Rattle.lesamnta.proofs.words.fill_table.Statement.{statement}
-use Rattle.lesamnta.proofs.words.fill_table.Tie as tie
+use Rattle.lesamnta.proofs.words.fill_table.Goals as goal
 
-put-boxes-requires : tie.Need-put-boxes-requires
+pub put_boxes-requires : goal.put_boxes-requires
 unfolding boxed_byte mul times double aes
-put-boxes-requires c κs = (search rules, box-table)
+put_boxes-requires c = (search rules, box-table)
 
-put-constants-requires : tie.Need-put-constants-requires
+pub put_constants-requires : goal.put_constants-requires
 unfolding generated shifted
-put-constants-requires c κs = (search rules, constant-table)
-
-pub fill-table-spec : {M : Type 1} → statement M
-fill-table-spec = tie.close (tie.spec put-boxes-requires put-constants-requires (λ c. search rules) (λ c. search rules))
+put_constants-requires c = (search rules, constant-table)
