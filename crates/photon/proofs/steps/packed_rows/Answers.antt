@@ -1,0 +1,20 @@
+-- `photon::steps::packed_rows` meets its contract: after i turns the first i rows are packed. Assumes nothing.
+use mathlib.Core.Path.{refl}
+use Prim.Native.Nat.{◌-◌}
+use native.Mathlib.Omega.{arith}
+use Rattle.octets.proofs.Upto.{upto-none, upto-more}
+use Rattle.photon.proofs.steps.packed_rows.Goals as goal
+
+pub loop-i-init : goal.loop-i-init
+loop-i-init c = (omega arith, upto-none _ refl)
+
+pub packed-requires : goal.packed-requires
+packed-requires c = tt
+
+pub loop-i-preserved : goal.loop-i-preserved
+loop-i-preserved c =
+    let l = c.loop-i in
+    (omega arith, upto-more l.i _ l.out c.packed.result (omega arith) c.packed.ensures l.invariant.1)
+
+pub returns : goal.returns
+returns c = c.loop-i.invariant.1.done i (omega arith) j hj

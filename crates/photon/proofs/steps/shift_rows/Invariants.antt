@@ -1,0 +1,12 @@
+-- `photon::steps::shift_rows` meets its contract: before turn i of the loop the rows above row i are rotated. A rotation by d - i places is one by (d - 1) * i. Rows past the matrix do not count.
+-- Assumes nothing.
+use mathlib.Core.List.{[]}
+use Prim.Native.Nat.{◌-◌, ◌≤◌}
+use Rattle.octets.proofs.Upto.{Upto}
+use Rattle.photon.proofs.steps.shift_rows.Given as goal
+
+abbrev pub invariant-loop-i : goal.invariant-loop-i
+invariant-loop-i l = (1 ≤ l.i) × (l.i ≤ 8) × Upto [] (Rotated l.d l.from l.initial.out) 8 l.i l.initial.out l.out
+
+abbrev pub decreases-loop-i : goal.decreases-loop-i
+decreases-loop-i l = 8 - l.i

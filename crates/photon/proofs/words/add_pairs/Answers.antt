@@ -1,0 +1,47 @@
+-- `photon::words::add_pairs` meets its contract: after m turns the first m sums have what their column gives. Assumes nothing.
+use mathlib.Core.Path.{ap, ap₂, ◌∙◌}
+use Prim.Native.Nat.{ℕ, ◌+◌, ◌-◌, ◌*◌, ◌/◌, ◌%◌, ◌^◌, ◌<◌}
+use native.Mathlib.Nat.{mod-lt}
+use native.Mathlib.Omega.{arith}
+use lib.Bits.{bit_xor}
+use lib.ListN.{get_or}
+use Rattle.octets.proofs.Upto.{upto-none, upto-more}
+use Rattle.photon.proofs.words.add_pairs.Goals as goal
+
+place-lt : (c : goal.After-f invariant-loop decreases-loop) → (c.before.before.loop.m + 2 * c.before.before.before.before.args.k) % c.before.before.before.before.args.d < c.before.before.before.before.args.d
+place-lt c = mod-lt _ (omega arith)
+
+byte-lt : (c : goal.After-byte-of invariant-loop decreases-loop) → c.byte_of.result < 256
+byte-lt c = rw c.byte_of.ensures (mod-lt _ {m = 256} (omega arith))
+
+pub loop-m-init : goal.loop-m-init
+loop-m-init c = (omega arith, upto-none _ c.requires.0)
+
+pub offset_bounds-w-m : goal.offset_bounds-w-m
+offset_bounds-w-m c = omega (arith, place-lt c)
+
+pub bounds-w-m : goal.bounds-w-m
+bounds-w-m c = omega (arith, place-lt c)
+
+pub byte_of-requires : goal.byte_of-requires
+byte_of-requires c = c.spot.ensures.1
+
+pub overflow_add-f-in-loop-m : goal.overflow_add-f-in-loop-m
+overflow_add-f-in-loop-m c = omega (arith, byte-lt c)
+
+pub bounds-table-k : goal.bounds-table-k
+bounds-table-k c = omega (arith, byte-lt c)
+
+pub loop-m-preserved : goal.loop-m-preserved
+loop-m-preserved c =
+    let l = c.loop-m in
+    let a = c.args in (
+      omega arith,
+      upto-more l.m _ l.f _ (omega arith)
+          (ap₂ (λ (x y : ℕ). bit_xor x (get_or a.table.now (16 + 256 * a.k + y) 0)) (l.invariant.1.rest l.m (omega arith))
+          (c.byte_of.ensures ∙ ap (λ (x : ℕ). get_or a.w.now ((l.m + 2 * a.k) % a.d) 0 / 2 ^ (8 * x) % 256) c.spot.ensures.0))
+          l.invariant.1,
+    )
+
+pub returns : goal.returns
+returns c = (c.loop-m.invariant.1.len, λ m h. c.loop-m.invariant.1.done m (omega arith))

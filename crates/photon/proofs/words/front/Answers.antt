@@ -1,0 +1,35 @@
+-- `photon::words::front` meets its contract: the rows that hold the bits given out. Assumes nothing.
+use native.Mathlib.Omega.{arith}
+use lib.Dec.{lit≤}
+use Rattle.photon.proofs.ImageRows.{side4, front-rows}
+use Rattle.photon.proofs.words.front.Goals as goal
+
+pub image4-requires : goal.image4-requires
+image4-requires c = side4 1 (lit≤ tt) (lit≤ tt) 1 (lit≤ tt)
+
+pub returns-then-v-eq1 : goal.returns-then-v-eq1
+returns-then-v-eq1 c = front-rows 1 (lit≤ tt) (lit≤ tt) _ c.if-v-eq1.true _ _ c.image4.ensures
+
+pub image4-requires-then-v-eq2 : goal.image4-requires-then-v-eq2
+image4-requires-then-v-eq2 c = side4 2 (lit≤ tt) (lit≤ tt) 1 (lit≤ tt)
+
+pub returns-then-v-eq2 : goal.returns-then-v-eq2
+returns-then-v-eq2 c = front-rows 2 (lit≤ tt) (lit≤ tt) _ c.if-v-eq2.true _ _ c.image4-then-v-eq2.ensures
+
+pub image4-requires-then-v-eq3 : goal.image4-requires-then-v-eq3
+image4-requires-then-v-eq3 c = side4 3 (lit≤ tt) (lit≤ tt) 2 (lit≤ tt)
+
+pub returns-then-v-eq3 : goal.returns-then-v-eq3
+returns-then-v-eq3 c = front-rows 3 (lit≤ tt) (lit≤ tt) _ c.if-v-eq3.true _ _ c.image4-then-v-eq3.ensures
+
+pub image4-requires-then-v-eq4 : goal.image4-requires-then-v-eq4
+image4-requires-then-v-eq4 c = side4 4 (lit≤ tt) (lit≤ tt) 1 (lit≤ tt)
+
+pub returns-then-v-eq4 : goal.returns-then-v-eq4
+returns-then-v-eq4 c = front-rows 4 (lit≤ tt) (lit≤ tt) _ c.if-v-eq4.true _ _ c.image4-then-v-eq4.ensures
+
+pub image8-requires : goal.image8-requires
+image8-requires c = lit≤ tt
+
+pub returns : goal.returns
+returns c = front-rows 5 (lit≤ tt) (lit≤ tt) c.args.v (omega arith) _ _ c.image8.ensures

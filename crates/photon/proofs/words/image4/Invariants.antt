@@ -1,0 +1,11 @@
+-- `photon::words::image4` meets its contract: after i turns the bytes are those of the first i rows. Assumes nothing.
+use mathlib.Core.Path.{◌≡◌}
+use Prim.Native.Nat.{◌-◌, ◌≤◌}
+use Rattle.photon.proofs.ImageRows.{row_bytes}
+use Rattle.photon.proofs.words.image4.Given as goal
+
+abbrev pub invariant-loop-i : goal.invariant-loop-i
+invariant-loop-i l = (l.i ≤ l.rows) × (5 ≤ l.d) × (l.d ≤ 8) × (l.out ≡ row_bytes l.d 4 l.w l.i)
+
+abbrev pub decreases-loop-i : goal.decreases-loop-i
+decreases-loop-i l = l.rows - l.i

@@ -1,0 +1,53 @@
+-- `photon::words::rounds4` meets its contract: after r turns r rounds are made. Assumes nothing.
+use mathlib.Core.Path.{◌≡◌}
+use Prim.Native.Nat.{◌+◌, ◌-◌, ◌≤◌, ◌<◌, ◌^◌}
+use native.Mathlib.Omega.{arith}
+use lib.ListN.{get_or, length-set}
+use Rattle.photon_tables.specs.Columns.{place_of}
+use Rattle.photon_tables.proofs.LookUps.{first-added}
+use Rattle.photon.specs.Parameters.{photon_of}
+use Rattle.photon.proofs.ParametersOf.{sound}
+use Rattle.photon.proofs.WordPlaces.{rising-places, constants-low}
+use Rattle.photon.proofs.WordRounds.{rounded-none, rounded-more, rounded-all}
+use Rattle.photon.proofs.words.rounds4.Goals as goal
+
+-- the matrix has a row
+size : (s : goal.Start invariant-loop decreases-loop) → 0 < (photon_of s.args.v).d
+size s = (sound s.args.v s.requires.0.1 (omega arith)).pos
+
+pub bounds-table-0 : goal.bounds-table-0
+bounds-table-0 c = omega (arith, c.requires.pairs.size)
+
+pub loop-r-init : goal.loop-r-init
+loop-r-init c = (omega arith, simp length-set c.requires.w_len.0, rounded-none c.args.v c.requires.w_len.1 (omega arith) _)
+
+pub bounds-table-r : goal.bounds-table-r
+bounds-table-r c = omega (arith, c.requires.pairs.size, size c)
+
+pub round4-requires : goal.round4-requires
+round4-requires c =
+    let l = c.loop-r in
+    let q = c.requires.w_len in
+    let low : get_or c.args.table.now (l.r + 1) 0 < 2 ^ 32 = rw (c.requires.pairs.constant (l.r + 1) (omega arith)) (constants-low c.args.v q.1 q.2 (l.r + 1)) in
+    record { w_len = (l.invariant.1, q.1, q.2, q.3, low); pairs = c.requires.pairs }
+
+pub loop-r-preserved : goal.loop-r-preserved
+loop-r-preserved c =
+    let l = c.loop-r in
+    let q = c.requires.w_len in (
+      omega arith,
+      c.round4.ensures.0,
+      rounded-more c.args.v q.1 (omega arith) l.r _ (omega arith) (c.requires.pairs.constant (l.r + 1) (omega arith)) _ l.w c.round4.new.1.0 l.invariant.2 c.round4.ensures.1,
+    )
+
+pub returns : goal.returns
+returns c =
+    let l = c.loop-r in
+    let q = c.requires.w_len in
+    let v = c.args.v in
+    let high : v ≤ 5 = omega arith in
+    let twelve : l.r ≡ 12 = omega arith in (
+      l.invariant.1,
+      rounded-all v q.1 high _ l.w c.args.w.now _ (c.requires.pairs.constant 0 (omega arith))
+          (first-added (photon_of v) (sound v q.1 high) (place_of (photon_of v)) (rising-places v q.1 high) c.args.w.now _ (omega (arith, q.0))) (rw twelve at l.invariant.2),
+    )
