@@ -59,20 +59,22 @@ pub record MixedBy (p : PhotonParameters) (zs : List ℕ) (d s poly z : ℕ) : T
   pub none : NoneFrom d z
 
 module _ {p : PhotonParameters} {zs : List ℕ} {d s poly z : ℕ} (m : MixedBy p zs d s poly z) (g : Grid) where
-  pub mix-ready : Small p.d (2 ^ p.s) g → Mixing d s poly × (NoneFrom d z × Small d (2 ^ s) g)
+  pub mix-ready : Small p.d (2 ^ p.s) g → record { mixing : Mixing d s poly; none_from : NoneFrom d z; small : Small d (2 ^ s) g }
   mix-ready k =
       let h = m.fits in
       let modulus : Modulus (2 ^ p.s) p.poly =
-      record { s = p.s; is = refl; most = pow_mono {i = p.s} {j = 8} h.byte; low = h.sound.poly-low; high = h.sound.poly-high } in (
-        record {
+      record { s = p.s; is = refl; most = pow_mono {i = p.s} {j = 8} h.byte; low = h.sound.poly-low; high = h.sound.poly-high } in
+      record {
+        mixing = record {
           some = omega (arith, h.sound.pos);
           most = omega (arith, h.most);
           bits = omega (arith, h.sound.nibble);
           byte = omega (arith, h.byte);
           modulus = rw (m.bits, m.modulo) modulus;
-        },
-        (m.none, rw (m.size, m.bits) k),
-      )
+        };
+        none_from = m.none;
+        small = rw (m.size, m.bits) k;
+      }
 
   pub mix-at : (r : Grid) → window d r ≡ mix_columns (2 ^ s) poly d (lanes d z) (window d g)
       → window p.d r ≡ mix_columns (2 ^ p.s) p.poly p.d zs (window p.d g)

@@ -143,8 +143,9 @@ module _ {k d q : ℕ} (R : Row k d q) {v : ℕ} (is : v ≡ k) where
       let whole : (variant v).r % 8 ≡ 0 = rw is (omega (arith, R.rate)) in
       omega (arith, even whole)
 
-  pub row-table : (table : List ℕ) (n : ℕ) → TableFor v table → n ≡ 8 → ((n ≡ 8) × (1 ≤ k) × (k ≤ 4) × (d ≡ (photon_of k).d)) × Pairs (photon_of k) table
-  row-table table n T len = let four : v ≤ 4 = omega (arith, R.high) in ((len, R.low, R.high, R.size), rw is at (T.pairs four))
+  pub row-table : (table : List ℕ) (n : ℕ) → TableFor v table → n ≡ 8
+      → record { w_len : (n ≡ 8) × (1 ≤ k) × (k ≤ 4) × (d ≡ (photon_of k).d); pairs : Pairs (photon_of k) table }
+  row-table table n T len = let four : v ≤ 4 = omega (arith, R.high) in record { w_len = (len, R.low, R.high, R.size); pairs = rw is at (T.pairs four) }
 
   module _ (bytes : List ℕ) (m : ℕ) (room : 4 * m + (variant v).r ≤ 8 * length bytes) {w s : List ℕ} (copy : s ≡ w) where
     cells-stepped : (x y : List ℕ) → TakenTo k R.low R.high bytes m q s x → Ran k x y → Stepped v bytes m w y

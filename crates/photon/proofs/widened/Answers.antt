@@ -1,7 +1,7 @@
 -- `photon::widened` meets its contract: after k turns the first k entries are in place, and behind them are zeros. Assumes nothing.
 use mathlib.Core.Path.{◌≡◌, refl, sym, ◌∙◌}
 use mathlib.Core.Logic.{⊎_elim}
-use Prim.Native.Nat.{ℕ, zero, suc, ◌-◌}
+use Prim.Native.Nat.{ℕ, zero, suc}
 use native.Mathlib.Omega.{arith}
 use lib.ListN.{get_or, replicate, get_or-eq_default}
 use Rattle.standard.proofs.Tests.{lt-or-le}

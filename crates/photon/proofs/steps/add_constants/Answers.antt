@@ -1,5 +1,4 @@
 -- `photon::steps::add_constants` meets its contract: after i turns the first cell of the first i rows has its constants added. Assumes nothing.
-use Prim.Native.Nat.{◌-◌}
 use native.Mathlib.Omega.{arith}
 use Rattle.octets.proofs.Upto.{upto-none, upto-more}
 use Rattle.photon.proofs.steps.add_constants.Goals as goal
@@ -16,4 +15,4 @@ loop-i-preserved c =
     (omega arith, upto-more l.i _ l.out _ (omega arith) (rw (← l.invariant.1.rest l.i (omega arith)) c.with_first.ensures) l.invariant.1)
 
 pub returns : goal.returns
-returns c = c.loop-i.invariant.1.done i (omega arith) j hj
+returns c i j hi hj = c.loop-i.invariant.1.done i (omega arith) j hj

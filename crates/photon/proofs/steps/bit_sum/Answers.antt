@@ -1,6 +1,6 @@
 -- `photon::steps::bit_sum` meets its contract: after i turns the sum has the first i rows whose cell is odd, and the rest holds the other cells. Assumes nothing.
 use mathlib.Core.Path.{◌≡◌, refl}
-use Prim.Native.Nat.{suc, ◌+◌, ◌-◌, ◌%◌}
+use Prim.Native.Nat.{suc, ◌+◌, ◌%◌}
 use native.Mathlib.Nat.{add-zero, zero-add}
 use native.Mathlib.Numerals.{add-one}
 use native.Mathlib.Omega.{arith}

@@ -9,7 +9,7 @@ use Rattle.photon.proofs.steps.byte_of.Goals as goal
 pub returns-then-w-eq8 : goal.returns-then-w-eq8
 returns-then-w-eq8 c =
     let a = c.args in
-    c.??.Cell-at.ensures ∙ byte-wide a.w a.d a.g c.requires.small c.requires.d_nonzero.0 c.if-w-eq8.true a.k c.requires.k_lt_state_room
+    c.cell_at.ensures ∙ byte-wide a.w a.d a.g c.requires.small c.requires.d_nonzero.0 c.if-w-eq8.true a.k c.requires.k_lt_state_room
 
 pub overflow_mul-result : goal.overflow_mul-result
 overflow_mul-result c =

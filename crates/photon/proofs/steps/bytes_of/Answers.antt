@@ -1,6 +1,5 @@
 -- `photon::steps::bytes_of` meets its contract: the bytes passed are the packed ones. Assumes nothing.
 use mathlib.Core.Path.{refl, sym, ◌∙◌}
-use Prim.Native.Nat.{◌-◌}
 use native.Mathlib.Omega.{arith}
 use lib.Seq.{ext_get_or}
 use Rattle.standard.specs.Bits.{high_first, pack}

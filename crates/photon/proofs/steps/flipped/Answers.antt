@@ -1,6 +1,5 @@
 -- `photon::steps::flipped` meets its contract: after i turns the first i rows are the last, in reverse. Assumes nothing.
 use mathlib.Core.Path.{refl}
-use Prim.Native.Nat.{◌-◌}
 use native.Mathlib.Omega.{arith}
 use Rattle.standard.proofs.Tab.{window-reverse}
 use Rattle.octets.proofs.Upto.{upto-none, upto-more}

@@ -1,5 +1,5 @@
 -- `photon::steps::mix_columns` meets its contract: after n turns n steps are made. Assumes nothing.
-use Prim.Native.Nat.{◌+◌, ◌-◌}
+use Prim.Native.Nat.{◌+◌}
 use native.Mathlib.Omega.{arith}
 use Rattle.photon.proofs.StepRows.{stepped-none, stepped-more, stepped-all}
 use Rattle.photon.proofs.steps.mix_columns.Goals as goal
@@ -10,7 +10,7 @@ packed_rows-rows-requires c = tt
 pub loop-n-init : goal.loop-n-init
 loop-n-init c =
     let a = c.args in
-    (omega arith, c.requires.mixing.most, stepped-none a.d a.s a.poly c.requires.mixing a.z _ a.g c.requires.small c.packed_rows-rows.type-inv.1.0.1 c.packed_rows-rows.ensures)
+    (omega arith, c.requires.mixing.most, stepped-none a.d a.s a.poly c.requires.mixing a.z _ a.g c.requires.small c.packed_rows-rows.type_inv.1.0.1 c.packed_rows-rows.ensures)
 
 pub row_sum-requires : goal.row_sum-requires
 row_sum-requires c =

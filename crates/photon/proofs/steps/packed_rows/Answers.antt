@@ -1,6 +1,5 @@
 -- `photon::steps::packed_rows` meets its contract: after i turns the first i rows are packed. Assumes nothing.
 use mathlib.Core.Path.{refl}
-use Prim.Native.Nat.{◌-◌}
 use native.Mathlib.Omega.{arith}
 use Rattle.octets.proofs.Upto.{upto-none, upto-more}
 use Rattle.photon.proofs.steps.packed_rows.Goals as goal
@@ -17,4 +16,4 @@ loop-i-preserved c =
     (omega arith, upto-more l.i _ l.out c.packed.result (omega arith) c.packed.ensures l.invariant.1)
 
 pub returns : goal.returns
-returns c = c.loop-i.invariant.1.done i (omega arith) j hj
+returns c i j hi hj = c.loop-i.invariant.1.done i (omega arith) j hj

@@ -1,6 +1,5 @@
 -- `photon::steps::read_row` meets its contract: the cells passed are read. Assumes nothing.
 use mathlib.Core.Path.{refl}
-use Prim.Native.Nat.{◌-◌}
 use native.Mathlib.Omega.{arith}
 use Rattle.octets.proofs.Upto.{upto-none, upto-more}
 use Rattle.photon.proofs.steps.read_row.Goals as goal

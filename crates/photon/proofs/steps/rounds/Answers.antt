@@ -1,6 +1,6 @@
 -- `photon::steps::rounds` meets its contract: after n turns the first n rounds are done, and the cells are below their bound. Assumes nothing.
 use mathlib.Core.Path.{refl, ◌∙◌}
-use Prim.Native.Nat.{◌-◌, ◌<◌}
+use Prim.Native.Nat.{◌<◌}
 use native.Mathlib.Omega.{arith}
 use Rattle.standard.specs.ForCode.{window}
 use Rattle.photon.specs.Parameters.{photon_of}
@@ -24,7 +24,7 @@ pub round_with-next-requires : goal.round_with-next-requires
 round_with-next-requires c =
     let l = c.loop-n in
     let small : c.round_constant-rc.result < 16 = rw c.round_constant-rc.ensures (constant-lt c.args.way l.n (omega arith)) in
-    record { le_v = c.requires.le_v; d_value = c.??.type_size.ensures; ic_value = c.row_constants-ic.ensures; by_index = c.box_of-table.ensures; small = l.invariant.1; rc_bound = small }
+    record { le_v = c.requires.le_v; d_value = c.size_of-d.ensures; ic_value = c.row_constants-ic.ensures; by_index = c.box_of-table.ensures; small = l.invariant.1; rc_bound = small }
 
 pub loop-n-preserved : goal.loop-n-preserved
 loop-n-preserved c =

@@ -1,21 +1,12 @@
 -- `photon::steps::row_sum` meets its contract: before a turn the sum is that of the bits from bit b on. Assumes nothing.
 use mathlib.Core.Path.{◌≡◌}
-use mathlib.Core.List.{List}
-use Prim.Native.Nat.{ℕ, ◌+◌, ◌-◌, ◌/◌, ◌^◌, ◌<◌}
+use Prim.Native.Nat.{◌+◌, ◌-◌, ◌^◌}
 use native.Mathlib.Nat.{div-one}
 use native.Mathlib.Omega.{arith}
 use lib.ListN.{get_or}
-use Rattle.standard.specs.Grid.{tab}
-use Rattle.standard.specs.Field.{dot}
-use Rattle.photon.specs.Rows.{lane, column_from, Mixing, NoneFrom, SmallRows}
+use Rattle.photon.specs.Rows.{lane}
 use Rattle.photon.proofs.BitSums.{no_bits, bit-taken}
 use Rattle.photon.proofs.steps.row_sum.Goals as goal
-
--- the sum of the coefficients' bits from bit b on, in each column
-abbrev From : List ℕ → ℕ → ℕ → ℕ → ℕ → ℕ → ℕ → Type 0
-From rows n s poly z b sum =
-    (d j : ℕ) → Mixing d s poly → NoneFrom d z → SmallRows d (2 ^ s) rows n → j < d
-    → lane j sum ≡ dot (2 ^ s) poly (tab d (λ i. lane i z / 2 ^ b)) (column_from d rows n j)
 
 pub loop-b-init : goal.loop-b-init
 loop-b-init c =

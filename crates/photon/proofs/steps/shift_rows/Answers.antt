@@ -1,20 +1,18 @@
 -- `photon::steps::shift_rows` meets its contract: before turn i of the loop the rows above row i are rotated. A rotation by d - i places is one by (d - 1) * i. Rows past the matrix do not count.
 -- Assumes nothing.
 use mathlib.Core.Path.{◌≡◌, refl}
-use mathlib.Core.List.{List}
 use mathlib.Core.Logic.{◌⊎◌, inl, inr}
 use Prim.Native.Nat.{ℕ, zero, suc, ◌+◌, ◌-◌, ◌*◌, ◌%◌, ◌<◌}
 use native.Mathlib.Nat.{mod-lt, mod-eq_of_lt, add-mul-mod_self_left, mul-zero, add-zero, one-mul, mul-suc, suc-mul, not-suc-le-zero}
 use native.Mathlib.Omega.{arith}
 use lib.Arith.{lt-one}
-use lib.ListN.{get_or}
 use Rattle.standard.specs.declared.Direction.{Direction}
 use Rattle.standard.specs.declared.Direction.TheVariants.{Forward, Backward}
-use Rattle.standard.specs.Grid.{Grid, at}
 use Rattle.standard.specs.Photon.{shift_rows}
 use Rattle.standard.proofs.Tab.{at-window, window-is}
 use Rattle.octets.proofs.Upto.{upto-more}
 use Rattle.photon.specs.Parameters.{rotation_from, distance, shift_factor}
+use Rattle.photon.proofs.steps.shift_rows.Invariants.{Rotated}
 use Rattle.photon.proofs.steps.shift_rows.Goals as goal
 
 either-row : (d : ℕ) (w : Direction) → (rotation_from d w ≡ 0) ⊎ (rotation_from d w ≡ d)
@@ -34,9 +32,6 @@ same-rotation (suc e) Backward (suc i) j h =
     let far : suc i - suc e + (suc e - suc i) ≡ suc e - suc i = omega arith in
     let round : j + e * suc i ≡ j + (suc e - suc i) + suc e * i = omega (arith, mul-suc e i, suc-mul e i) in
     rw (less, far, round, add-mul-mod_self_left)
-
-abbrev Rotated : ℕ → ℕ → Grid → ℕ → List ℕ → Type 0
-Rotated d from g k row = k < d → (j : ℕ) → j < d → get_or row j 0 ≡ at g k ((j + distance k from) % d)
 
 pub loop-i-init : goal.loop-i-init
 loop-i-init c = (

@@ -1,5 +1,4 @@
 -- `photon::steps::sub_cells` meets its contract: after i turns the first i rows are substituted. Assumes nothing.
-use Prim.Native.Nat.{◌-◌}
 use native.Mathlib.Omega.{arith}
 use Rattle.octets.proofs.Upto.{upto-none, upto-more}
 use Rattle.photon.proofs.steps.sub_cells.Goals as goal
@@ -13,7 +12,7 @@ sub_row-requires c = tt
 pub loop-i-preserved : goal.loop-i-preserved
 loop-i-preserved c =
     let l = c.loop-i in
-    (omega arith, upto-more l.i _ l.out _ (omega arith) (rw (← l.invariant.1.rest l.i (omega arith)) c.??.sub-Row.ensures) l.invariant.1)
+    (omega arith, upto-more l.i _ l.out _ (omega arith) (rw (← l.invariant.1.rest l.i (omega arith)) c.sub_row.ensures) l.invariant.1)
 
 pub returns : goal.returns
-returns c = c.loop-i.invariant.1.done i (omega arith) j hj
+returns c i j hi hj = c.loop-i.invariant.1.done i (omega arith) j hj

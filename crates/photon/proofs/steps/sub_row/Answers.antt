@@ -1,5 +1,4 @@
 -- `photon::steps::sub_row` meets its contract: after j turns the first j cells are looked up. Assumes nothing.
-use Prim.Native.Nat.{◌-◌}
 use native.Mathlib.Omega.{arith}
 use Rattle.octets.proofs.Elements.{bytes_lt}
 use Rattle.octets.proofs.Upto.{upto-none, upto-more}
@@ -22,4 +21,4 @@ loop-j-preserved c =
     (omega arith, upto-more l.j _ l.out _ (omega arith) (rw (c.u8_to_usize-k.ensures.0, l.invariant.1.rest l.j (omega arith))) l.invariant.1)
 
 pub returns : goal.returns
-returns c = c.loop-j.invariant.1.done j (omega arith)
+returns c j h = c.loop-j.invariant.1.done j (omega arith)

@@ -1,6 +1,6 @@
 -- `photon::steps::unpacked` meets its contract: after j turns the first j cells are in place, and the rest holds the others. Assumes nothing.
 use mathlib.Core.Path.{◌≡◌, refl, ◌∙◌}
-use Prim.Native.Nat.{suc, ◌+◌, ◌-◌}
+use Prim.Native.Nat.{suc, ◌+◌}
 use native.Mathlib.Nat.{add-zero, zero-add}
 use native.Mathlib.Omega.{arith}
 use Rattle.octets.proofs.Upto.{upto-none, upto-more}
@@ -25,4 +25,4 @@ loop-j-preserved c =
     )
 
 pub returns : goal.returns
-returns c = c.loop-j.invariant.1.0.done j (omega arith)
+returns c j h = c.loop-j.invariant.1.0.done j (omega arith)

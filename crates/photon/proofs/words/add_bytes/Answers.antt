@@ -1,6 +1,6 @@
 -- `photon::words::add_bytes` meets its contract: after j turns the first j words have their cell. Assumes nothing.
 use mathlib.Core.Path.{ap₂}
-use Prim.Native.Nat.{◌+◌, ◌-◌}
+use Prim.Native.Nat.{◌+◌}
 use native.Mathlib.Omega.{arith}
 use lib.Bits.{bit_xor}
 use Rattle.octets.proofs.Upto.{upto-none, upto-more}

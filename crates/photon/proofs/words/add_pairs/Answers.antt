@@ -1,6 +1,6 @@
 -- `photon::words::add_pairs` meets its contract: after m turns the first m sums have what their column gives. Assumes nothing.
-use mathlib.Core.Path.{ap, ap₂, ◌∙◌}
-use Prim.Native.Nat.{ℕ, ◌+◌, ◌-◌, ◌*◌, ◌/◌, ◌%◌, ◌^◌, ◌<◌}
+use mathlib.Core.Path.{◌≡◌, ap, ap₂, ◌∙◌}
+use Prim.Native.Nat.{ℕ, ◌+◌, ◌*◌, ◌/◌, ◌%◌, ◌^◌, ◌<◌}
 use native.Mathlib.Nat.{mod-lt}
 use native.Mathlib.Omega.{arith}
 use lib.Bits.{bit_xor}
@@ -8,29 +8,29 @@ use lib.ListN.{get_or}
 use Rattle.octets.proofs.Upto.{upto-none, upto-more}
 use Rattle.photon.proofs.words.add_pairs.Goals as goal
 
-place-lt : (c : goal.After-f invariant-loop decreases-loop) → (c.before.before.loop.m + 2 * c.before.before.before.before.args.k) % c.before.before.before.before.args.d < c.before.before.before.before.args.d
-place-lt c = mod-lt _ (omega arith)
+place-lt : (m k d : ℕ) → 0 < d → (m + 2 * k) % d < d
+place-lt m k d pos = mod-lt _ pos
 
-byte-lt : (c : goal.After-byte-of invariant-loop decreases-loop) → c.byte_of.result < 256
-byte-lt c = rw c.byte_of.ensures (mod-lt _ {m = 256} (omega arith))
+byte-lt : (x y : ℕ) → x ≡ y % 256 → x < 256
+byte-lt x y e = rw e (mod-lt _ {m = 256} (omega arith))
 
 pub loop-m-init : goal.loop-m-init
 loop-m-init c = (omega arith, upto-none _ c.requires.0)
 
 pub offset_bounds-w-m : goal.offset_bounds-w-m
-offset_bounds-w-m c = omega (arith, place-lt c)
+offset_bounds-w-m c = omega (arith, place-lt c.loop-m.m c.args.k c.args.d (omega arith))
 
 pub bounds-w-m : goal.bounds-w-m
-bounds-w-m c = omega (arith, place-lt c)
+bounds-w-m c = omega (arith, place-lt c.loop-m.m c.args.k c.args.d (omega arith))
 
 pub byte_of-requires : goal.byte_of-requires
 byte_of-requires c = c.spot.ensures.1
 
 pub overflow_add-f-in-loop-m : goal.overflow_add-f-in-loop-m
-overflow_add-f-in-loop-m c = omega (arith, byte-lt c)
+overflow_add-f-in-loop-m c = omega (arith, byte-lt _ _ c.byte_of.ensures)
 
 pub bounds-table-k : goal.bounds-table-k
-bounds-table-k c = omega (arith, byte-lt c)
+bounds-table-k c = omega (arith, byte-lt _ _ c.byte_of.ensures)
 
 pub loop-m-preserved : goal.loop-m-preserved
 loop-m-preserved c =

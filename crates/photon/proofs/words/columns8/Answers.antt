@@ -1,5 +1,5 @@
 -- `photon::words::columns8` meets its contract: after i turns the cells of i rows are in their columns. Assumes nothing.
-use Prim.Native.Nat.{◌-◌, ◌*◌, ◌≤◌}
+use Prim.Native.Nat.{◌*◌}
 use native.Mathlib.Nat.{mul_comm}
 use native.Mathlib.Omega.{arith}
 use lib.Dec.{lit≤}
@@ -22,7 +22,7 @@ loop-i-preserved c =
       omega arith,
       a.0,
       rows_more 5 (lit≤ tt) (lit≤ tt) c.args.s.now l.i c.byte_bit.result (6 * l.i) (omega arith) c.byte_bit.ensures.0 (mul_comm 6 l.i) _ l.out
-          c.add_bytes.new.0 l.invariant.2 a.1 a.2,
+          c.add_bytes.new.w l.invariant.2 a.1 a.2,
     )
 
 pub returns : goal.returns

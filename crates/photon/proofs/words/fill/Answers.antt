@@ -1,6 +1,6 @@
 -- `photon::words::fill` meets its contract: after x turns the first x entries are filled. Assumes nothing.
 use mathlib.Core.Path.{ap}
-use Prim.Native.Nat.{ℕ, ◌-◌}
+use Prim.Native.Nat.{ℕ}
 use native.Mathlib.Omega.{arith}
 use lib.Bits.{bit_xor}
 use Rattle.photon.proofs.FilledFrom.{filled_none, filled_more}

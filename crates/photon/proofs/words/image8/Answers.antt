@@ -1,6 +1,6 @@
 -- `photon::words::image8` meets its contract: after i turns the bytes are those of the first i rows. Assumes nothing.
 use mathlib.Core.Path.{sym}
-use Prim.Native.Nat.{◌-◌, ◌*◌}
+use Prim.Native.Nat.{◌*◌}
 use native.Mathlib.Omega.{arith}
 use Rattle.photon.proofs.ImageRows.{image-none, image-kept, image-more, image-size, image-rows, side-of, eight-bits}
 use Rattle.photon.proofs.words.image8.Goals as goal

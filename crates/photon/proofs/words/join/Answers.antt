@@ -1,6 +1,5 @@
 -- `photon::words::join` meets its contract: after j turns the first j words are joined. Assumes nothing.
 use mathlib.Core.Path.{refl}
-use Prim.Native.Nat.{◌-◌}
 use native.Mathlib.Omega.{arith}
 use Rattle.octets.proofs.Upto.{upto-none, upto-more}
 use Rattle.photon.proofs.words.join.Goals as goal

@@ -1,6 +1,6 @@
 -- `photon::words::pair_rows` meets its contract: after h turns the first 16 h pairs are made. Assumes nothing.
-use mathlib.Core.Path.{ap, ◌∙◌}
-use Prim.Native.Nat.{ℕ, ◌+◌, ◌-◌, ◌*◌, ◌/◌, ◌%◌, ◌^◌, ◌≤◌}
+use mathlib.Core.Path.{◌≡◌, ap, ◌∙◌}
+use Prim.Native.Nat.{ℕ, ◌+◌, ◌*◌, ◌/◌, ◌%◌, ◌^◌, ◌≤◌}
 use native.Mathlib.Omega.{arith}
 use lib.Bits.{bit_xor}
 use lib.ListN.{get_or}
@@ -11,16 +11,14 @@ use Rattle.photon.proofs.PairTables.{paired_none, paired-more, pairs_of}
 use Rattle.photon.proofs.words.pair_rows.Goals as goal
 
 -- no variant has more than eight rows
-few : (c : goal.After-size-of invariant-loop decreases-loop) → c.type_size.result ≤ 8
-few c =
-    let b = c.before.before.requires.0 in
-    (size_fits _ _ (b.0, omega arith) c.type_size.ensures).1
+few : (v n : ℕ) → 1 ≤ v → v ≤ 4 → n ≡ (photon_of v).d → n ≤ 8
+few v n low high e = (size_fits v n (low, omega arith) e).1
 
 pub size_of-requires : goal.size_of-requires
 size_of-requires c = (omega arith, omega arith)
 
 pub overflow_add-n : goal.overflow_add-n
-overflow_add-n c = omega (arith, few c)
+overflow_add-n c = omega (arith, few c.args.v _ c.requires.le_v.0 c.requires.le_v.1 c.size_of.ensures)
 
 pub fill-requires : goal.fill-requires
 fill-requires c = (omega arith, omega arith, omega arith)
@@ -28,7 +26,7 @@ fill-requires c = (omega arith, omega arith, omega arith)
 pub loop-h-init : goal.loop-h-init
 loop-h-init c =
     let f = c.fill.ensures in
-    (omega arith, omega (arith, few c), paired_none _ _ (omega (arith, f.0)) f.1)
+    (omega arith, omega (arith, few c.args.v _ c.requires.le_v.0 c.requires.le_v.1 c.size_of.ensures), paired_none _ _ (omega (arith, f.0)) f.1)
 
 pub fill-requires-in-loop-h : goal.fill-requires-in-loop-h
 fill-requires-in-loop-h c = (omega (arith, c.loop-h.invariant.2.len), omega arith, omega arith)
@@ -47,5 +45,5 @@ returns c =
     let a = c.args in
     let b = c.requires.le_v in
     let u = c.loop-h.invariant.2 in
-    let d = c.??.type_size.ensures in
-    (pairs_of (photon_of a.v) (side_by_side a.v b.0 b.1) a.shares.now c.requires.entries _ (ap (λ (n : ℕ). (n + 1) / 2) d) (omega (arith, few c, d)) c.loop-h.h (omega arith) _ u, u.len)
+    let d = c.size_of.ensures in
+    (pairs_of (photon_of a.v) (side_by_side a.v b.0 b.1) a.shares.now c.requires.entries _ (ap (λ (n : ℕ). (n + 1) / 2) d) (omega (arith, few c.args.v _ c.requires.le_v.0 c.requires.le_v.1 c.size_of.ensures, d)) c.loop-h.h (omega arith) _ u, u.len)

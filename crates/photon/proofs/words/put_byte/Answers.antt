@@ -17,8 +17,8 @@ put_nibble-requires-2 c =
     let m = byte-mid c.args.out.now _ c.args.p (c.args.x / 16) c.requires.out_len.0 c.requires.out_len.1 c.put_nibble.ensures in
     record { p_bound = (omega (arith, m.0), omega arith); out_value = m.1 }
 
-pub shape_of-out : goal.shape_of-out
-shape_of-out c = ap length (returns c) ∙ length-pack high_first state_room _ ∙ sym c.requires.out_len.0
-
 pub returns : goal.returns
 returns c = byte_put c.args.out.now _ _ c.args.p c.args.x c.requires.out_len.0 c.requires.out_len.1 c.put_nibble.ensures c.put_nibble-2.ensures
+
+pub shape_of-out : goal.shape_of-out
+shape_of-out c = ap length (returns c) ∙ length-pack high_first state_room _ ∙ sym c.requires.out_len.0

@@ -1,5 +1,4 @@
 -- `photon::words::round8` meets its contract: after k turns the first k rows of each column are summed. Assumes nothing.
-use Prim.Native.Nat.{◌-◌}
 use native.Mathlib.Omega.{arith}
 use Rattle.photon.proofs.WordRounds.{shared-none, shared-more, shared-done}
 use Rattle.photon.proofs.words.round8.Goals as goal
@@ -8,11 +7,11 @@ pub loop-k-init : goal.loop-k-init
 loop-k-init c = (omega arith, shared-none c.args.w.now c.args.c)
 
 pub add_shares-requires : goal.add_shares-requires
-add_shares-requires c = (c.??.loop.invariant.1.len, omega arith, c.requires.entries.size)
+add_shares-requires c = (c.loop-k.invariant.1.len, omega arith, c.requires.entries.size)
 
 pub loop-k-preserved : goal.loop-k-preserved
 loop-k-preserved c =
-    let l = c.??.loop in (
+    let l = c.loop-k in (
       omega arith,
       shared-more c.args.w.now c.args.table.now c.requires.entries c.args.c l.k (omega arith) l.f _ l.invariant.1 c.add_shares.ensures.0 c.add_shares.ensures.1,
     )

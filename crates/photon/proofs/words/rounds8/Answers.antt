@@ -1,6 +1,6 @@
 -- `photon::words::rounds8` meets its contract: after r turns r rounds are made. Assumes nothing.
 use mathlib.Core.Path.{◌≡◌}
-use Prim.Native.Nat.{◌+◌, ◌-◌, ◌≤◌}
+use Prim.Native.Nat.{◌+◌}
 use native.Mathlib.Omega.{arith}
 use lib.Dec.{lit≤}
 use lib.ListN.{length-set}
@@ -31,7 +31,7 @@ loop-r-preserved c =
       omega arith,
       c.round8.ensures.0,
       rounded-more 5 (lit≤ tt) (lit≤ tt) l.r _ (omega arith) (entry-constant 1552 (photon_of 5) c.args.table.now c.requires.entries (l.r + 1) (omega arith) (omega arith)) _ l.w
-          c.round8.new.0 l.invariant.2 c.round8.ensures.1,
+          c.round8.new.w l.invariant.2 c.round8.ensures.1,
     )
 
 pub returns : goal.returns

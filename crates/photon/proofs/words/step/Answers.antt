@@ -27,7 +27,7 @@ pub returns-then-v-eq1 : goal.returns-then-v-eq1
 returns-then-v-eq1 c =
     let a = c.add_nibbles in
     one-row row1 c.if-v-eq1.true c.args.bytes.now c.args.m c.requires.le_v.2 c.eight-s.ensures.0 (c.args.m / 2) (c.args.m % 2) (omega arith) (lit≤ tt)
-    a.new.0 c.rounds4.new.1.0 a.ensures c.rounds4.ensures
+    a.new.w c.rounds4.new.w a.ensures c.rounds4.ensures
 
 pub add_nibbles-requires-then-v-eq2 : goal.add_nibbles-requires-then-v-eq2
 add_nibbles-requires-then-v-eq2 c = (c.eight-s.ensures.1, omega arith, omega arith, omega arith, omega (arith, row_block row2 c.if-v-eq2.true c.args.m _ c.requires.le_v.2))
@@ -39,7 +39,7 @@ pub returns-then-v-eq2 : goal.returns-then-v-eq2
 returns-then-v-eq2 c =
     let a = c.add_nibbles-then-v-eq2 in
     one-row row2 c.if-v-eq2.true c.args.bytes.now c.args.m c.requires.le_v.2 c.eight-s.ensures.0 (c.args.m / 2) 0 (row-even row2 c.if-v-eq2.true c.args.m 2 refl c.requires.le_v.3) (lit≤ tt)
-    a.new.0 c.rounds4-then-v-eq2.new.1.0 a.ensures c.rounds4-then-v-eq2.ensures
+    a.new.w c.rounds4-then-v-eq2.new.w a.ensures c.rounds4-then-v-eq2.ensures
 
 pub add_nibbles-requires-then-v-eq3 : goal.add_nibbles-requires-then-v-eq3
 add_nibbles-requires-then-v-eq3 c = (c.eight-s.ensures.1, omega arith, omega arith, omega arith, omega (arith, row_block row3 c.if-v-eq3.true c.args.m _ c.requires.le_v.2))
@@ -55,7 +55,7 @@ returns-then-v-eq3 c =
     let a = c.add_nibbles-then-v-eq3 in
     let b = c.add_nibbles-then-v-eq3-2 in
     two-rows row3 c.if-v-eq3.true c.args.bytes.now c.args.m c.requires.le_v.2 c.eight-s.ensures.0 (c.args.m / 2) (c.args.m % 2) (c.args.m / 2 + 3) (c.args.m % 2 + 1) 2 4
-    (omega arith) (omega arith) refl (lit≤ tt) (lit< tt) second-place a.new.0 b.new.0 c.rounds4-then-v-eq3.new.1.0 a.ensures b.ensures c.rounds4-then-v-eq3.ensures
+    (omega arith) (omega arith) refl (lit≤ tt) (lit< tt) second-place a.new.w b.new.w c.rounds4-then-v-eq3.new.w a.ensures b.ensures c.rounds4-then-v-eq3.ensures
 
 pub add_nibbles-requires-then-v-eq4 : goal.add_nibbles-requires-then-v-eq4
 add_nibbles-requires-then-v-eq4 c = (c.eight-s.ensures.1, omega arith, omega arith, omega arith, omega (arith, row_block row4 c.if-v-eq4.true c.args.m _ c.requires.le_v.2))
@@ -67,7 +67,7 @@ pub returns-then-v-eq4 : goal.returns-then-v-eq4
 returns-then-v-eq4 c =
     let a = c.add_nibbles-then-v-eq4 in
     one-row row4 c.if-v-eq4.true c.args.bytes.now c.args.m c.requires.le_v.2 c.eight-s.ensures.0 (c.args.m / 2) 0 (row-even row4 c.if-v-eq4.true c.args.m 4 refl c.requires.le_v.3) (lit≤ tt)
-    a.new.0 c.rounds4-then-v-eq4.new.1.0 a.ensures c.rounds4-then-v-eq4.ensures
+    a.new.w c.rounds4-then-v-eq4.new.w a.ensures c.rounds4-then-v-eq4.ensures
 
 -- what is not 1 to 4 is 5
 pub add_bytes-requires : goal.add_bytes-requires
@@ -81,4 +81,4 @@ rounds8-requires c = record { w_len = c.add_bytes.ensures.0; entries = c.require
 pub returns : goal.returns
 returns c =
     let a = c.add_bytes in
-    one-row8 c.args.v (omega arith) c.args.bytes.now c.args.m c.requires.le_v.2 c.requires.le_v.3 c.eight-s.ensures.0 a.new.0 c.rounds8.new.0 a.ensures c.rounds8.ensures
+    one-row8 c.args.v (omega arith) c.args.bytes.now c.args.m c.requires.le_v.2 c.requires.le_v.3 c.eight-s.ensures.0 a.new.w c.rounds8.new.w a.ensures c.rounds8.ensures
