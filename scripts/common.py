@@ -18,7 +18,13 @@ def help_asked(text):
 def crates():
     """The crates of crates.txt, in its order."""
     lines = (line.split("#")[0] for line in (ROOT / "crates.txt").read_text().splitlines())
-    return [line.split(":")[0].strip() for line in lines if line.strip()]
+    return [line.split(":")[0].split()[0] for line in lines if line.strip()]
+
+
+def is_made(path):
+    """Whether a path, from the root, is of a crate's folder out/, which `rt` makes."""
+    parts = path.split("/")
+    return parts[0] == "crates" and parts[2:3] == ["out"]
 
 
 def operations(page):
