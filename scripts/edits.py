@@ -37,9 +37,9 @@ checker says.
 
 Each edit is applied to a copy of its crate, and the checker refuses it. All places of an edit are tried at once: each
 lies in a function of its own, and each of these functions is refused by itself; one that shows nothing there, since
-a function that it calls is refused, where its place is tried alone. So each row is a wrong program, and
-its last column names the function (or the file of laws) and the fact at which it is refused, and says what that fact
-is. No row is refused for its form, that is, with words with which a right program of that form would be refused too.
+a function that it calls is refused, where its place is tried alone. So each row is a wrong program, and its last
+column names the function (or the file of laws) and the fact at which it is refused, and says what that fact is. No row
+is refused for its form, that is, with words with which a right program of that form would be refused too.
 
 A place in a promise is a wrong promise of right code. The functions of `lent`, and the exported ones that take a
 reference to a struct, are proved by a walk over their exact code. The walk takes the promise as a parameter, and what
