@@ -1,4 +1,4 @@
--- Held bits. Owning them tells that their bytes are sixteen, and that each is a byte: `c.good` has `Is`.
+-- Held bits. Owning them tells that their bytes are sixteen, and that each is a byte: `c.well_formed` has `Is`.
 -- Assumes nothing.
 use mathlib.Core.Path.{◌≡◌, sym, subst}
 use mathlib.Core.List.{List}

@@ -1,4 +1,4 @@
--- What owning a running hash tells: how long its arrays are, and that each element is a byte. `c.good` and `.ok` of a call have `Is`.
+-- What owning a running hash tells: how long its arrays are, and that each element is a byte. `c.well_formed` and `.type_inv` of a call have `Is`.
 -- Assumes nothing.
 use mathlib.Core.List.{List}
 use Prim.Native.Nat.{ℕ, ◌<◌}
