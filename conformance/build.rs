@@ -9,7 +9,7 @@ fn main() {
     if !archive.exists() {
         println!(
             "cargo::error=target/staticlib/libwickslate.a is missing; \
-             `rt staticlib wickslate`, run in the folder above, proves and writes it"
+             `scripts/build wickslate`, run in the folder above, proves and writes it"
         );
         return;
     }

@@ -2,7 +2,7 @@
  * Wickslate: the hash functions of ISO/IEC 29192-5: five of PHOTON, five of SPONGENT, and Lesamnta-LW
  * with its block cipher.
  *
- * C99, C11 and C++. Link with libwickslate.a, which `rt staticlib wickslate` writes to
+ * C99, C11 and C++. Link with libwickslate.a, which `scripts/build wickslate` writes to
  * target/staticlib, for x86-64. The archive keeps nothing between calls, uses no heap and needs only
  * memcpy and memset from outside. Calls on different memory can run at the same time.
  *

@@ -15,10 +15,35 @@ def help_asked(text):
         sys.exit(0)
 
 
+def lines_of_crates():
+    """What crates.txt says: each crate with the words before its colon and those behind it."""
+    lines = (line.split("#")[0].partition(":") for line in (ROOT / "crates.txt").read_text().splitlines())
+    return {before.split()[0]: (before.split(), behind.split()) for before, _, behind in lines if before.strip()}
+
+
 def crates():
     """The crates of crates.txt, in its order."""
-    lines = (line.split("#")[0] for line in (ROOT / "crates.txt").read_text().splitlines())
-    return [line.split(":")[0].strip() for line in lines if line.strip()]
+    return list(lines_of_crates())
+
+
+def beneath(crate):
+    """The crates of crates.txt that a crate stands on, the lowest first."""
+    lines, found = lines_of_crates(), []
+
+    def walk(name):
+        for further in lines[name][1]:
+            if further in lines and further not in found:
+                walk(further)
+                found.append(further)
+
+    walk(crate)
+    return found
+
+
+def is_made(path):
+    """Whether a path, from the root, is of a crate's folder out/, which `rt` makes."""
+    parts = path.split("/")
+    return parts[0] == "crates" and parts[2:3] == ["out"]
 
 
 def operations(page):

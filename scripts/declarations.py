@@ -15,6 +15,8 @@ RATTLE = re.compile(
     r"|[^\s(){}\[\];,.:<>=&|!+\-*/%^#?@\"]+"
 )
 OPEN, CLOSE = {"(", "{", "["}, {")", "}", "]"}
+# The files of the proof of one function; what they declare is its alone.
+OF_ONE_FUNCTION = ("Invariants.antt", "Answers.antt", "Proof.antt")
 
 
 @dataclass
@@ -239,7 +241,7 @@ def items(read, inside, file):
             marks.add(read[k].text)
             k += 1
             if read[k - 1].text == "#" or (read[k - 1].text == "pub" and read[k].text == "("):
-                k = closing(read, k)
+                k = closing(read, k + (read[k].text == "!"))
         word = read[k].text if k < len(read) else ""
         if word == "use":
             begin, k = k, next((n for n in range(k, len(read)) if read[n].text == ";"), len(read)) + 1
@@ -298,17 +300,17 @@ def ghost_use(read, file):
 
 
 def code_use(read, file):
-    """`use a::b::{C, D as E};`"""
+    """`use a::b::{C, D as E};` A function and a definition may have one name: a `ghost use` of it is what contracts mean."""
     words = [t.text for t in read[1:-1] if t.text != "::"]
     parts = []
     while words and words[0] not in ("{", "as"):
         parts.append(words.pop(0))
     if not words:
-        file.names[parts[-1]] = (parts[:-1], parts[-1])
+        file.names.setdefault(parts[-1], (parts[:-1], parts[-1]))
     elif words[0] == "as":
-        file.names[words[1]] = (parts[:-1], parts[-1])
+        file.names.setdefault(words[1], (parts[:-1], parts[-1]))
     else:
         for item in " ".join(words[1:-1]).split(","):
             names = item.split()
             if names:
-                file.names[names[-1]] = (parts, names[0])
+                file.names.setdefault(names[-1], (parts, names[0]))

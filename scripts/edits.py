@@ -30,10 +30,14 @@ CONSTANT = re.compile(r"(?:pub )?const (\w+):")
 HEAD = """# Wrong programs
 
 `scripts/must-fail --write` writes this page: the words and places from the edits in `crates/*/must-fail`, the last
-column from what the checker said of them. The gate tries every edit and fails if this page says anything else.
+column from what the checker said of them. The gate tries every edit, and fails if one is not refused, if the words and
+places here are not those of the edits, or if an edit is refused first at a place of its own where this page names a
+different fact. `scripts/must-fail --verify`, which takes minutes, fails if any fact of this page is not what the
+checker says.
 
 Each edit is applied to a copy of its crate, and the checker refuses it. All places of an edit are tried at once: each
-lies in a function of its own, and each of these functions is refused by itself. So each row is a wrong program, and
+lies in a function of its own, and each of these functions is refused by itself; one that shows nothing there, since
+a function that it calls is refused, where its place is tried alone. So each row is a wrong program, and
 its last column names the function (or the file of laws) and the fact at which it is refused, and says what that fact
 is. No row is refused for its form, that is, with words with which a right program of that form would be refused too.
 

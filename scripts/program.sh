@@ -16,15 +16,16 @@ has_input() {
     { : 3<&0; } 2>/dev/null
 }
 
-# Tells whether the program was proved and built after the last change of a source.
+# Tells whether the program was proved and built after the last change of a source. What rt makes is in folders out/ of the
+# crates, and changes their own times.
 is_current() {
-    [[ -x $program && -f $checked && -z $(find "$root/crates" "$root/crates.txt" -newer "$checked" -print -quit) ]]
+    [[ -x $program && -f $checked && ! $root/crates.txt -nt $checked ]] &&
+        [[ -z $(find "$root/crates" -mindepth 2 -name out -prune -o -newer "$checked" -print -quit) ]]
 }
 
 # Proves and builds the program if it is not current. The stamp is as old as the beginning of the proof, so that a
-# source which changes meanwhile is proved next time. Scripts that are called at once prove one after the other, for rt
-# works in one folder: of three that ran together one was seen to fail after it had proved again what was proved.
-# Without flock they are not held apart.
+# source which changes meanwhile is proved next time. Scripts that are called at once prove one after the other, so that
+# the second finds what the first built. Without flock they are not held apart.
 prepare() {
     local checked=$root/target/$name.checked log stamp turn
     if is_current; then
@@ -38,7 +39,7 @@ prepare() {
     fi
     if ! is_current; then
         stamp=$(mktemp "$checked.XXXXXX") || fail 2 "$root/target cannot be written"
-        if ! log=$(cd "$root" && rt check "$name" 2>&1 </dev/null {turn}>&-); then
+        if ! log=$("$root/scripts/build" "$name" 2>&1 </dev/null {turn}>&-); then
             rm -f -- "$stamp"
             printf '%s\n' "$log" >&2
             fail 2 "the program could not be proved and built"

@@ -7,7 +7,7 @@ import hashlib
 from collections import defaultdict
 
 import declarations
-from common import ROOT, traced
+from common import ROOT, is_made, traced
 
 
 class Present:
@@ -15,7 +15,8 @@ class Present:
 
     def __init__(self):
         found = [path for path in (ROOT / "crates").rglob("*") if path.is_file()] + [ROOT / "docs" / "TRACE.md"]
-        self.paths = sorted(path.relative_to(ROOT).as_posix() for path in found)
+        paths = (path.relative_to(ROOT).as_posix() for path in found)
+        self.paths = sorted(path for path in paths if not is_made(path))
         self.text = {path: (ROOT / path).read_text() for path in self.paths if path.endswith((".antt", ".rt", ".md"))}
 
 
@@ -51,7 +52,7 @@ class Tree:
             self.meaning(thing)
 
     def read_antt(self, path, parts):
-        if parts[-1] == "Lib.antt" or (parts[2] == "proofs" and parts[-1] == "Proof.antt"):
+        if parts[-1] == "Lib.antt" or (parts[2] == "proofs" and parts[-1] in declarations.OF_ONE_FUNCTION):
             return
         file = self.parsed[path] = declarations.antt(self.files.text[path])
         for one in file.declarations:
@@ -81,14 +82,15 @@ class Tree:
     def resolve(self, thing):
         file = self.parsed[thing.path]
         words = thing.words
-        # a parameter or a field of Rattle hides a definition of its name
-        own = {a.text for a, b in zip(words, words[1:]) if b.text == ":"} if thing.path.endswith(".rt") else set()
+        # a parameter or a field of Rattle hides a definition of its name; a contract may name the definition of its function's name
+        is_code = thing.path.endswith(".rt")
+        own = {a.text for a, b in zip(words, words[1:]) if b.text == ":"} if is_code else {thing.name}
         for k, token in enumerate(words):
             if k and words[k - 1].text == "." and token.tight:
                 continue  # a field
-            if token.text == thing.name or token.text in own:
+            if token.text in own or (is_code and k and words[k - 1].text in ("fn", "struct", "enum")):
                 continue
-            infix = f"_{token.text}_"
+            infix = f"◌{token.text}◌"
             if token.text in file.modules and k + 2 < len(words) and words[k + 1].text == "." and words[k + 2].tight:
                 found = self.imported(thing.crate, file.modules[token.text], words[k + 2].text)
             elif token.text in file.names or infix in file.names:
@@ -105,8 +107,8 @@ class Tree:
     def imported(self, crate, parts, name, seen=()):
         """The thing that a module has under a name, or passes on: a path of antt, or one of Rattle."""
         parts = [part for part in parts if part]
-        if parts and parts[0].startswith("Rattle·"):
-            owner, rest = parts[0].split("·")[1], parts[1:]
+        if len(parts) > 1 and parts[0] == "Rattle":
+            owner, rest = parts[1], parts[2:]
             if rest[:2] == ["specs", "declared"]:
                 return self.type_of(owner, rest[2] if len(rest) > 2 else name)
             path = "/".join(["crates", owner, *rest]) + ".antt"

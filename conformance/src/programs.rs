@@ -11,12 +11,12 @@ pub fn root() -> PathBuf {
     Path::new(env!("CARGO_MANIFEST_DIR")).join("..")
 }
 
-/// A program that `rt check` builds.
+/// A program that `scripts/build` builds.
 pub fn program(name: &str) -> Command {
     let path = root().join("target/bin").join(name);
     assert!(
         path.exists(),
-        "no target/bin/{name}: run `rt check {name}` in the folder above"
+        "no target/bin/{name}: run `scripts/build {name}` in the folder above"
     );
     Command::new(path)
 }
