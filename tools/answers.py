@@ -11,7 +11,7 @@ ID = r"[A-Za-z0-9_'₀-₉⊢→≡λ_-]"
 TOK = re.compile(r"(?<![A-Za-z0-9_'₀-₉.\-])([A-Za-z_][A-Za-z0-9_'₀-₉]*(?:-[A-Za-z0-9_'₀-₉]+)*)((?:\.[A-Za-z0-9_'₀-₉]+(?:-[A-Za-z0-9_'₀-₉]+)*)*)")
 said = []
 def say(p, t): said.append(f"{p}: {t}")
-def norm(s): return s.replace("_", "-")
+def norm(s): return s.replace("_", "-").lower().replace("type-size", "size-of").removesuffix("-lem")
 
 # ---- contracts: names of clauses by function path
 def contracts():
@@ -90,7 +90,14 @@ class Fn:
             place = q; f = f[1:]
         if not f: return ("place", place)
         name = norm(f[0]); p = place
+        chain = []
         while p is not None:
+            chain.append(p); p = self.parent.get(p)
+        p = getattr(self, "origin", None)
+        while p is not None:
+            if p not in chain: chain.append(p)
+            p = self.parent.get(p)
+        for p in chain:
             o, n = self.step.get(p, ("", ""))
             if o and o == name:
                 rest = f[1:]
@@ -108,8 +115,9 @@ class Fn:
                 if rest[:2] == ["given", "1"]: rest = ["is"] + rest[2:]
                 elif rest[:1] == ["given"]: say(where, "given " + ".".join(rest))
                 return ("text", ".".join(["c", n] + rest))
-            p = self.parent.get(p)
-        if f[0] in ("args", "requires", "ranges", "well-formed", "well_formed", "lifetimes", "utf8", "type_inv"):
+        if f[0] == "pre": f[0] = "requires"
+        if f[0] == "good": f[0] = "well_formed"
+        if f[0] in ("args", "requires", "ranges", "well-formed", "well_formed", "lifetimes", "utf8", "type_inv", "type-inv"):
             rest = f[1:]
             if f[0] in ("args", "ranges") and rest and re.fullmatch(r"t\d+", rest[0]) and rest[0] not in self.fq[2] and int(rest[0][1:]) <= len(self.fq[2]):
                 rest = [self.fq[2][int(rest[0][1:]) - 1]] + rest[1:]
@@ -117,7 +125,7 @@ class Fn:
                 rest = clause(self.fq[0], rest)
                 if not rest and len(self.fq[0]) > 1:
                     return ("text", "(" + ", ".join("c.requires." + x for x in self.fq[0]) + ")")
-            if f[0] == "well-formed": f[0] = "well_formed"
+            f[0] = f[0].replace("-", "_")
             return ("text", ".".join(["c", f[0]] + rest))
         say(where, f"no step {'.'.join(f)} at {place}; steps " + " ".join(v[0] for v in self.step.values()))
         return ("text", ".".join(["c.??"] + f))
@@ -157,12 +165,20 @@ def top_tuple(s):
             if depth == 0 and i != len(s) - 1: return None
         elif ch == "," and depth == 1: parts.append(s[last:i]); last = i + 1
     parts.append(s[last:-1])
+    if not parts[-1].strip(): parts.pop()
     return [p.strip() for p in parts] if len(parts) > 1 else None
 
 def rewrite(fn, text, env, where):
     """env: var -> place, or (place, fields, text)"""
     def sub(m):
         root, tail = m.group(1), m.group(2)
+        if root not in env and root in getattr(fn, "places_in", {}):
+            var, b = fn.places_in[root]
+            if var in env and not isinstance(env[var], tuple):
+                k, v = fn.resolve(env[var], [x for x in b.split(".")[1:] if x], where)
+                if k == "place":
+                    k, v = fn.resolve(v, [x for x in tail.split(".") if x], where)
+                    return v if k == "text" else "c"
         if root not in env: return m.group()
         fields = [x for x in tail.split(".") if x]
         if isinstance(env[root], tuple):
@@ -190,13 +206,77 @@ def record_of(names, expr):
         flat = flat[:k-1] + ["(" + ", ".join(flat[k-1:]) + ")"]
     return "record { " + "; ".join(f"{n} = {e}" for n, e in zip(names, flat)) + " }"
 
+def use_helpers(fn, text, env, where, need):
+    """names of helpers applied to places -> let-bound names; need collects (name, place)"""
+    if not fn.helpers: return text
+    alt = "|".join(re.escape(h) for h in sorted(fn.helpers, key=len, reverse=True))
+    pat = re.compile(rf"(?<![\w'.-])({alt})(?![\w'-]) +([A-Za-z_][\w'-]*(?:\.[\w'-]+)*)")
+    def sub(m):
+        root, *fs = m.group(2).split(".")
+        if root not in env or isinstance(env[root], tuple): return m.group()
+        kind, v = fn.resolve(env[root], fs, where)
+        if kind != "place": return m.group()
+        if (m.group(1), v) not in need: need.append((m.group(1), v))
+        return "\u0001" + m.group(1) + "\u0002"
+    return pat.sub(sub, text)
+
+def helper_lets(fn, need, where):
+    """lets for the helpers that are used, those that they use first"""
+    out, done = [], set()
+    def visit(name, place):
+        if name in done: return
+        done.add(name)
+        var, typ, body, within = fn.helpers[name]
+        env = {var: place}
+        more = []
+        def deep(text):
+            text = use_helpers(fn, text, env, where, more)
+            if within:
+                for h in within:
+                    if h != name and re.search(rf"(?<![\w'.\u0001-]){re.escape(h)}(?![\w'\u0002-])", text):
+                        if (h, place) not in more: more.append((h, place))
+            env2 = dict(env); kept = []
+            lets, last = split_let(text)
+            for n, lty, e in lets:
+                m = TOK.fullmatch(e)
+                if m and m.group(1) in env2 and not isinstance(env2[m.group(1)], tuple) and lty is None:
+                    k, v = fn.resolve(env2[m.group(1)], [x for x in m.group(2).split(".") if x], where)
+                    if k == "place": env2[n] = v; continue
+                    old = env2[m.group(1)]
+                    kept.append((n, None, v)); env2[n] = (old, [x for x in m.group(2).split(".") if x], v); continue
+                kept.append((n, rewrite(fn, lty, env2, where) if lty else None, rewrite(fn, e, env2, where)))
+                env2.pop(n, None)
+            last = rewrite(fn, last, env2, where)
+            return "".join(f"let {n}" + (f" : {ty}" if ty else "") + f" = {e} in " for n, ty, e in kept) + last
+        ty, bo = deep(typ), deep(body)
+        # inside a module the names of its definitions stand for places too: c.before.x through an abbreviation
+        for n, p in more: visit(n, p)
+        if fn.helpers[name][1] != "PLACE": out.append((name, ty, bo))
+    for n, p in need: visit(n, p)
+    return out
+
+def fix_not(s):
+    return re.sub(r"not-(?:true|false) _ (c\.if-not-[\w.'-]+)", r"\1", s)
+
 def answer(fn, goal, place, params, body, where, names):
     env = {params[0]: place}
-    for k in params[1:]:
-        if re.search(rf"(?<![\w'-]){re.escape(k)}(?![\w'-])", body): say(where, f"{goal}: uses {k}")
+    fn.origin = place
+    need = []
+    more = "".join(" " + k for k in params[1:] if not k.startswith("κ"))
     lets, last = split_let(body)
     out = []
     for n, ty, e in lets:
+        ph = re.fullmatch(r"([\w'-]+) ([A-Za-z_][\w'-]*(?:\.[\w'-]+)*)", e)
+        if ph and ph.group(1) in fn.places_in:
+            root, *fs = ph.group(2).split(".")
+            if root in env and not isinstance(env[root], tuple):
+                k, v = fn.resolve(env[root], fs, where)
+                if k == "place":
+                    var, b = fn.places_in[ph.group(1)]
+                    k, v2 = fn.resolve(v, [x for x in b.split(".")[1:] if x], where)
+                    if k == "place": env[n] = v2; continue
+        e = use_helpers(fn, e, env, where, need)
+        if ty: ty = use_helpers(fn, ty, env, where, need)
         m = TOK.fullmatch(e)
         if m and m.group(1) in env and ty is None and not isinstance(env[m.group(1)], tuple):
             kind, v = fn.resolve(env[m.group(1)], [x for x in m.group(2).split(".") if x], where)
@@ -212,6 +292,7 @@ def answer(fn, goal, place, params, body, where, names):
         e2 = rewrite(fn, e, env, where); ty2 = rewrite(fn, ty, env, where) if ty else None
         env.pop(n, None)
         out.append((n, ty2, e2))
+    last = use_helpers(fn, last, env, where, need)
     last = rewrite(fn, last, env, where)
     if names:
         r = record_of(names, last)
@@ -227,11 +308,13 @@ def answer(fn, goal, place, params, body, where, names):
         if r: last = r
         else: say(where, f"{goal}: no tuple for {names}")
     lines = ""
-    for n, ty, e in out:
+    for n, ty, e in helper_lets(fn, need, where) + out:
         lines += f"    let {n}" + (f" : {ty}" if ty else "") + f" = {e} in\n"
+    lines = re.sub("\\(\u0001([^\u0002]*)\u0002\\)", r"\1", lines); last = re.sub("\\(\u0001([^\u0002]*)\u0002\\)", r"\1", last)
+    lines = fix_not(lines.replace("\u0001", "").replace("\u0002", "")); last = fix_not(last.replace("\u0001", "").replace("\u0002", ""))
     g = f"pub {goal} : goal.{goal}\n"
-    if lines: return g, f"{goal} c =\n{lines}    {last}\n"
-    return g, f"{goal} c = {last}\n"
+    if lines: return g, f"{goal} c{more} =\n{lines}    {last}\n"
+    return g, f"{goal} c{more} = {last}\n"
 
 def items(text):
     """top-level declarations: (name, lines)"""
@@ -326,6 +409,40 @@ def convert(proof, modpath, key):
     inv, ans, helpers, answered = [], {}, [], {}
     loops = {norm(l[0][0]): (l[0][1], l[1], ch) for l, ch in zip(d["loops"], d["changed"])}
     spec = None
+    fn.helpers = {}
+    rest = []
+    for name, lines, pre in its:
+        sig = lines[0]
+        if name == "use": continue
+        m = re.match(r"(?:abbrev |pub |unfoldable )*(\S+) : \((\S+) : tie\.[\w'-]+\) → (.*)$", "\n".join(lines[:next((i for i, l in enumerate(lines) if i and re.match(rf"{re.escape(name)} |unfolding ", l)), len(lines))]), re.S) or None
+        m0 = re.match(r"(?:abbrev |pub |unfoldable )*(\S+) : tie\.([A-Z][\w'-]*) → (.*)$", sig) if not sig.split(" : ")[-1].startswith("tie.Need") else None
+        cl = "\n".join(lines[next((i for i, l in enumerate(lines) if re.match(rf"{re.escape(name)} ", l) and " : " not in l.split(" = ")[0]), len(lines)):])
+        mc = re.match(r"(\S+) (\S+) =\s*(.*)$", cl, re.S)
+        if (m or m0) and mc and not any(l.startswith("unfolding") for l in lines):
+            fn.helpers[name] = (mc.group(2), (m or m0).group(3).strip() if "tie." not in (m or m0).group(3) else "PLACE", mc.group(3).strip(), None)
+            continue
+        if name == "module":
+            mm = re.match(r"module _ \((\S+) : tie\.[\w'-]+\) where", sig)
+            if mm:
+                var = mm.group(1); inner = []; cur = None
+                for l in lines[1:]:
+                    l = l[2:]
+                    if l.strip().startswith("--"): continue
+                    dm = re.match(r"(?:abbrev |pub |unfoldable )*(\S+) : (.*)$", l)
+                    if dm and not l.startswith(" "): cur = [dm.group(1), dm.group(2), None]; inner.append(cur); continue
+                    dm = re.match(r"(\S+) = ?(.*)$", l)
+                    if cur and dm and dm.group(1) == cur[0] and not l.startswith(" "): cur[2] = dm.group(2); continue
+                    if cur and cur[2] is not None: cur[2] += "\n" + l
+                    elif cur: cur[1] += " " + l.strip()
+                names_in = [c[0] for c in inner]
+                for c in inner:
+                    fn.helpers[c[0]] = (var, c[1].strip() if not c[1].startswith("tie.") else "PLACE", (c[2] or "").strip(), names_in)
+                continue
+        rest.append([name, lines, pre])
+    fn.places_in = {}
+    for h, (var, typ, body, within) in fn.helpers.items():
+        if typ == "PLACE": fn.places_in[h] = (var, body)
+    its = [x for x in its if x[0] == "use"] + rest
     for name, lines, pre in its:
         if name == "use": continue
         body = "\n".join(lines)
@@ -433,5 +550,6 @@ for key in NAMES:
     try:
         convert(proof, modpath, key); done += 1
     except Exception as e:
+        import traceback; traceback.print_exc()
         say("/".join(modpath), f"FAILED {type(e).__name__} {e}")
 print("\n".join(said)); print(done, "turned")

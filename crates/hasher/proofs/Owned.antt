@@ -1,13 +1,12 @@
--- What owning a running hash tells: how long its arrays are, and that each element is a byte. `c.good` and `.ok` of a call have `Is`.
+-- What owning a running hash tells: how long its arrays are, and that each element is a byte. `c.well_formed` and `.type_inv` of a call have `Is`.
 -- Assumes nothing.
-use mathlib.Core.Path.{sym, ap, ◌∙◌}
 use mathlib.Core.List.{List}
 use Prim.Native.Nat.{ℕ, ◌<◌}
-use lib.ListN.{length, get_or}
+use lib.ListN.{get_or}
 use mir.Val.{Val}
 use denote.Laws.{Is}
 use denote.Struct.Laws as laws
-use Rattle.octets.proofs.Fields.{same, field-bytes}
+use Rattle.octets.proofs.Fields.{field-bytes}
 use Rattle.hasher.specs.declared.Hasher.{Hasher}
 use Rattle.hasher.specs.Sized.{Sized}
 use Rattle.hasher.specs.contracts.Hasher as type
@@ -23,8 +22,8 @@ owned h vs p =
     let o = (laws.owed type.the_type type-laws.the_laws h vs p).1.1.1 in
     record {
       sized = record {
-        state-size = ap length (sym (same h.state)) ∙ o.0.1.0.1;
-        held-size = ap length (sym (same h.held)) ∙ o.1.0.1.0.1;
+        state-size = o.0.1.0.1;
+        held-size = o.1.0.1.0.1;
       };
       state-byte = field-bytes h.state o.0.0 o.0.1.1;
       held-byte = field-bytes h.held o.1.0.0 o.1.0.1.1;

@@ -1,5 +1,5 @@
 -- What owning an array by value tells: its length, and that each element is a value of its type.
--- `c.good.N` of a parameter, and `.ok` of a call's result, are such facts.
+-- `c.well_formed.N` of a parameter, and `.type_inv` of a call, are such facts.
 -- Assumes nothing.
 use mathlib.Core.Path.{subst, sym}
 use mathlib.Core.List.{List, [], ◌∷◌}

@@ -1,4 +1,4 @@
--- `bytes::bits::clear_from` meets its contract: past the end, or the rest of a byte and the bytes after it. Assumes
+-- `octets::bits::clear_from` meets its contract: past the end, or the rest of a byte and the bytes after it. Assumes
 use mathlib.Core.Path.{◌≡◌, sym, ap, ◌∙◌}
 use mathlib.Core.Bool.{Bool, ◌&&◌}
 use Prim.Native.Nat.{ℕ, ◌+◌, ◌-◌, ◌*◌, ◌/◌, ◌%◌, ◌^◌}

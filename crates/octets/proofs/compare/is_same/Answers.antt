@@ -1,4 +1,4 @@
--- `bytes::compare::is_same` meets its contract: what is asked of the bytes is asked of those from i on. Assumes
+-- `octets::compare::is_same` meets its contract: what is asked of the bytes is asked of those from i on. Assumes
 use mathlib.Core.Path.{refl, sym, ◌∙◌}
 use native.Mathlib.Omega.{arith}
 use Rattle.octets.proofs.CompareLaws.{same-stopped, same-passed, same-past}

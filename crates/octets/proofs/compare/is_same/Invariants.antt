@@ -1,4 +1,4 @@
--- `bytes::compare::is_same` meets its contract: what is asked of the bytes is asked of those from i on. Assumes
+-- `octets::compare::is_same` meets its contract: what is asked of the bytes is asked of those from i on. Assumes
 use mathlib.Core.Path.{◌≡◌}
 use Prim.Native.Nat.{◌-◌}
 use lib.ListN.{length, drop}

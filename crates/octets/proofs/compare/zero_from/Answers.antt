@@ -1,4 +1,4 @@
--- `bytes::compare::zero_from` meets its contract: what is asked of the bytes from the first on is asked of those from i
+-- `octets::compare::zero_from` meets its contract: what is asked of the bytes from the first on is asked of those from i
 use mathlib.Core.Path.{refl, sym, ◌∙◌}
 use native.Mathlib.Omega.{arith}
 use Rattle.octets.proofs.CompareLaws.{zeros-stopped, zeros-passed, zeros-past}

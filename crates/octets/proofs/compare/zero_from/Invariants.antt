@@ -1,4 +1,4 @@
--- `bytes::compare::zero_from` meets its contract: what is asked of the bytes from the first on is asked of those from i
+-- `octets::compare::zero_from` meets its contract: what is asked of the bytes from the first on is asked of those from i
 use mathlib.Core.Path.{◌≡◌}
 use Prim.Native.Nat.{◌-◌}
 use lib.ListN.{length, drop}

@@ -1,4 +1,4 @@
--- `bytes::copies::copy_front` meets its contract: bytes written at place 0. Assumes nothing.
+-- `octets::copies::copy_front` meets its contract: bytes written at place 0. Assumes nothing.
 use mathlib.Core.Path.{sym, ◌∙◌}
 use native.Mathlib.Omega.{arith}
 use lib.Seq.{length-take-le}

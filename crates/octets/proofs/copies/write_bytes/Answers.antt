@@ -1,4 +1,4 @@
--- `bytes::copies::write_bytes` meets its contract: the bytes passed are written. Assumes nothing.
+-- `octets::copies::write_bytes` meets its contract: the bytes passed are written. Assumes nothing.
 use mathlib.Core.Path.{refl, sym, ap, ◌∙◌}
 use mathlib.Core.List.{List}
 use Prim.Native.Nat.{ℕ}
@@ -11,9 +11,6 @@ use Rattle.octets.proofs.copies.write_bytes.Goals as goal
 
 pub loop-i-init : goal.loop-i-init
 loop-i-init c = (omega arith, refl, sym (written_at-none c.args.at c.args.out.now))
-
-pub bounds-bytes-i : goal.bounds-bytes-i
-bounds-bytes-i c = omega arith
 
 pub overflow_add-out : goal.overflow_add-out
 overflow_add-out c = omega arith

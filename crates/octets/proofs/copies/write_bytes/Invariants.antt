@@ -1,4 +1,4 @@
--- `bytes::copies::write_bytes` meets its contract: the bytes passed are written. Assumes nothing.
+-- `octets::copies::write_bytes` meets its contract: the bytes passed are written. Assumes nothing.
 use mathlib.Core.Path.{◌≡◌}
 use Prim.Native.Nat.{◌-◌, ◌≤◌}
 use lib.ListN.{length, take}

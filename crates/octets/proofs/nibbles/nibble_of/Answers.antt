@@ -1,4 +1,4 @@
--- `bytes::nibbles::nibble_of` meets its contract. Assumes nothing.
+-- `octets::nibbles::nibble_of` meets its contract. Assumes nothing.
 use borrow.Author.Tests.{eq-eqb, ne_eqb}
 use Rattle.octets.proofs.nibbles.nibble_of.Goals as goal
 

@@ -1,4 +1,4 @@
--- `bytes::nibbles::put_nibble` meets its contract: an xor into the upper or the lower half of a byte. Assumes nothing.
+-- `octets::nibbles::put_nibble` meets its contract: an xor into the upper or the lower half of a byte. Assumes nothing.
 use Rattle.octets.proofs.RowsIntoBytes.{half-put}
 use Rattle.octets.proofs.nibbles.put_nibble.Goals as goal
 

@@ -1,4 +1,4 @@
--- `bytes::nibbles::shifted_nibble` meets its contract. Assumes nothing.
+-- `octets::nibbles::shifted_nibble` meets its contract. Assumes nothing.
 use borrow.Author.Tests.{eq-eqb, ne_eqb}
 use Rattle.octets.proofs.nibbles.shifted_nibble.Goals as goal
 

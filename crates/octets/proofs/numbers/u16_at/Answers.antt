@@ -1,4 +1,4 @@
--- `bytes::numbers::u16_at` meets its contract. Assumes nothing.
+-- `octets::numbers::u16_at` meets its contract. Assumes nothing.
 use native.Mathlib.Omega.{arith}
 use Rattle.octets.proofs.NumberLaws.{two_bytes}
 use Rattle.octets.proofs.numbers.u16_at.Goals as goal

@@ -1,4 +1,4 @@
--- `bytes::numbers::u16_bytes` meets its contract. Assumes nothing.
+-- `octets::numbers::u16_bytes` meets its contract. Assumes nothing.
 use mathlib.Core.Path.{sym}
 use native.Mathlib.Omega.{arith}
 use Rattle.octets.proofs.NumberLaws.{two-in-bytes}

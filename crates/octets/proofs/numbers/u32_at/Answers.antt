@@ -1,4 +1,4 @@
--- `bytes::numbers::u32_at` meets its contract. Assumes nothing.
+-- `octets::numbers::u32_at` meets its contract. Assumes nothing.
 use native.Mathlib.Omega.{arith}
 use Rattle.octets.proofs.NumberLaws.{four_bytes}
 use Rattle.octets.proofs.numbers.u32_at.Goals as goal

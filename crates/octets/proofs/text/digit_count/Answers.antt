@@ -1,4 +1,4 @@
--- `bytes::text::digit_count` meets its contract: the digits counted, and those of what is left, are all and one more.
+-- `octets::text::digit_count` meets its contract: the digits counted, and those of what is left, are all and one more.
 use native.Mathlib.Omega.{arith}
 use Rattle.octets.proofs.DecimalLaws.{length-digit, length_rest, decimal-some, decimal-short}
 use Rattle.octets.proofs.text.digit_count.Goals as goal

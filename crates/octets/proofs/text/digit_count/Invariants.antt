@@ -1,4 +1,4 @@
--- `bytes::text::digit_count` meets its contract: the digits counted, and those of what is left, are all and one more.
+-- `octets::text::digit_count` meets its contract: the digits counted, and those of what is left, are all and one more.
 use mathlib.Core.Path.{◌≡◌}
 use Prim.Native.Nat.{◌+◌}
 use lib.ListN.{length}

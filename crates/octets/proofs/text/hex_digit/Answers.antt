@@ -1,4 +1,4 @@
--- `bytes::text::hex_digit` meets its contract. Assumes nothing.
+-- `octets::text::hex_digit` meets its contract. Assumes nothing.
 use native.Mathlib.Omega.{arith}
 use borrow.Author.Tests.{lt-ltb, le-ltb}
 use borrow.Author.Rules.{rules}

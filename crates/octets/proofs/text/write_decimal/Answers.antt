@@ -1,4 +1,4 @@
--- `bytes::text::write_decimal` meets its contract: the digits after those of the rest are written. Assumes nothing.
+-- `octets::text::write_decimal` meets its contract: the digits after those of the rest are written. Assumes nothing.
 use mathlib.Core.Path.{refl}
 use native.Mathlib.Omega.{arith}
 use lib.ListN.{length-set}

@@ -1,4 +1,4 @@
--- `bytes::text::write_hex` meets its contract: the digits of the bytes passed are written. Assumes nothing.
+-- `octets::text::write_hex` meets its contract: the digits of the bytes passed are written. Assumes nothing.
 use mathlib.Core.Path.{refl, sym, ap, ◌∙◌}
 use mathlib.Core.List.{List}
 use Prim.Native.Nat.{ℕ}

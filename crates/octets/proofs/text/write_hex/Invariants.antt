@@ -1,4 +1,4 @@
--- `bytes::text::write_hex` meets its contract: the digits of the bytes passed are written. Assumes nothing.
+-- `octets::text::write_hex` meets its contract: the digits of the bytes passed are written. Assumes nothing.
 use mathlib.Core.Path.{◌≡◌}
 use Prim.Native.Nat.{◌+◌, ◌-◌, ◌*◌, ◌≤◌}
 use lib.ListN.{length, take}

@@ -1,4 +1,4 @@
--- `bytes::text::write_line` meets its contract: the four parts of a line, one after the other. Assumes nothing.
+-- `octets::text::write_line` meets its contract: the four parts of a line, one after the other. Assumes nothing.
 use native.Mathlib.Omega.{arith}
 use Rattle.octets.proofs.DecimalLaws.{decimal-short}
 use Rattle.octets.proofs.LineLaws.{line-short, line-written}

@@ -13,10 +13,9 @@ loop-j-init c = (omega arith, upto-none _ c.requires.0)
 pub loop-j-preserved : goal.loop-j-preserved
 loop-j-preserved c =
     let l = c.loop-j in
-    let given = c.shared_slice_known-1.given in
     let a = c.args in (
       omega arith,
-      upto-more l.j _ l.w _ (omega arith) (ap₂ bit_xor (l.invariant.1.rest l.j (omega arith)) (byte-cell a.bytes.now (λ i. omega (arith, given i)) (a.at + l.j) a.bit _ (omega arith) (omega arith) c.u8_to_u64.ensures.1 c.u8_to_u64.ensures.0)) l.invariant.1,
+      upto-more l.j _ l.w _ (omega arith) (ap₂ bit_xor (l.invariant.1.rest l.j (omega arith)) (byte-cell a.bytes.now (λ i. grind arith) (a.at + l.j) a.bit _ (omega arith) (omega arith) c.u8_to_u64.ensures.1 c.u8_to_u64.ensures.0)) l.invariant.1,
     )
 
 pub returns : goal.returns

@@ -1,5 +1,5 @@
 -- `photon::words::add_pairs` meets its contract: after m turns the first m sums have what their column gives. Assumes nothing.
-use mathlib.Core.Path.{◌≡◌, ap, ap₂, ◌∙◌}
+use mathlib.Core.Path.{ap, ap₂, ◌∙◌}
 use Prim.Native.Nat.{ℕ, ◌+◌, ◌*◌, ◌/◌, ◌%◌, ◌^◌, ◌<◌}
 use native.Mathlib.Nat.{mod-lt}
 use native.Mathlib.Omega.{arith}
@@ -10,9 +10,6 @@ use Rattle.photon.proofs.words.add_pairs.Goals as goal
 
 place-lt : (m k d : ℕ) → 0 < d → (m + 2 * k) % d < d
 place-lt m k d pos = mod-lt _ pos
-
-byte-lt : (x y : ℕ) → x ≡ y % 256 → x < 256
-byte-lt x y e = rw e (mod-lt _ {m = 256} (omega arith))
 
 pub loop-m-init : goal.loop-m-init
 loop-m-init c = (omega arith, upto-none _ c.requires.0)
@@ -25,12 +22,6 @@ bounds-w-m c = omega (arith, place-lt c.loop-m.m c.args.k c.args.d (omega arith)
 
 pub byte_of-requires : goal.byte_of-requires
 byte_of-requires c = c.spot.ensures.1
-
-pub overflow_add-f-in-loop-m : goal.overflow_add-f-in-loop-m
-overflow_add-f-in-loop-m c = omega (arith, byte-lt _ _ c.byte_of.ensures)
-
-pub bounds-table-k : goal.bounds-table-k
-bounds-table-k c = omega (arith, byte-lt _ _ c.byte_of.ensures)
 
 pub loop-m-preserved : goal.loop-m-preserved
 loop-m-preserved c =

@@ -1,24 +1,14 @@
 -- `photon::words::add_shares` meets its contract: after m turns the first m sums have what their column gives. Assumes nothing.
-use mathlib.Core.Path.{◌≡◌, ap₂}
-use Prim.Native.Nat.{ℕ, ◌+◌, ◌*◌, ◌%◌, ◌<◌}
-use native.Mathlib.Nat.{mod-lt}
+use mathlib.Core.Path.{ap₂}
+use Prim.Native.Nat.{ℕ, ◌+◌, ◌*◌}
 use native.Mathlib.Omega.{arith}
 use lib.Bits.{bit_xor}
 use lib.ListN.{get_or}
 use Rattle.octets.proofs.Upto.{upto-none, upto-more}
 use Rattle.photon.proofs.words.add_shares.Goals as goal
 
-byte-lt : (x y : ℕ) → x ≡ y % 256 → x < 256
-byte-lt x y e = rw e (mod-lt _ {m = 256} (omega arith))
-
 pub loop-m-init : goal.loop-m-init
 loop-m-init c = (omega arith, upto-none _ c.requires.0)
-
-pub overflow_add-f-in-loop-m : goal.overflow_add-f-in-loop-m
-overflow_add-f-in-loop-m c = omega (arith, byte-lt _ _ c.byte_of_six.ensures)
-
-pub bounds-table-k : goal.bounds-table-k
-bounds-table-k c = omega (arith, byte-lt _ _ c.byte_of_six.ensures)
 
 pub loop-m-preserved : goal.loop-m-preserved
 loop-m-preserved c =

@@ -1,6 +1,6 @@
 -- `photon::words::rounds4` meets its contract: after r turns r rounds are made. Assumes nothing.
 use mathlib.Core.Path.{◌≡◌}
-use Prim.Native.Nat.{ℕ, ◌+◌, ◌≤◌, ◌<◌, ◌^◌}
+use Prim.Native.Nat.{◌+◌, ◌≤◌, ◌<◌, ◌^◌}
 use native.Mathlib.Omega.{arith}
 use lib.ListN.{get_or, length-set}
 use Rattle.photon_tables.specs.Columns.{place_of}
@@ -11,18 +11,8 @@ use Rattle.photon.proofs.WordPlaces.{rising-places, constants-low}
 use Rattle.photon.proofs.WordRounds.{rounded-none, rounded-more, rounded-all}
 use Rattle.photon.proofs.words.rounds4.Goals as goal
 
--- the matrix has a row
-size : (v : ℕ) → 1 ≤ v → v ≤ 4 → 0 < (photon_of v).d
-size v low high = (sound v low (omega arith)).pos
-
-pub bounds-table-0 : goal.bounds-table-0
-bounds-table-0 c = omega (arith, c.requires.pairs.size)
-
 pub loop-r-init : goal.loop-r-init
 loop-r-init c = (omega arith, simp length-set c.requires.w_len.0, rounded-none c.args.v c.requires.w_len.1 (omega arith) _)
-
-pub bounds-table-r : goal.bounds-table-r
-bounds-table-r c = omega (arith, c.requires.pairs.size, size c.args.v c.requires.w_len.1 c.requires.w_len.2)
 
 pub round4-requires : goal.round4-requires
 round4-requires c =

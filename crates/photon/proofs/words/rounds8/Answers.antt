@@ -13,14 +13,8 @@ use Rattle.photon.proofs.WordPlaces.{rising-places}
 use Rattle.photon.proofs.WordRounds.{rounded-none, rounded-more, rounded-all}
 use Rattle.photon.proofs.words.rounds8.Goals as goal
 
-pub bounds-table-0 : goal.bounds-table-0
-bounds-table-0 c = omega (arith, c.requires.entries.size)
-
 pub loop-r-init : goal.loop-r-init
 loop-r-init c = (omega arith, simp length-set c.requires.w_len, rounded-none 5 (lit≤ tt) (lit≤ tt) _)
-
-pub bounds-table-r : goal.bounds-table-r
-bounds-table-r c = omega (arith, c.requires.entries.size)
 
 pub round8-requires : goal.round8-requires
 round8-requires c = record { w_len = c.loop-r.invariant.1; entries = c.requires.entries }

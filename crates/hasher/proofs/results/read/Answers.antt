@@ -1,0 +1,28 @@
+-- `hasher::results::read` meets its contract: the checks, and the result of the state over the front of the output. Assumes nothing.
+use mathlib.Core.Path.{sym, ◌∙◌}
+use lib.ListN.{length}
+use Rattle.hasher.specs.Running.{state_of}
+use Rattle.hasher.specs.Reading.{read_into}
+use Rattle.hasher.proofs.Owned.{owned}
+use Rattle.hasher.proofs.WellFormed.{facts, state-kept}
+use Rattle.hasher.proofs.Calls.{read-says}
+use Rattle.hasher.proofs.results.read.Goals as goal
+
+pub returns-in_default : goal.returns-in_default
+unfolding read_into
+returns-in_default c =
+    let e = c.check_read-s.ensures in
+    (e, rw (← e, c.in_default.is))
+
+pub write_result-requires : goal.write_result-requires
+write_result-requires c =
+    let h = c.args.h in
+    let r = read-says h c.args.wanted (length c.args.out.now) (sym c.check_read-s.ensures ∙ c.in-Done.is) in
+    let f = facts h r.whole in
+    record { v_value = f.named; holds = state-kept h f (owned h _ c.well_formed.0); wanted_in_bounds = r.room }
+
+pub returns : goal.returns
+unfolding read_into state_of
+returns c =
+    let e = sym c.check_read-s.ensures ∙ c.in-Done.is in
+    (sym e, rw e c.write_result.ensures)

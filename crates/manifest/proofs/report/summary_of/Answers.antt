@@ -1,0 +1,7 @@
+-- `manifest::report::summary_of` meets its contract. Assumes nothing.
+use Rattle.manifest.specs.Progress.{counts_so_far}
+use Rattle.manifest.proofs.report.summary_of.Goals as goal
+
+pub returns : goal.returns
+unfolding counts_so_far
+returns c = rw c.tallied.ensures

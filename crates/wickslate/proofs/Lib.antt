@@ -1,4 +1,0 @@
--- What the walks of this crate share.
-pub mod Number
-pub mod ReadNumber
-pub mod AdvanceNumber
