@@ -1,5 +1,6 @@
 // What each read of the input makes of the running hash, and whether a further read follows.
-ghost use Rattle.std.specs.Prelude.{◌≡◌};
+ghost use Rattle.std.specs.Prelude.{◌≡◌, pos, negsuc, IfOk, IfErr};
+ghost use Rattle.std.specs.Io.{ReadsAtMost};
 ghost use Rattle.digest.specs.Input.{goes_on, standing, variant_read, after_first, after_piece};
 
 use answers::Status;
@@ -12,6 +13,19 @@ pub struct Fed {
     pub answer: Advanced,
     pub more: bool,
     pub failed: bool,
+}
+
+// What a read into a buffer answered, as one number: that of the bytes that it brought, 0 at the end of the input, and a
+// negative one if it failed.
+pub fn count_of(read: std::io::Result<usize>, buffer: &[u8]) -> isize
+    requires { ReadsAtMost read buffer.now }
+    ensures brought { IfOk read (λ n. result ≡ pos n) }
+    ensures failed { IfErr read (λ _. result ≡ negsuc 0) }
+{
+    match read {
+        Ok(n) => n as isize,
+        Err(_) => -1,
+    }
 }
 
 // A read answers the number of bytes that it brought, 0 at the end of the input, and a negative number if it failed.

@@ -10,41 +10,46 @@ ghost use Rattle.std.specs.Prelude.{◌≡◌, false};
 ghost use Rattle.digest.specs.Reads.{Longer};
 
 use input::Fed;
-use libc::{STDERR_FILENO, STDIN_FILENO, STDOUT_FILENO};
+use std::io::{Read, Result};
 
 // Reads once.
-fn feed_some(fed: Fed) -> Fed
+fn feed_some<R: Read>(source: &mut R, fed: Fed) -> Fed
     ensures { Longer fed result }
 {
     let mut buffer = io::large_buffer();
-    let got = libc::read(STDIN_FILENO, &mut buffer);
+    let read = source.read(&mut buffer);
+    let got = input::count_of(read, &buffer);
     input::after_piece(fed, &buffer, got)
 }
 
 // Reads for as long as there is more. The message grows with each read, and the hash refuses one that is too long.
-fn feed_all(begun: Fed) -> Fed
+fn feed_all<R: Read>(source: &mut R, begun: Fed) -> Fed
     ensures { result.more ≡ false }
 {
     let mut fed = begun;
     while fed.more {
-        fed = feed_some(fed);
+        fed = feed_some(source, fed);
     }
     fed
 }
 
 // Nothing but a complaint is printed if the input cannot be read.
-fn show(fed: Fed) {
+fn show(rt: &(impl Print + Eprint), fed: Fed) -> Result<()> {
     if fed.failed {
-        io::write_all(STDERR_FILENO, b"digest: standard input cannot be read\n");
-        return;
+        return rt.eprintln("digest: standard input cannot be read");
     }
     let mut line = [0u8; text::MAX_BYTES];
     let n = text::write_answer(fed.answer, &mut line);
-    io::write_all(STDOUT_FILENO, &line[0..n]);
+    rt.write_all(&line[0..n])
 }
 
-fn main() {
+fn main(rt: HostRuntime) -> Result<()> {
+    let mut source = rt.stdin();
     let mut first = [0u8; 1];
-    let got = libc::read(STDIN_FILENO, &mut first);
-    show(feed_all(input::after_first(first[0], got)));
+    let read = source.read(&mut first);
+    let got = input::count_of(read, &first);
+    show(
+        &rt,
+        feed_all(&mut source, input::after_first(first[0], got)),
+    )
 }

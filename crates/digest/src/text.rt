@@ -5,9 +5,9 @@ ghost use Rattle.digest.specs.Answers.{digest_line, closed_line, answer_line};
 
 use answers::Status;
 use answers::text::write_refusal;
+use hasher::{Advanced, Hasher};
 use octets::copies::write_bytes;
 use octets::text::write_hex;
-use hasher::{Advanced, Hasher};
 
 // The maximum length of a line: two digits for each of a digest's 32 bytes, and a line end.
 pub const MAX_BYTES: usize = 65;

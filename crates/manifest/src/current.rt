@@ -11,8 +11,8 @@ ghost use Rattle.manifest.specs.Strides.{Stride};
 use crate::records;
 use crate::records::RECORD_BYTES;
 use answers::{MAX_MESSAGE_BITS, MAX_MESSAGE_BYTES};
-use octets::compare::min;
 use hasher::Hasher;
+use octets::compare::min;
 
 // Two bytes of axis number and four of length.
 const HEADER_BYTES: usize = 6;

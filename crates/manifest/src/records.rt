@@ -6,8 +6,8 @@ ghost use Rattle.manifest.specs.Lookups.{is_ordered, record_for};
 ghost use Rattle.manifest.specs.Places.{Place};
 
 use answers::{Refusal, Status};
-use octets::compare::zero_from;
 use chain::DIGEST_BYTES;
+use octets::compare::zero_from;
 
 // A record: two bytes of axis number, one of variant, and 32 of the digest and the filler after it.
 pub const RECORD_BYTES: usize = 35;

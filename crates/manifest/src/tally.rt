@@ -10,9 +10,9 @@ use crate::current::{Current, axis_in, minus};
 use crate::records;
 use crate::records::{MAX_RECORDS, RECORD_BYTES};
 use answers::Status;
-use octets::compare::is_same;
 use chain::DIGEST_BYTES;
 use hasher::Hasher;
+use octets::compare::is_same;
 
 // The tables read so far. As long as no table of record k's axis has come, awaited[k] is 1.
 #[derive(Clone, Copy)]

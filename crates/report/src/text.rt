@@ -5,8 +5,8 @@ ghost use Rattle.report.specs.Lines.{lines_of, printed};
 
 use answers::Status;
 use answers::text::write_refusal;
-use octets::text::write_line;
 use manifest::{Report, Summary};
+use octets::text::write_line;
 
 // The maximum length of the six lines: 50 bytes of names, spaces and line ends, and ten digits in each.
 pub const MAX_BYTES: usize = 110;

@@ -8,6 +8,7 @@ use answers::Status;
 use chain::message::Ending;
 use hasher::{Advanced, Hasher};
 use standard::{Direction, Wanted};
+use std::io::Result;
 
 fn permuted(v: u32, image: &mut [u8], way: Direction) -> Status {
     match way {
@@ -16,81 +17,81 @@ fn permuted(v: u32, image: &mut [u8], way: Direction) -> Status {
     }
 }
 
-fn permute_in_place(v: u32, image: &mut [u8], way: Direction) {
+fn permute_in_place(rt: &impl Print, v: u32, image: &mut [u8], way: Direction) -> Result<()> {
     let status = permuted(v, image, way);
-    show::result(status, image);
+    show::result(rt, status, image)
 }
 
-fn permute(line: &[u8], way: Direction) {
+fn permute(rt: &impl Print, line: &[u8], way: Direction) -> Result<()> {
     let mut image = [0u8; text::ROOM];
     let n = text::bytes(line, 2, &mut image);
-    permute_in_place(text::number(line, 1), &mut image[..n], way);
+    permute_in_place(rt, text::number(line, 1), &mut image[..n], way)
 }
 
 // The permutation by look-ups on words, of which n bytes are shown.
-fn permuted_by_words(v: u8, image: [u8; 36], n: usize)
+fn permuted_by_words(rt: &impl Print, v: u8, image: [u8; 36], n: usize) -> Result<()>
     requires { (1 ≤ v) × (v ≤ 10) × (n ≤ 36) }
 {
     let after = chain::outcome::permuted_by_words(v, image);
-    show::result(Status::Done, &after[0..n]);
+    show::result(rt, Status::Done, &after[0..n])
 }
 
 // False if the variant is no sponge.
-fn permute_words(line: &[u8]) -> bool {
+fn permute_words(rt: &impl Print, line: &[u8]) -> Result<bool> {
     let v = text::small(line, 1);
     let mut image = [0u8; 36];
     let n = text::bytes(line, 2, &mut image);
     if v < 1 {
-        return false;
+        return Ok(false);
     }
     if 10 < v {
-        return false;
+        return Ok(false);
     }
-    permuted_by_words(v, image, n);
-    true
+    permuted_by_words(rt, v, image, n)?;
+    Ok(true)
 }
 
-fn layers(s: [u8; 36], n: usize, counter: u8, reversed: u8)
+fn layers(rt: &impl Print, s: [u8; 36], n: usize, counter: u8, reversed: u8) -> Result<()>
     requires { (0 < n) × ((n ≤ 36) × (reversed ≡ reversal 8 counter)) }
 {
     let added = spongent::steps::c_addition(s, n, counter, reversed);
-    show::bytes(&added[0..n]);
+    show::bytes(rt, &added[0..n])?;
     let replaced = spongent::steps::s_box_layer(added, n, &spongent::S_BOX);
-    show::bytes(&replaced[0..n]);
+    show::bytes(rt, &replaced[0..n])?;
     let moved = spongent::steps::p_layer(replaced, 8 * n);
-    show::bytes(&moved[0..n]);
+    show::bytes(rt, &moved[0..n])
 }
 
-fn layers_back(s: [u8; 36], n: usize, counter: u8, reversed: u8)
+fn layers_back(rt: &impl Print, s: [u8; 36], n: usize, counter: u8, reversed: u8) -> Result<()>
     requires { (0 < n) × ((n ≤ 36) × (reversed ≡ reversal 8 counter)) }
 {
     let put = spongent::steps::p_layer_back(s, 8 * n);
-    show::bytes(&put[0..n]);
+    show::bytes(rt, &put[0..n])?;
     let replaced = spongent::steps::s_box_layer(put, n, &spongent::S_BOX_BACK);
-    show::bytes(&replaced[0..n]);
+    show::bytes(rt, &replaced[0..n])?;
     let added = spongent::steps::c_addition(replaced, n, counter, reversed);
-    show::bytes(&added[0..n]);
+    show::bytes(rt, &added[0..n])
 }
 
 // A round of SPONGENT with its counter: the counter in reverse, and the state after each layer. False if there is no
 // state.
-fn round(line: &[u8], way: Direction) -> bool {
+fn round(rt: &impl Print, line: &[u8], way: Direction) -> Result<bool> {
     let mut byte = [0u8; 1];
     text::bytes(line, 2, &mut byte);
     let counter = byte[0];
     let mut state = [0u8; 36];
     let n = text::bytes(line, 3, &mut state);
     if n == 0 {
-        return false;
+        return Ok(false);
     }
     let reversed = spongent::steps::in_reverse(counter);
-    show::status(Status::Done);
-    show::word(reversed as u64, 2);
+    show::status(rt, Status::Done)?;
+    show::word(rt, reversed as u64, 2)?;
     match way {
-        Direction::Forward => layers(state, n, counter, reversed),
-        Direction::Backward => layers_back(state, n, counter, reversed),
+        Direction::Forward => layers(rt, state, n, counter, reversed)?,
+        Direction::Backward => layers_back(rt, state, n, counter, reversed)?,
     }
-    true
+    Ok(true)
 }
 
 fn word_at(bytes: &[u8], i: usize) -> u64
@@ -101,7 +102,7 @@ fn word_at(bytes: &[u8], i: usize) -> u64
 }
 
 // Lesamnta-LW's functions: Q on a word, and G on two words and the word of a round key.
-fn q_and_g(line: &[u8]) {
+fn q_and_g(rt: &impl Print, line: &[u8]) -> Result<()> {
     let mut x = [0u8; 4];
     text::bytes(line, 2, &mut x);
     let mut y = [0u8; 8];
@@ -110,10 +111,14 @@ fn q_and_g(line: &[u8]) {
     text::bytes(line, 4, &mut key);
     let mut table = [0u64; lesamnta::words::TABLE_WORDS];
     lesamnta::words::fill_table(&mut table);
-    show::status(Status::Done);
-    show::word(lesamnta::words::word_q(word_at(&x, 0), &table), 8);
+    show::status(rt, Status::Done)?;
+    show::word(rt, lesamnta::words::word_q(word_at(&x, 0), &table), 8)?;
     let two = word_at(&y, 0) * 4294967296 + word_at(&y, 4);
-    show::word(lesamnta::words::word_g(two, word_at(&key, 0), &table), 16);
+    show::word(
+        rt,
+        lesamnta::words::word_g(two, word_at(&key, 0), &table),
+        16,
+    )
 }
 
 fn ciphered(key: [u8; 16], state: [u8; 32], way: Direction) -> [u8; 32] {
@@ -123,13 +128,13 @@ fn ciphered(key: [u8; 16], state: [u8; 32], way: Direction) -> [u8; 32] {
     }
 }
 
-fn cipher(line: &[u8], way: Direction) {
+fn cipher(rt: &impl Print, line: &[u8], way: Direction) -> Result<()> {
     let mut key = [0u8; 16];
     text::bytes(line, 2, &mut key);
     let mut state = [0u8; 32];
     text::bytes(line, 3, &mut state);
     let after = ciphered(key, state, way);
-    show::result(Status::Done, &after);
+    show::result(rt, Status::Done, &after)
 }
 
 fn hashed(v: u32, message: &[u8], ending: Ending, wanted: Wanted, out: &mut [u8]) -> Status {
@@ -139,19 +144,26 @@ fn hashed(v: u32, message: &[u8], ending: Ending, wanted: Wanted, out: &mut [u8]
     }
 }
 
-fn hash_into(v: u32, message: &[u8], ending: Ending, wanted: Wanted, out: &mut [u8]) {
+fn hash_into(
+    rt: &impl Print,
+    v: u32,
+    message: &[u8],
+    ending: Ending,
+    wanted: Wanted,
+    out: &mut [u8],
+) -> Result<()> {
     let status = hashed(v, message, ending, wanted, out);
-    show::result(status, out);
+    show::result(rt, status, out)
 }
 
-fn hash(line: &[u8], wanted: Wanted) {
+fn hash(rt: &impl Print, line: &[u8], wanted: Wanted) -> Result<()> {
     let v = text::number(line, 1);
     let mut message = [0u8; text::ROOM];
     let n = text::bytes(line, 2, &mut message);
     let ending = text::ending(line, 3);
     let mut out = [0u8; text::ROOM];
     let m = text::bytes(line, 4, &mut out);
-    hash_into(v, &message[..n], ending, wanted, &mut out[..m]);
+    hash_into(rt, v, &message[..n], ending, wanted, &mut out[..m])
 }
 
 fn updated(h: Hasher, piece: &[u8], ending: Ending) -> Advanced {
@@ -176,10 +188,10 @@ fn given(line: &[u8]) -> Hasher {
     }
 }
 
-fn update(line: &[u8]) {
+fn update(rt: &impl Print, line: &[u8]) -> Result<()> {
     let mut piece = [0u8; text::ROOM];
     let n = text::bytes(line, 6, &mut piece);
-    show::running(updated(given(line), &piece[..n], text::ending(line, 7)));
+    show::running(rt, updated(given(line), &piece[..n], text::ending(line, 7)))
 }
 
 fn read_off(h: Hasher, wanted: Wanted, out: &mut [u8]) -> Status {
@@ -189,33 +201,40 @@ fn read_off(h: Hasher, wanted: Wanted, out: &mut [u8]) -> Status {
     }
 }
 
-fn read_into(h: Hasher, wanted: Wanted, out: &mut [u8]) {
+fn read_into(rt: &impl Print, h: Hasher, wanted: Wanted, out: &mut [u8]) -> Result<()> {
     let status = read_off(h, wanted, out);
-    show::result(status, out);
+    show::result(rt, status, out)
 }
 
-fn read(line: &[u8], wanted: Wanted) {
+fn read(rt: &impl Print, line: &[u8], wanted: Wanted) -> Result<()> {
     let mut out = [0u8; text::ROOM];
     let m = text::bytes(line, 6, &mut out);
-    read_into(given(line), wanted, &mut out[..m]);
+    read_into(rt, given(line), wanted, &mut out[..m])
 }
 
-fn segment(line: &[u8]) {
+fn segment(rt: &impl Print, line: &[u8]) -> Result<()> {
     let mut list = [0u8; text::ROOM];
     let n = text::bytes(line, 2, &mut list);
     let mut buffer = [0u8; text::ROOM];
     let m = text::bytes(line, 3, &mut buffer);
     let k = text::number(line, 4) as usize;
     let status = segments::check_entry(&list[..n], &buffer[..m], k);
-    show::result(status, segments::segment(&list[..n], &buffer[..m], k));
+    show::result(rt, status, segments::segment(&list[..n], &buffer[..m], k))
 }
 
-fn list_into(v: u32, list: &[u8], buffer: &[u8], wanted: Wanted, out: &mut [u8]) {
+fn list_into(
+    rt: &impl Print,
+    v: u32,
+    list: &[u8],
+    buffer: &[u8],
+    wanted: Wanted,
+    out: &mut [u8],
+) -> Result<()> {
     let status = segments::hash_list(v, list, buffer, wanted, out);
-    show::result(status, out);
+    show::result(rt, status, out)
 }
 
-fn hash_list(line: &[u8], wanted: Wanted) {
+fn hash_list(rt: &impl Print, line: &[u8], wanted: Wanted) -> Result<()> {
     let v = text::number(line, 1);
     let mut list = [0u8; text::ROOM];
     let n = text::bytes(line, 2, &mut list);
@@ -223,7 +242,7 @@ fn hash_list(line: &[u8], wanted: Wanted) {
     let m = text::bytes(line, 3, &mut buffer);
     let mut out = [0u8; text::ROOM];
     let k = text::bytes(line, 4, &mut out);
-    list_into(v, &list[..n], &buffer[..m], wanted, &mut out[..k]);
+    list_into(rt, v, &list[..n], &buffer[..m], wanted, &mut out[..k])
 }
 
 fn recovered(
@@ -241,18 +260,19 @@ fn recovered(
 }
 
 fn recover_into(
+    rt: &impl Print,
     v: u32,
     message: &[u8],
     ending: Ending,
     place: usize,
     image: &[u8],
     out: &mut [u8],
-) {
+) -> Result<()> {
     let status = recovered(v, message, ending, place, image, out);
-    show::result(status, out);
+    show::result(rt, status, out)
 }
 
-fn lost_block(line: &[u8]) {
+fn lost_block(rt: &impl Print, line: &[u8]) -> Result<()> {
     let v = text::number(line, 1);
     let mut message = [0u8; text::ROOM];
     let n = text::bytes(line, 2, &mut message);
@@ -262,32 +282,40 @@ fn lost_block(line: &[u8]) {
     let m = text::bytes(line, 5, &mut image);
     let mut out = [0u8; text::ROOM];
     let k = text::bytes(line, 6, &mut out);
-    recover_into(v, &message[..n], ending, place, &image[..m], &mut out[..k]);
+    recover_into(
+        rt,
+        v,
+        &message[..n],
+        ending,
+        place,
+        &image[..m],
+        &mut out[..k],
+    )
 }
 
-fn check_manifest(line: &[u8]) {
+fn check_manifest(rt: &impl Print, line: &[u8]) -> Result<()> {
     let mut list = [0u8; text::ROOM];
     let n = text::bytes(line, 2, &mut list);
-    show::status(manifest::check(&list[..n]));
+    show::status(rt, manifest::check(&list[..n]))
 }
 
 // The six counts, in the order of the program `report`.
-fn counts(list: &[u8], first: &[u8], other: &[u8], second: &[u8]) {
+fn counts(rt: &impl Print, list: &[u8], first: &[u8], other: &[u8], second: &[u8]) -> Result<()> {
     let begun = manifest::start(list);
     let status = begun.status;
-    show::status(status);
+    show::status(rt, status)?;
     let half = manifest::update(list, begun.report, first);
     let s = manifest::summary_of(manifest::update(other, half, second));
-    show::number(s.listed as u64);
-    show::number(s.tables as u64);
-    show::number(s.equal as u64);
-    show::number(s.unequal as u64);
-    show::number(s.untold as u64);
-    show::number(s.unlisted as u64);
+    show::number(rt, s.listed as u64)?;
+    show::number(rt, s.tables as u64)?;
+    show::number(rt, s.equal as u64)?;
+    show::number(rt, s.unequal as u64)?;
+    show::number(rt, s.untold as u64)?;
+    show::number(rt, s.unlisted as u64)
 }
 
 // A report over two pieces, each after the manifest that is passed with it.
-fn report(line: &[u8]) {
+fn report(rt: &impl Print, line: &[u8]) -> Result<()> {
     let mut list = [0u8; text::ROOM];
     let a = text::bytes(line, 2, &mut list);
     let mut first = [0u8; text::ROOM];
@@ -296,111 +324,111 @@ fn report(line: &[u8]) {
     let c = text::bytes(line, 4, &mut other);
     let mut second = [0u8; text::ROOM];
     let d = text::bytes(line, 5, &mut second);
-    counts(&list[..a], &first[..b], &other[..c], &second[..d]);
+    counts(rt, &list[..a], &first[..b], &other[..c], &second[..d])
 }
 
 // Each of these makes the call that a line asks for, and gives false if it asks for none of them. A function has few
 // calls, since the time to prove it grows faster than their number.
-fn is_permutation(line: &[u8]) -> bool {
+fn is_permutation(rt: &impl Print, line: &[u8]) -> Result<bool> {
     if text::is_call(line, b"permute nb") {
-        permute(line, Direction::Forward);
+        permute(rt, line, Direction::Forward)?;
     } else if text::is_call(line, b"unpermute nb") {
-        permute(line, Direction::Backward);
+        permute(rt, line, Direction::Backward)?;
     } else {
-        return text::is_call(line, b"permute-words nb") && permute_words(line);
+        return Ok(text::is_call(line, b"permute-words nb") && permute_words(rt, line)?);
     }
-    true
+    Ok(true)
 }
 
-fn is_round(line: &[u8]) -> bool {
+fn is_round(rt: &impl Print, line: &[u8]) -> Result<bool> {
     if text::is_call(line, b"round nxb") {
-        return round(line, Direction::Forward);
+        return round(rt, line, Direction::Forward);
     }
-    text::is_call(line, b"unround nxb") && round(line, Direction::Backward)
+    Ok(text::is_call(line, b"unround nxb") && round(rt, line, Direction::Backward)?)
 }
 
-fn is_cipher(line: &[u8]) -> bool {
+fn is_cipher(rt: &impl Print, line: &[u8]) -> Result<bool> {
     if text::is_call(line, b"q-and-g nwdw") {
-        q_and_g(line);
+        q_and_g(rt, line)?;
     } else if text::is_call(line, b"encrypt nkc") {
-        cipher(line, Direction::Forward);
+        cipher(rt, line, Direction::Forward)?;
     } else if text::is_call(line, b"decrypt nkc") {
-        cipher(line, Direction::Backward);
+        cipher(rt, line, Direction::Backward)?;
     } else {
-        return false;
+        return Ok(false);
     }
-    true
+    Ok(true)
 }
 
-fn is_whole(line: &[u8]) -> bool {
+fn is_whole(rt: &impl Print, line: &[u8]) -> Result<bool> {
     if text::is_call(line, b"digest nbeb") {
-        hash(line, Wanted::Digest);
+        hash(rt, line, Wanted::Digest)?;
     } else if text::is_call(line, b"end-state nbeb") {
-        hash(line, Wanted::EndState);
+        hash(rt, line, Wanted::EndState)?;
     } else if text::is_call(line, b"recover nbenbb") {
-        lost_block(line);
+        lost_block(rt, line)?;
     } else {
-        return false;
+        return Ok(false);
     }
-    true
+    Ok(true)
 }
 
-fn is_running(line: &[u8]) -> bool {
+fn is_running(rt: &impl Print, line: &[u8]) -> Result<bool> {
     if text::is_call(line, b"start n") {
-        show::running(hasher::start(text::number(line, 1)));
+        show::running(rt, hasher::start(text::number(line, 1)))?;
     } else if text::is_call(line, b"update uunikbe") {
-        update(line);
+        update(rt, line)?;
     } else if text::is_call(line, b"finish uunik") {
-        show::running(hasher::finish(given(line)));
+        show::running(rt, hasher::finish(given(line)))?;
     } else {
-        return false;
+        return Ok(false);
     }
-    true
+    Ok(true)
 }
 
-fn is_read(line: &[u8]) -> bool {
+fn is_read(rt: &impl Print, line: &[u8]) -> Result<bool> {
     if text::is_call(line, b"read-digest uunikb") {
-        read(line, Wanted::Digest);
+        read(rt, line, Wanted::Digest)?;
     } else if text::is_call(line, b"read-end-state uunikb") {
-        read(line, Wanted::EndState);
+        read(rt, line, Wanted::EndState)?;
     } else {
-        return false;
+        return Ok(false);
     }
-    true
+    Ok(true)
 }
 
-fn is_list(line: &[u8]) -> bool {
+fn is_list(rt: &impl Print, line: &[u8]) -> Result<bool> {
     if text::is_call(line, b"segment -bbn") {
-        segment(line);
+        segment(rt, line)?;
     } else if text::is_call(line, b"list-digest nbbb") {
-        hash_list(line, Wanted::Digest);
+        hash_list(rt, line, Wanted::Digest)?;
     } else if text::is_call(line, b"list-end-state nbbb") {
-        hash_list(line, Wanted::EndState);
+        hash_list(rt, line, Wanted::EndState)?;
     } else {
-        return false;
+        return Ok(false);
     }
-    true
+    Ok(true)
 }
 
-fn is_manifest(line: &[u8]) -> bool {
+fn is_manifest(rt: &impl Print, line: &[u8]) -> Result<bool> {
     if text::is_call(line, b"check-manifest -b") {
-        check_manifest(line);
+        check_manifest(rt, line)?;
     } else if text::is_call(line, b"report -bbbb") {
-        report(line);
+        report(rt, line)?;
     } else {
-        return false;
+        return Ok(false);
     }
-    true
+    Ok(true)
 }
 
-fn is_step(line: &[u8]) -> bool {
-    is_permutation(line) || is_round(line) || is_cipher(line)
+fn is_step(rt: &impl Print, line: &[u8]) -> Result<bool> {
+    Ok(is_permutation(rt, line)? || is_round(rt, line)? || is_cipher(rt, line)?)
 }
 
-fn is_hash(line: &[u8]) -> bool {
-    is_whole(line) || is_running(line) || is_read(line)
+fn is_hash(rt: &impl Print, line: &[u8]) -> Result<bool> {
+    Ok(is_whole(rt, line)? || is_running(rt, line)? || is_read(rt, line)?)
 }
 
-pub fn is_made(line: &[u8]) -> bool {
-    is_step(line) || is_hash(line) || is_list(line) || is_manifest(line)
+pub fn is_made(rt: &impl Print, line: &[u8]) -> Result<bool> {
+    Ok(is_step(rt, line)? || is_hash(rt, line)? || is_list(rt, line)? || is_manifest(rt, line)?)
 }

@@ -5,8 +5,8 @@ ghost use Rattle.io.specs.Counts.{IsPrefixLen};
 ghost use Rattle.octets.specs.Text.{from_decimal};
 ghost use Rattle.vectors.specs.Words.{digit_value, pair_value, said_bytes};
 
-use octets::compare;
 use chain::message::Ending;
+use octets::compare;
 
 // The maximum number of bytes that a word says.
 pub const ROOM: usize = 512;
