@@ -41,10 +41,10 @@ a function that it calls is refused, where its place is tried alone. So each row
 column names the function (or the file of laws) and the fact at which it is refused, and says what that fact is. No row
 is refused for its form, that is, with words with which a right program of that form would be refused too.
 
-A place in a promise is a wrong promise of right code. The functions of `lent`, and the exported ones that take a
-reference to a struct, are proved by a walk over their exact code. The walk takes the promise as a parameter, and what
-fails is the fact `promised`: that the callee's promise gives this one. A promise that is weaker and true was tried
-for `lent::update`, and goes through with that fact changed.
+A place in a promise is a wrong promise of right code: of the functions of `lent`, and of the exported ones that take a
+reference to a struct. The checker proves those with no proof written by hand, and what fails is the fact `returns`:
+that the callee's promise gives this one. A promise that is weaker and true was tried for `lent::update`, and goes
+through.
 """
 
 
