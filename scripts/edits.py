@@ -31,9 +31,7 @@ HEAD = """# Wrong programs
 
 `scripts/must-fail --write` writes this page: the words and places from the edits in `crates/*/must-fail`, the last
 column from what the checker said of them. The gate tries every edit, and fails if one is not refused, if the words and
-places here are not those of the edits, or if an edit is refused first at a place of its own where this page names a
-different fact. `scripts/must-fail --verify`, which takes minutes, fails if any fact of this page is not what the
-checker says.
+places here are not those of the edits, or if a place is refused at a different fact than this page names.
 
 Each edit is applied to a copy of its crate, and the checker refuses it. All places of an edit are tried at once: each
 lies in a function of its own, and each of these functions is refused by itself; one that shows nothing there, since
