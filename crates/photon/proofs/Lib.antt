@@ -5,7 +5,6 @@ pub mod BitSums
 pub mod StepRows
 pub mod StepsOf
 pub mod RoundsOf
-pub mod FilledFrom
 pub mod WordPlaces
 pub mod WordRounds
 pub mod PairTables

@@ -3,7 +3,7 @@ use mathlib.Core.Path.{ap}
 use Prim.Native.Nat.{ℕ}
 use native.Mathlib.Omega.{arith}
 use lib.Bits.{bit_xor}
-use Rattle.photon.proofs.FilledFrom.{filled_none, filled_more}
+use Rattle.octets.proofs.FilledFrom.{filled_none, filled_more}
 use Rattle.photon.proofs.words.fill.Goals as goal
 
 pub loop-x-init : goal.loop-x-init

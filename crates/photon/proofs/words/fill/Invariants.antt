@@ -2,7 +2,7 @@
 use Prim.Native.Nat.{◌+◌, ◌-◌, ◌≤◌}
 use lib.Bits.{bit_xor}
 use lib.ListN.{get_or}
-use Rattle.photon.proofs.FilledFrom.{FilledFrom}
+use Rattle.octets.proofs.FilledFrom.{FilledFrom}
 use Rattle.photon.proofs.words.fill.Given as goal
 
 abbrev pub invariant-loop-x : goal.invariant-loop-x
