@@ -5,17 +5,14 @@ use mathlib.Core.List.{[], ◌∷◌}
 use mathlib.Core.Logic.{◌⊎◌, inl, inr, ⊎_elim}
 use Prim.Native.Nat.{ℕ, ◌<◌}
 use native.Mathlib.Omega.{arith}
+use Rattle.std.specs.Prelude.{IsErrAnd}
+use Rattle.std.proofs.lemmas.Result.{err_from_is_err_and}
 use lib.ListN.{get_or}
-use types.Run.{OneOf, miss}
-use denote.Enum.Declared.{tag_of}
 use Rattle.answers.specs.declared.Refusal.{Refusal}
 use Rattle.answers.specs.declared.Refusal.TheVariants.{UnknownVariant, Malformed, WrongStage, TooLong, OutputTooShort, BadImage, OutOfRange, NoBlock, BadList, Misordered, PastEnd, BadManifest, BadRecord, NotRising, BadBitNumber, InsideByte, NotSponge}
-use Rattle.answers.specs.declared.Status.{Status}
-use Rattle.answers.specs.declared.Status.TheVariants.{Done, Refused}
-use Rattle.answers.specs.Refusals.{number, entry}
+use Rattle.answers.specs.Refusals.{Status, Done, Refused, number, entry}
 use Rattle.answers.specs.Outputs.{when_done}
 use Rattle.answers.specs.Promises.{AnswerTells, AnswerNumber, AnswerEntry}
-use Rattle.answers.specs.contracts.Status as type
 
 -- ---- Done or refused
 
@@ -35,9 +32,9 @@ pub kept : {A : Type 0} (s : Status) (new old : A) → (s ≡ Done → ⊥) → 
 kept Done new old n = absurd (n refl)
 kept (Refused r) new old n = refl
 
--- a tag that is not Done's
-pub tag-refused : (s : Status) → OneOf (1 ∷ []) (tag_of type.the_type s) → s ≡ Done → ⊥
-tag-refused s o e = miss (1 ∷ []) 0 tt (rw e at o)
+-- what `?` hands on is the refusal that was answered
+pub handed-on : (r t : Status) (e : Refusal) → IsErrAnd r (λ y. y ≡ e) → t ≡ Refused e → r ≡ t
+handed-on r t e h is = let p = err_from_is_err_and r h in rw (p.1, p.2, is)
 
 -- two answers of which the second counts if the first is Done: both are Done if the whole is
 pub both-done : (s r : Status) → when_done s r s ≡ Done → (s ≡ Done) × (r ≡ Done)

@@ -1,8 +1,7 @@
 -- What a call leaves: the new value if it is Done, the old one if it is refused; and the limit of a message.
 -- Assumes nothing.
 use Rattle.std.specs.Prelude.{Bool, true, false, List, ◌++◌, ℕ, ◌*◌, length, drop}
-use Rattle.answers.specs.declared.Status.{Status}
-use Rattle.answers.specs.declared.Status.TheVariants.{Done, Refused}
+use Rattle.answers.specs.Refusals.{Status, Done, Refused}
 
 -- the new value if the answer is Done, and the old one if it is a refusal
 abbrev pub when_done : {A : Type 0} → Status → A → A → A

@@ -2,9 +2,7 @@
 -- Assumes nothing.
 use Rattle.std.specs.Prelude.{◌≡◌, false, List, ◌∷◌, ◌++◌, ◌/◌, ◌%◌}
 use Rattle.answers.specs.declared.Refusal.{Refusal}
-use Rattle.answers.specs.declared.Status.{Status}
-use Rattle.answers.specs.declared.Status.TheVariants.{Done, Refused}
-use Rattle.answers.specs.Refusals.{number, entry, answer}
+use Rattle.answers.specs.Refusals.{Status, Done, Refused, number, entry, answer}
 use Rattle.answers.specs.Checks.{Check, first_refusal, Pass}
 
 -- A check that fails after checks that pass gives its refusal, whatever comes after it.

@@ -1,10 +1,8 @@
 -- The refusals of documents 01 and 02 by number, and a call's answer as one number.
 -- Assumes nothing.
-use Rattle.std.specs.Prelude.{ℕ, ◌+◌, ◌*◌}
+use Rattle.std.specs.Prelude.{ℕ, ◌+◌, ◌*◌, Result, Ok, Err}
 use Rattle.answers.specs.declared.Refusal.{Refusal}
 use Rattle.answers.specs.declared.Refusal.TheVariants.{UnknownVariant, Malformed, WrongStage, TooLong, OutputTooShort, BadImage, OutOfRange, NoBlock, BadList, Misordered, PastEnd, BadManifest, BadRecord, NotRising, BadBitNumber, InsideByte, NotSponge}
-use Rattle.answers.specs.declared.Status.{Status}
-use Rattle.answers.specs.declared.Status.TheVariants.{Done, Refused}
 
 -- the number of a refusal
 abbrev pub number : Refusal → ℕ
@@ -45,6 +43,16 @@ entry NotRising = 0
 entry BadBitNumber = 0
 entry InsideByte = 0
 entry NotSponge = 0
+
+-- what a call answers: it is done, or refused
+abbrev pub Status : Type 0
+Status = Result (Unit {0}) Refusal
+
+pattern abbrev pub Done : Status
+Done = Ok tt
+
+pattern abbrev pub Refused : Refusal → Status
+Refused r = Err r
 
 -- an answer as one number: that of its refusal, 0 for none, in the low byte, and the entry above it
 abbrev pub answer : Status → ℕ

@@ -9,16 +9,16 @@ use native.Mathlib.Omega.{arith}
 use lib.ListN.{length, take, drop, get_or, length-append, length-drop, drop_of_length-le, take-append-drop}
 use lib.Seq.{take-append-le, drop-append-le, drop-append-add, drop_at, take_at, drop-drop, ext_get_or, length-take-le}
 use lib.Dec.{eqb}
-use borrow.Author.Tests.{eq-eqb, ne_eqb}
 use Rattle.octets.proofs.ByteLaws.{cons-bytes}
 use Rattle.standard.specs.Bits.{high_first, value_of, bits_in, unpack, filled}
 use Rattle.standard.proofs.Tests.{lt-or-le}
-use Rattle.standard.proofs.BitLaws.{filled-take, length-bits_in, bits_in-append, length-unpack, length-filled, length-pack, filled-add, value_of-lt}
+use Rattle.standard.proofs.BitLaws.{filled-take, length-bits_in, bits_in-append, bits_in-drop, length-unpack, length-filled, length-pack, filled-add, value_of-lt}
 use Rattle.standard.specs.Layout.{block_room, packed_block}
 use Rattle.octets.specs.Cells.{cell_in}
 use Rattle.chain.specs.Blocks.{held_then}
 use Rattle.octets.specs.Nibbles.{nibble_of, nibble_in}
-use Rattle.octets.proofs.CellLaws.{cell-even, cell-odd}
+use Rattle.octets.proofs.CellLaws.{nibble-is}
+use Rattle.octets.proofs.Clear.{first_byte}
 use Rattle.octets.proofs.PackedNibbles.{pack-halves, filled-nothing}
 
 -- ---- half bytes of bits
@@ -57,17 +57,30 @@ module _ (n : ℕ) where
       ∙ ap (λ (l : List Bool). nibble_in l n) (take-append-drop c bs)
 
   -- in bytes
-  half-byte : (s : List ℕ) → ((i : ℕ) → get_or s i 0 < 256) → n / 2 < length s → nibble_of (get_or s (n / 2) 0) n ≡ nibble_in (bits_in high_first s) n
+  half-bytes : (s : List ℕ) → ((i : ℕ) → get_or s i 0 < 256) → n / 2 < length s → nibble_of (get_or s (n / 2) 0) n ≡ nibble_in (bits_in high_first s) n
   unfolding cell_in
-  half-byte s hb h =
-      let e : 4 * n ≡ n * 4 = omega arith in
-      rw (half-take (bits_in high_first s) (omega (arith, length-bits_in high_first s)), e)
-      (⊎_elim (λ l. rw (eq-eqb (n % 2) 0 (omega arith)) (sym (cell-even s hb n h (omega arith))))
-      (λ l. rw (ne_eqb (n % 2) 0 (λ z. omega arith)) (sym (cell-odd s hb n h (omega arith)))) (lt-or-le (n % 2) 1))
+  half-bytes s hb h =
+      let e : n * 4 ≡ 4 * n = omega arith in
+      nibble-is s hb n h ∙ rw (half-take (bits_in high_first s) (omega (arith, length-bits_in high_first s)), e)
 
   -- nothing past the bits
   pub half-past : (bs : List Bool) → length bs ≤ 4 * n → 0 ≡ nibble_in bs n
   half-past bs h = sym (ap (λ (l : List Bool). value_of high_first (filled 4 l)) (drop_of_length-le bs {i = 4 * n} h) ∙ filled-nothing 4)
+
+-- in bytes of which the one that has it is a byte
+half-byte : (n : ℕ) (s : List ℕ) → get_or s (n / 2) 0 < 256 → n / 2 < length s → nibble_of (get_or s (n / 2) 0) n ≡ nibble_in (bits_in high_first s) n
+unfolding bits_in
+half-byte n s hb h =
+    let x : ℕ = get_or s (n / 2) 0 in
+    let i : ℕ = n % 2 in
+    let first : i / 2 ≡ 0 = omega arith in
+    let side : n % 2 ≡ i % 2 = omega arith in
+    let place : 4 * n ≡ 8 * (n / 2) + 4 * i = omega arith in
+    let rest : List Bool = bits_in high_first (drop (n / 2 + 1) s) in
+    ap₂ (λ (b k : ℕ). cond (eqb k 0) (b / 16) (b % 16)) (ap (λ (k : ℕ). get_or (x ∷ []) k 0) (sym first)) side
+    ∙ half-bytes i (x ∷ []) (cons-bytes x [] hb (λ k. omega arith)) (omega arith)
+    ∙ half-front i (bits_in high_first (x ∷ [])) rest (omega (arith, length-bits_in high_first (x ∷ [])))
+    ∙ sym (rw (place, ← drop-drop (4 * i) (8 * (n / 2)) (bits_in high_first s), bits_in-drop, first_byte high_first s (n / 2) h) (ap (λ (bs : List Bool). nibble_in bs i) (bits_in-append high_first (x ∷ []) (drop (n / 2 + 1) s))))
 
 -- ---- held half bytes, and bytes behind them
 
@@ -81,7 +94,7 @@ module _ (held : List ℕ) (p : ℕ) (few : p ≤ 2 * length held) (n : ℕ) whe
   front-size : length front ≡ 4 * p
   front-size = length-unpack high_first (4 * p) held (omega arith)
 
-  pub half-held : (bytes : List ℕ) → ((i : ℕ) → get_or held i 0 < 256) → n < p → nibble_of (get_or held (n / 2) 0) n ≡ nibble_in (held_then held p bytes) n
+  pub half-held : (bytes : List ℕ) → get_or held (n / 2) 0 < 256 → n < p → nibble_of (get_or held (n / 2) 0) n ≡ nibble_in (held_then held p bytes) n
   unfolding unpack
   half-held bytes hb h =
       half-byte n held hb (omega arith)
@@ -101,7 +114,7 @@ module _ (held : List ℕ) (p : ℕ) (few : p ≤ 2 * length held) (n : ℕ) whe
         append_assoc front (bits_in high_first piece) end
         ∙ ap (λ (bs : List Bool). front ++ bs) (sym (bits_in-append high_first piece (last ∷ [])))
 
-    pub half-piece : ((i : ℕ) → get_or piece i 0 < 256) → (n - p) / 2 < length piece
+    pub half-piece : get_or piece ((n - p) / 2) 0 < 256 → (n - p) / 2 < length piece
         → nibble_of (get_or piece ((n - p) / 2) 0) (n - p) ≡ nibble_in (held_then held p (piece ++ last ∷ [])) n
     half-piece hb l =
         half-byte (n - p) piece hb l
@@ -115,7 +128,7 @@ module _ (held : List ℕ) (p : ℕ) (few : p ≤ 2 * length held) (n : ℕ) whe
         let first : i / 2 ≡ 0 = omega arith in
         let side : (n - p) % 2 ≡ i % 2 = omega arith in
         ap₂ (λ (b k : ℕ). cond (eqb k 0) (b / 16) (b % 16)) (ap (λ (k : ℕ). get_or (last ∷ []) k 0) (sym first)) side
-        ∙ half-byte i (last ∷ []) (cons-bytes last [] hl (λ k. omega arith)) (omega arith)
+        ∙ half-bytes i (last ∷ []) (cons-bytes last [] hl (λ k. omega arith)) (omega arith)
         ∙ half-behind n (held_then held p piece) end (p + 2 * length piece) size (omega arith)
         ∙ ap (λ (bs : List Bool). nibble_in bs n) parts
 

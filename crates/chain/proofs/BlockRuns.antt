@@ -42,7 +42,7 @@ module _ (v : ℕ) (k : known v ≡ true) where
 
     -- by half bytes, and by bits
     pub block-is : (bs : List Bool) (j : ℕ) → filled (4 * q) (drop (4 * (j * q)) bs) ≡ filled H.r (drop (j * H.r) bs)
-    block-is bs j = rw (← quarters, ← mul_left_comm)
+    block-is bs j = rw (← quarters, mul_left_comm 4 j q)
 
     pub block-at-ready : (x : List ℕ) (bs : List Bool) (j : ℕ) → x ≡ packed_block (filled (4 * q) (drop (4 * (j * q)) bs)) → HoldsBlock v x
     block-at-ready x bs j e = block-ready x (filled H.r (drop (j * H.r) bs)) (length-filled H.r (drop (j * H.r) bs)) (e ∙ ap packed_block (block-is bs j))

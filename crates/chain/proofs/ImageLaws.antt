@@ -2,15 +2,14 @@
 -- Assumes nothing.
 use mathlib.Core.Path.{◌≡◌, refl, sym, ◌∙◌}
 use mathlib.Core.Bool.{true, false}
-use mathlib.Core.List.{List, [], ◌∷◌, ◌++◌, append-nil}
+use mathlib.Core.List.{List, [], ◌∷◌, ◌++◌}
 use mathlib.Core.Logic.{inl, inr, ⊎_elim}
 use Prim.Native.Nat.{ℕ, ◌-◌, ◌<◌}
 use native.Mathlib.Omega.{arith}
 use lib.Dec.{eqb}
-use lib.ListN.{length, take, drop, get_or, replicate, drop_of_length-le}
+use lib.ListN.{length, take, drop, get_or, replicate}
 use borrow.Author.Tests.{eq-eqb, ne_eqb, eqb-true}
-use Rattle.answers.specs.declared.Status.{Status}
-use Rattle.answers.specs.declared.Status.TheVariants.{Done, Refused}
+use Rattle.answers.specs.Refusals.{Status, Done, Refused}
 use Rattle.answers.specs.declared.Refusal.TheVariants.{UnknownVariant, BadImage, NotSponge}
 use Rattle.answers.specs.Checks.{unless}
 use Rattle.answers.specs.Outputs.{when_done}
@@ -78,12 +77,12 @@ module _ (v : ℕ) (k : known v ≡ true) (bytes : List ℕ) where
       image-read = stored v k x (state_in (variant v) bytes) image-state image-held
 
       -- permuted, and its first bytes written over the image
-      pub image-permuted : (w : Direction) (r out : List ℕ) (n : ℕ) → n ≡ image_size (variant v)
+      pub image-permuted : (w : Direction) (r out : List ℕ)
           → r ≡ packed_state (variant v) (permuted_state (variant v) w (state_in (variant v) x))
-          → out ≡ take n r ++ drop n bytes → out ≡ image_of (variant v) (permuted_state (variant v) w (state_in (variant v) bytes))
+          → out ≡ take (length bytes) r → out ≡ image_of (variant v) (permuted_state (variant v) w (state_in (variant v) bytes))
       unfolding image_of
-      image-permuted w r out n en er eo =
-          rw (eo, drop_of_length-le bytes {i = n} (omega (arith, image-length e)), append-nil, en, er, take-pack (order (variant v)) (image_size (variant v)) state_room _ b.image-most, image-read)
+      image-permuted w r out er eo =
+          rw (eo, image-length e, er, take-pack (order (variant v)) (image_size (variant v)) state_room _ b.image-most, image-read)
 
 -- the image of a sponge's permuted state
 sponge-bytes : (f : Family) → sponge_of f ≡ true → (H : Variant) (w : Direction) (bytes : List ℕ) → permuted_bytes f H w bytes ≡ image_of H (permuted_by f w (state_in H bytes))

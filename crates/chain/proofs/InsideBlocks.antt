@@ -3,7 +3,7 @@
 use mathlib.Core.Path.{◌≡◌, sym, ap, ap₂, ◌∙◌}
 use mathlib.Core.Bool.{Bool, true}
 use mathlib.Core.List.{List, [], ◌∷◌, ◌++◌}
-use Prim.Native.Nat.{ℕ, ◌+◌, ◌-◌, ◌*◌, ◌/◌, ◌%◌, ◌≤◌}
+use Prim.Native.Nat.{ℕ, ◌+◌, ◌*◌, ◌/◌, ◌%◌, ◌≤◌}
 use native.Mathlib.Omega.{arith}
 use lib.ListN.{length, take, drop, length-append, length-drop}
 use lib.Arith.{mod-mul}
@@ -17,13 +17,12 @@ use Rattle.chain.proofs.BlockRuns.{block_read}
 
 module _ (held : List ℕ) (p : ℕ) (piece : List ℕ) (last : ℕ) (few : p ≤ 2 * length held) where
   -- all of it comes from the piece
-  pub inside : (first q : ℕ) → p ≤ first → first - p + q ≤ 2 * length piece
-      → take (4 * q) (drop (4 * (first - p)) (bits_in high_first piece)) ≡ filled (4 * q) (drop (4 * first) (held_then held p (piece ++ last ∷ [])))
-  inside first q h fits =
+  pub inside : (first q m : ℕ) → first ≡ p + m → m + q ≤ 2 * length piece
+      → take (4 * q) (drop (4 * m) (bits_in high_first piece)) ≡ filled (4 * q) (drop (4 * first) (held_then held p (piece ++ last ∷ [])))
+  inside first q m e fits =
       let X : List Bool = unpack high_first (4 * p) held in
       let Y : List Bool = bits_in high_first piece in
       let Z : List Bool = bits_in high_first (last ∷ []) in
-      let m : ℕ = first - p in
       let l_x : length X ≡ 4 * p = length-unpack high_first (4 * p) held (omega arith) in
       let l_y : length Y ≡ 8 * length piece = length-bits_in high_first piece in
       let place : 4 * first ≡ length X + 4 * m = omega arith in

@@ -8,7 +8,7 @@ use Prim.Native.Nat.{ℕ, zero, suc, ◌+◌, ◌-◌, ◌/◌, ◌%◌, ◌^◌
 use native.Mathlib.Nat.{mod-lt, div-le_self, zero-add, suc-add}
 use native.Mathlib.Omega.{arith}
 use lib.Dec.{eqb}
-use lib.ListN.{length, get_or, replicate, length-append, length-replicate}
+use lib.ListN.{length, replicate, length-append, length-replicate}
 use borrow.Author.Tests.{eq-eqb, ne_eqb, eqb-true, eqb-false}
 use Rattle.standard.specs.Bits.{high_first, low_bits, ordered, bits_of, bits_in, unpack, pack}
 use Rattle.standard.specs.Sponge.{sponge_padding}
@@ -17,11 +17,13 @@ use Rattle.standard.specs.Lesamnta.{lesamnta_padding}
 use Rattle.standard.specs.Chain.{padding, whole_blocks, rest_of, block_count}
 use Rattle.standard.specs.Variants.{variant, known}
 use Rattle.standard.proofs.Tests.{either}
-use Rattle.standard.proofs.Undo.{All, all_append}
 use Rattle.standard.proofs.BitLaws.{length-bits_of, pack-bits_in, bits_in-append, bits_in-zeros, unpack-pack}
 use Rattle.standard.proofs.Streaming.{whole_append, whole-one, length_rest}
 use Rattle.standard.proofs.Sponge.{padding-sponge, sponge-count}
 use Rattle.standard.proofs.Variants.{streams, is-sponge, not-sponge, lesamnta-count}
+use Rattle.std.specs.Int.{w64, to_be_bytes}
+use Rattle.octets.specs.Numbers.{Bytes}
+use Rattle.octets.proofs.ByteLaws.{cons-bytes, append-bytes, zero-bytes}
 use Rattle.lesamnta.proofs.WordLaws.{bytes_bits}
 use Rattle.standard.specs.Layout.{packed_block}
 use Rattle.chain.specs.Blocks.{held_then, first_blocks}
@@ -155,49 +157,23 @@ unfolding bits_of ordered low_bits
 first-bits true = refl
 first-bits false = refl
 
-length-bits : (n : ℕ) → n < 2 ^ 32 → bits_in high_first (0 ∷ 0 ∷ 0 ∷ 0 ∷ n / 2 ^ 24 ∷ n / 2 ^ 16 % 256 ∷ n / 2 ^ 8 % 256 ∷ n % 256 ∷ []) ≡ bits_of high_first 64 n
-length-bits n h =
-    let a : n / 256 ^ 7 % 256 ≡ 0 = omega arith in
-    let b : n / 256 ^ 6 % 256 ≡ 0 = omega arith in
-    let c : n / 256 ^ 5 % 256 ≡ 0 = omega arith in
-    let d : n / 256 ^ 4 % 256 ≡ 0 = omega arith in
-    let e : n / 256 ^ 3 % 256 ≡ n / 2 ^ 24 = omega arith in
-    let f : n / 256 ^ 0 % 256 ≡ n % 256 = omega arith in
-    sym (bytes_bits 8 n ∙ rw (a, b, c, d, e, f))
+length-bits : (n : ℕ) → bits_in high_first (to_be_bytes w64 n) ≡ bits_of high_first 64 n
+length-bits n =
+    let last : n / 256 ^ 0 % 256 ≡ n % 256 = omega arith in
+    sym (bytes_bits 8 n ∙ rw last)
 
--- bytes, one by one
-all-bytes : (xs : List ℕ) → All (λ (b : ℕ). b < 256) xs → (i : ℕ) → get_or xs i 0 < 256
-all-bytes [] a i = omega arith
-all-bytes (x ∷ xs) a zero = a.0
-all-bytes (x ∷ xs) a (suc i) = all-bytes xs a.1 i
-
-module _ (n x : ℕ) (h : n < 2 ^ 32) (ex : x ≡ cond (eqb (n % 128) 0) 128 0) where
-  -- the length's eight bytes
-  abbrev behind : List ℕ
-  behind = 0 ∷ 0 ∷ 0 ∷ 0 ∷ n / 2 ^ 24 ∷ n / 2 ^ 16 % 256 ∷ n / 2 ^ 8 % 256 ∷ n % 256 ∷ []
-
-  first_small : x < 256
-  first_small = subst (λ (m : ℕ). m < 256) (sym ex) (go (eqb (n % 128) 0))
-    where
-      go : (b : Bool) → cond b 128 0 < 256
-      go true = omega arith
-      go false = omega arith
-
-  small : (i : ℕ) → get_or (x ∷ replicate 7 0 ++ behind) i 0 < 256
-  small =
-      let none : 0 < 256 = omega arith in
-      let length : All (λ (b : ℕ). b < 256) behind =
-      (none, (none, (none, (none, (omega arith, (mod-lt (n / 2 ^ 16) {m = 256} (omega arith), (mod-lt (n / 2 ^ 8) {m = 256} (omega arith), (mod-lt n {m = 256} (omega arith), tt)))))))) in
-      all-bytes (x ∷ replicate 7 0 ++ behind) (first_small, all_append (λ (b : ℕ). b < 256) (replicate 7 0) behind (none, (none, (none, (none, (none, (none, (none, tt))))))) length)
-
-  bits : bits_in high_first (x ∷ replicate 7 0 ++ behind) ≡ length_block n
+module _ (n x : ℕ) (is : x ≡ cond (eqb (n % 128) 0) 128 0) where
+  bits : bits_in high_first (x ∷ replicate 7 0 ++ to_be_bytes w64 n) ≡ length_block n
   unfolding bits_in
   bits =
-      ap₂ (λ (a c : List Bool). a ++ c) (ap (bits_of high_first 8) ex ∙ first-bits (eqb (n % 128) 0))
-      (bits_in-append high_first (replicate 7 0) behind ∙ ap₂ (λ (a c : List Bool). a ++ c) (bits_in-zeros high_first 7) (length-bits n h))
+      ap₂ (λ (a c : List Bool). a ++ c) (ap (bits_of high_first 8) is ∙ first-bits (eqb (n % 128) 0))
+      (bits_in-append high_first (replicate 7 0) (to_be_bytes w64 n) ∙ ap₂ (λ (a c : List Bool). a ++ c) (bits_in-zeros high_first 7) (length-bits n))
 
-  pub length-bytes : x ∷ 0 ∷ 0 ∷ 0 ∷ 0 ∷ 0 ∷ 0 ∷ 0 ∷ 0 ∷ 0 ∷ 0 ∷ 0 ∷ n / 2 ^ 24 ∷ n / 2 ^ 16 % 256 ∷ n / 2 ^ 8 % 256 ∷ n % 256 ∷ [] ≡ packed_block (length_block n)
-  length-bytes = sym (pack-bits_in high_first (x ∷ replicate 7 0 ++ behind) small) ∙ ap (pack high_first 16) bits
+  -- the first byte and the length's eight
+  pub length-bytes : x < 256 → Bytes (to_be_bytes w64 n) → x ∷ replicate 7 0 ++ to_be_bytes w64 n ≡ packed_block (length_block n)
+  length-bytes small bytes =
+      sym (pack-bits_in high_first (x ∷ replicate 7 0 ++ to_be_bytes w64 n) (cons-bytes x (replicate 7 0 ++ to_be_bytes w64 n) small (append-bytes (replicate 7 0) (to_be_bytes w64 n) (zero-bytes 7) bytes)))
+      ∙ ap (pack high_first 16) bits
 
 -- ---- run on bytes
 

@@ -1,4 +1,3 @@
-pub mod OwnedHeld
 pub mod FamilyLaws
 pub mod TakenBack
 pub mod States

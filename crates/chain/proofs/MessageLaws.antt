@@ -9,12 +9,11 @@ use native.Mathlib.Nat.{one-mul, add-mul, mul_comm, mul_assoc, pow-suc}
 use native.Mathlib.Omega.{arith}
 use lib.Dec.{ltb, leb}
 use lib.ListN.{length, take, replicate, length-append, length-take}
-use lib.Seq.{take-length, take_at}
+use lib.Seq.{take_at}
 use lib.Pow.{shl_lt, shl_exact}
 use borrow.Author.Tests.{ltb-true, ltb-false, not-true, lt-ltb, le-ltb, leb-true, le-leb}
 use Rattle.answers.specs.declared.Refusal.TheVariants.{UnknownVariant, TooLong, BadBitNumber}
-use Rattle.answers.specs.declared.Status.{Status}
-use Rattle.answers.specs.declared.Status.TheVariants.{Done, Refused}
+use Rattle.answers.specs.Refusals.{Status, Done, Refused}
 use Rattle.answers.specs.Checks.{Check, unless, when, first_refusal}
 use Rattle.answers.specs.Outputs.{when_done, max_bytes, max_bits}
 use Rattle.answers.proofs.Rows.{passing-says, row-append, row-second, row-both}
@@ -133,10 +132,8 @@ pub marked-whole : (m : List ℕ) → Padded (byte_bits m) (m ++ 128 ∷ [])
 marked-whole m = subst (λ (bs : List Bool). Padded bs (m ++ 128 ∷ [])) (append-nil (byte_bits m)) (marked-last m 128 [] (omega arith) one-alone)
 
 module _ (H : Variant) (m : List ℕ) where
-  pub marked-eight : Padded (message_bits H m 8) (take (length m) m ++ 128 ∷ [])
-  marked-eight =
-      subst (λ (l : List ℕ). Padded (message_bits H m 8) (l ++ 128 ∷ [])) (sym (take-length m))
-      (subst (λ (bs : List Bool). Padded bs (m ++ 128 ∷ [])) (sym (bits-eight H m)) (marked-whole m))
+  pub marked-eight : Padded (message_bits H m 8) (m ++ 128 ∷ [])
+  marked-eight = subst (λ (bs : List Bool). Padded bs (m ++ 128 ∷ [])) (sym (bits-eight H m)) (marked-whole m)
 
   pub marked-part : 0 < length m → (k x : ℕ) → k ≤ 7
       → bits_of high_first 8 x ≡ bits_of high_first k (counted_of H.family k (last_of m)) ++ true ∷ replicate (7 - k) false
@@ -255,9 +252,6 @@ message-long v g k f long =
     row-second (unless (known v) UnknownVariant ∷ []) (number_checks g ++ when (ltb max_bits (length (given_bits (variant v) g))) TooLong ∷ []) (rw k)
     ∙ row-second (number_checks g) (when (ltb max_bits (length (given_bits (variant v) g))) TooLong ∷ []) f
     ∙ rw (lt-ltb max_bits (length (given_bits (variant v) g)) long)
-
-pub message-unknown : (v : ℕ) (g : Given) → known v ≡ false → first_refusal (message_checks v g) ≡ Refused UnknownVariant
-message-unknown v g k = rw k
 
 -- ---- two ways to give the same bits
 

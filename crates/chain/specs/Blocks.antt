@@ -1,12 +1,13 @@
 -- For the code: a bit string that comes as held nibbles with bytes after them, its blocks, with zeros after the bits where they end, and the state
 -- after the first of them.
 -- Assumes nothing.
-use Rattle.std.specs.Prelude.{Bool, List, ◌++◌, ℕ, ◌*◌, drop, replicate}
+use Rattle.std.specs.Prelude.{Bool, List, [], ◌∷◌, ◌++◌, ℕ, ◌*◌, drop, replicate}
 use Rattle.standard.specs.Bits.{high_first, bits_in, unpack, filled, cut}
 use Rattle.standard.specs.Families.{Variant}
 use Rattle.standard.specs.Chain.{run}
 use Rattle.standard.specs.Layout.{block_room}
-use Rattle.chain.specs.declared.blocks.Held.{Held}
+use Rattle.chain.specs.declared.stretch.Held.{Held}
+use Rattle.chain.specs.declared.stretch.Stretch.{Stretch}
 
 -- nothing is held
 abbrev pub none_held : Held
@@ -19,6 +20,10 @@ held_then held p bytes = unpack high_first (4 * p) held ++ bits_in high_first by
 -- what is held, and bytes after it
 abbrev pub bits_after : Held → List ℕ → List Bool
 bits_after held bytes = held_then held.bytes held.nibbles bytes
+
+-- the bytes of a stretch that come after what is held
+abbrev pub bytes_in : Stretch → List ℕ
+bytes_in s = s.piece.now ++ s.last ∷ []
 
 -- q nibbles of them from the nibble `first` on
 abbrev pub block_from : Held → List ℕ → ℕ → ℕ → List Bool

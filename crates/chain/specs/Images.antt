@@ -1,7 +1,7 @@
 -- The permutation on an image that a caller lends: its refusals in order, and the bytes that it leaves.
 -- Assumes nothing.
 use Rattle.std.specs.Prelude.{Bool, ◌&&◌, List, [], ◌∷◌, ℕ, eqb, length, drop}
-use Rattle.answers.specs.declared.Status.{Status}
+use Rattle.answers.specs.Refusals.{Status}
 use Rattle.answers.specs.declared.Refusal.TheVariants.{UnknownVariant, BadImage, NotSponge}
 use Rattle.answers.specs.Checks.{Check, unless, first_refusal}
 use Rattle.answers.specs.Outputs.{when_done}

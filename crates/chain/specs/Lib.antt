@@ -5,6 +5,7 @@ pub mod Blocks
 pub mod Messages
 pub mod MessageBytes
 pub mod Padding
+pub mod Splits
 pub mod TakenBack
 pub mod Images
 pub mod Words

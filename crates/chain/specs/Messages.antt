@@ -5,7 +5,7 @@ use Rattle.standard.specs.Families.{Variant}
 use Rattle.standard.specs.Messages.{Given, bytes, partial, given_bits}
 use Rattle.standard.specs.Variants.{variant, known}
 use Rattle.answers.specs.declared.Refusal.TheVariants.{UnknownVariant, TooLong, BadBitNumber}
-use Rattle.answers.specs.declared.Status.TheVariants.{Done}
+use Rattle.answers.specs.Refusals.{Done}
 use Rattle.answers.specs.Checks.{Check, unless, when, first_refusal}
 use Rattle.answers.specs.Outputs.{max_bits}
 

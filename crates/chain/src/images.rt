@@ -9,7 +9,7 @@ ghost use Rattle.chain.specs.Images.{is_image, image_status, permuted_image};
 
 use crate::sizes::STATE_BYTES;
 use crate::{sizes, state};
-use answers::{Refusal, Status};
+use answers::Refusal;
 use standard::Direction;
 
 // The bytes at the front of 36, zeros after them.
@@ -18,7 +18,7 @@ pub fn at_front(bytes: &[u8]) -> [u8; STATE_BYTES]
     ensures { result ≡ bytes.now ++ replicate (state_room - length bytes.now) 0 }
 {
     let mut out = [0u8; STATE_BYTES];
-    octets::copies::copy_front(bytes, bytes.len(), &mut out);
+    out[..bytes.len()].copy_from_slice(bytes);
     out
 }
 
@@ -42,30 +42,30 @@ fn permute_state(v: u8, image: &mut [u8], way: Direction)
 {
     let s = at_front(image);
     let r = state::permuted(v, s, way);
-    octets::copies::copy_front(&r, sizes::image_bytes(v), image);
+    image.copy_from_slice(&r[..image.len()]);
 }
 
 // Both directions of the public operation: the checks in order, then the bytes through the permutation.
-fn permute_image(variant: u32, image: &mut [u8], way: Direction) -> Status
+fn permute_image(variant: u32, image: &mut [u8], way: Direction) -> Result<(), Refusal>
     ensures { (result ≡ image_status variant image.old)
         × (image.new ≡ permuted_image variant way image.old) }
 {
     if !sizes::is_known(variant) {
-        return Status::Refused(Refusal::UnknownVariant);
+        return Err(Refusal::UnknownVariant);
     }
     let v = variant as u8;
     if !sizes::is_sponge(v) {
-        return Status::Refused(Refusal::NotSponge);
+        return Err(Refusal::NotSponge);
     }
     if !is_image(v, image) {
-        return Status::Refused(Refusal::BadImage);
+        return Err(Refusal::BadImage);
     }
     permute_state(v, image, way);
-    Status::Done
+    Ok(())
 }
 
 // The permutation on an image: refusals 1, 17, 6. A refusal leaves every byte.
-pub fn permute(variant: u32, image: &mut [u8]) -> Status
+pub fn permute(variant: u32, image: &mut [u8]) -> Result<(), Refusal>
     ensures { (result ≡ image_status variant image.old)
         × (image.new ≡ permuted_image variant Forward image.old) }
 {
@@ -73,7 +73,7 @@ pub fn permute(variant: u32, image: &mut [u8]) -> Status
 }
 
 // Its inverse: the rounds taken back.
-pub fn unpermute(variant: u32, image: &mut [u8]) -> Status
+pub fn unpermute(variant: u32, image: &mut [u8]) -> Result<(), Refusal>
     ensures { (result ≡ image_status variant image.old)
         × (image.new ≡ permuted_image variant Backward image.old) }
 {

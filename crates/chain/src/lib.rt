@@ -9,8 +9,10 @@ pub mod outcome;
 pub mod padding;
 pub mod plain;
 pub mod sizes;
+pub mod split;
 pub mod squeeze;
 pub mod state;
+pub mod stretch;
 
 pub use images::{permute, unpermute};
 pub use sizes::{BLOCK_BYTES, DIGEST_BYTES, STATE_BYTES};

@@ -9,59 +9,46 @@ ghost use Rattle.chain.specs.MessageBytes.{given, count_of};
 
 use crate::sizes;
 use crate::sizes::Family;
-use answers::{MAX_MESSAGE_BYTES, Refusal, Status};
+use answers::{MAX_MESSAGE_BYTES, Refusal};
 
 // Whether the last of n bytes may be said to contribute `bits` bits.
 pub fn is_bit_number(bits: u32, n: usize) -> bool
     ensures { result ≡ is_bit_number bits n }
 {
-    if n == 0 {
-        return false;
-    }
-    if bits == 0 {
-        return false;
-    }
-    bits <= 8
+    n > 0 && matches!(bits, 1..=8)
 }
 
-// Which bits of a message's last byte count: all of them, or as many as are said.
-#[derive(Clone, Copy)]
+// Which bits of a message's last byte count: all of them, or as many as are said. It has the shape of an Option, but a
+// `None` would read as if no bit counted.
+#[derive(Clone, Copy, PartialEq, Eq)]
 pub enum Ending {
     Whole,
     Bits(u32),
 }
 
 // Whether the bit number, if one is given, fits the bytes: refusal 15.
-pub fn check_number(message: &[u8], ending: Ending) -> Status
+pub fn check_number(message: &[u8], ending: Ending) -> Result<(), Refusal>
     ensures { result ≡ first_refusal (number_checks (given message.now ending)) }
 {
     match ending {
-        Ending::Whole => Status::Done,
-        Ending::Bits(k) => {
-            if is_bit_number(k, message.len()) {
-                return Status::Done;
-            }
-            Status::Refused(Refusal::BadBitNumber)
-        }
+        Ending::Bits(k) if !is_bit_number(k, message.len()) => Err(Refusal::BadBitNumber),
+        Ending::Whole | Ending::Bits(_) => Ok(()),
     }
 }
 
 // Whether a whole message may be taken: refusals 1, 15, 4.
-pub fn check_message(variant: u32, message: &[u8], ending: Ending) -> Status
+pub fn check_message(variant: u32, message: &[u8], ending: Ending) -> Result<(), Refusal>
     ensures { result ≡ first_refusal (message_checks variant (given message.now ending)) }
 {
     if !sizes::is_known(variant) {
-        return Status::Refused(Refusal::UnknownVariant);
+        return Err(Refusal::UnknownVariant);
     }
-    let s = check_number(message, ending);
-    let Status::Done = s else {
-        return s;
-    };
+    check_number(message, ending)?;
     // Bits pass their limit exactly when bytes pass theirs.
     if MAX_MESSAGE_BYTES < message.len() {
-        return Status::Refused(Refusal::TooLong);
+        return Err(Refusal::TooLong);
     }
-    Status::Done
+    Ok(())
 }
 
 // The number that the k counting bits of a byte make: the low ones in SPONGENT, the high ones in the others.
@@ -69,12 +56,10 @@ pub fn counted(v: u8, b: u8, k: usize) -> u32
     requires { (known v ≡ true) × (k ≤ 8) }
     ensures { (result ≡ counted_of (variant v).family k b) × (result < 2 ^ k) }
 {
-    let x = b as u32;
-    let family = sizes::family_of(v);
-    match family {
-        Family::Photon => x >> (8 - k),
+    let x = u32::from(b);
+    match sizes::family_of(v) {
         Family::Spongent => x % (1 << k),
-        Family::Lesamnta => x >> (8 - k),
+        Family::Photon | Family::Lesamnta => x >> (8 - k),
     }
 }
 

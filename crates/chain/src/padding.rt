@@ -7,17 +7,19 @@ ghost use Rattle.standard.specs.Chain.{run, block_count};
 ghost use Rattle.standard.specs.Messages.{given_bits};
 ghost use Rattle.standard.specs.Variants.{variant, known};
 ghost use Rattle.standard.specs.Layout.{block_room, packed_state, packed_block};
-ghost use Rattle.answers.specs.declared.Status.TheVariants.{Done};
+ghost use Rattle.answers.specs.Refusals.{Done};
 ghost use Rattle.answers.specs.Checks.{first_refusal};
 ghost use Rattle.answers.specs.Outputs.{max_bytes, max_bits};
 ghost use Rattle.chain.specs.Holding.{Holds};
 ghost use Rattle.chain.specs.Messages.{number_checks};
 ghost use Rattle.chain.specs.MessageBytes.{given};
+ghost use Rattle.chain.specs.Splits.{message_held};
 ghost use Rattle.chain.specs.Padding.{Padded, data_blocks, length_block, length_blocks};
 
-use crate::blocks::Held;
 use crate::message::Ending;
 use crate::sizes::{BLOCK_BYTES, STATE_BYTES};
+use crate::split::Split;
+use crate::stretch::{Held, Stretch};
 use crate::{message, outcome, sizes};
 
 // The byte after whole bytes: the padding's 1 bit, and zeros.
@@ -38,39 +40,31 @@ pub fn last_byte(held: [u8; BLOCK_BYTES], c: usize) -> u8
         ≡ take (c % 8) (bits_of high_first 8 (get_or held (c / 8) 0)) ++ true ∷ replicate (7 - c % 8) false }
 {
     let k = c % 8;
-    let x = held[c / 8] as u32;
+    let x = u32::from(held[c / 8]);
     with_padding_bit(x >> (8 - k), k)
 }
 
-// A message as the code holds it: its first `front` bytes are whole, the byte after them has the rest of its bits and
-// the padding's 1 bit, and it has `bits` bits.
-#[derive(Clone, Copy)]
-pub struct Split {
-    pub front: usize,
-    pub last: u8,
-    pub bits: usize,
-}
-
-pub fn split_of(v: u8, message: &[u8], ending: Ending) -> Split
+// A message taken apart at its last byte.
+pub fn split_of<'a>(v: u8, message: &'a [u8], ending: Ending) -> Split<'a>
     requires { (known v ≡ true) × (first_refusal (number_checks (given message.now ending)) ≡ Done)
         × (length message.now ≤ max_bytes) }
-    ensures front_in_bounds { (result.front ≤ length message.now)
+    ensures front_value { (result.front.now ≡ take (length result.front.now) message.now)
         × (result.bits ≡ length (given_bits (variant v) (given message.now ending))) }
-    ensures padded { Padded (given_bits (variant v) (given message.now ending))
-        (take result.front message.now ++ result.last ∷ []) }
+    ensures message_value { message_held result
+        ≡ given_bits (variant v) (given message.now ending) }
 {
     let n = message.len();
     let k = message::count_of(ending) as usize;
     // A whole last byte leaves no room for the 1 bit, which stands after it.
     if k == 8 {
         return Split {
-            front: n,
+            front: message,
             last: PADDING_BYTE,
             bits: 8 * n,
         };
     }
     Split {
-        front: n - 1,
+        front: &message[..n - 1],
         last: with_padding_bit(message::counted(v, message[n - 1], k), k),
         bits: 8 * (n - 1) + k,
     }
@@ -86,7 +80,7 @@ pub fn data_blocks(v: u8, bits: usize) -> usize
     if sizes::is_sponge(v) {
         return bits / (sizes::block_bits(v) as usize) + 1;
     }
-    (bits + 127) / 128
+    bits.div_ceil(128)
 }
 
 // The number of blocks of a message of `bits` bits once it is padded.
@@ -117,10 +111,7 @@ fn length_block(bits: u32) -> [u8; BLOCK_BYTES]
 {
     let mut out = [0u8; BLOCK_BYTES];
     out[0] = first_byte(bits);
-    out[12] = (bits >> 24) as u8;
-    out[13] = ((bits >> 16) % 256) as u8;
-    out[14] = ((bits >> 8) % 256) as u8;
-    out[15] = (bits % 256) as u8;
+    out[8..].copy_from_slice(&u64::from(bits).to_be_bytes());
     out
 }
 
@@ -134,9 +125,13 @@ pub fn ended(v: u8, s: [u8; STATE_BYTES], bits: u32) -> [u8; STATE_BYTES]
     if sizes::is_sponge(v) {
         return s;
     }
-    let held = Held {
-        bytes: length_block(bits),
-        nibbles: 32,
+    let stretch = Stretch {
+        held: Held {
+            bytes: length_block(bits),
+            nibbles: 32,
+        },
+        piece: b"",
+        last: 0,
     };
-    outcome::run_blocks(v, s, held, b"", 0, 1)
+    outcome::run_blocks(v, s, stretch, 1)
 }

@@ -17,10 +17,9 @@ pub fn xored(s: [u8; STATE_BYTES], b: &[u8]) -> [u8; STATE_BYTES]
     ensures { (o : Order) → bits_in o result ≡ xor_into (bits_in o s) (bits_in o b.now) }
 {
     let mut out = s;
-    let mut i = 0;
-    while i < b.len() {
-        out[i] = out[i] ^ b[i];
-        i += 1;
+    // Not `out.iter_mut().zip(b)`: a proof would know nothing of what such a loop writes.
+    for (i, x) in b.iter().enumerate() {
+        out[i] ^= *x;
     }
     out
 }

@@ -14,7 +14,8 @@ pub const BLOCK_BYTES: usize = 16;
 pub const DIGEST_BYTES: usize = 32;
 
 // Tables 1 and 9 and Lesamnta-LW by a variant's number, 0 for no variant: the bits of the state (t), of a block that is
-// taken in (r), of one that is given out (r'; Lesamnta-LW gives its state out at once) and of the digest (n).
+// taken in (r), of one that is given out (r'; Lesamnta-LW gives its state out at once) and of the digest (n). They stand
+// in rows, as in the standard's tables: a `Sizes` for each would take six lines.
 const SIZES: [[u32; 4]; 12] = [
     [0, 0, 0, 0],
     [100, 20, 16, 80],
@@ -30,7 +31,7 @@ const SIZES: [[u32; 4]; 12] = [
     [256, 128, 0, 256],
 ];
 
-#[derive(Clone, Copy)]
+#[derive(Clone, Copy, Default)]
 struct Sizes {
     state: u32,
     block: u32,
@@ -41,24 +42,18 @@ struct Sizes {
 pub fn is_known(v: u32) -> bool
     ensures { result ≡ known v }
 {
-    if v < 1 {
-        return false;
-    }
-    v <= 11
+    matches!(v, 1..=11)
 }
 
 // Every variant but Lesamnta-LW is a sponge.
 pub fn is_sponge(v: u8) -> bool
     ensures { result ≡ is_sponge (variant v) }
 {
-    if v < 1 {
-        return false;
-    }
-    v <= 10
+    matches!(v, 1..=10)
 }
 
 // The families. What depends on them is in `state`.
-#[derive(Clone, Copy)]
+#[derive(Clone, Copy, PartialEq, Eq)]
 pub enum Family {
     Photon,
     Spongent,
@@ -69,13 +64,11 @@ pub fn family_of(v: u8) -> Family
     requires { known v ≡ true }
     ensures { result ≡ family_of (variant v).family }
 {
-    if v <= 5 {
-        return Family::Photon;
+    match v {
+        ..=5 => Family::Photon,
+        6..=10 => Family::Spongent,
+        _ => Family::Lesamnta,
     }
-    if v <= 10 {
-        return Family::Spongent;
-    }
-    Family::Lesamnta
 }
 
 fn sizes_of(v: u8) -> Sizes
@@ -83,20 +76,14 @@ fn sizes_of(v: u8) -> Sizes
         × (result.output ≡ output_bits (variant v)) × (result.digest ≡ (variant v).n) }
     ensures state_bound { result.state ≤ 8 * state_room }
 {
-    if 11 < v {
-        return Sizes {
-            state: 0,
-            block: 0,
-            output: 0,
-            digest: 0,
-        };
-    }
-    let row = SIZES[v as usize];
+    let Some(&[state, block, output, digest]) = SIZES.get(usize::from(v)) else {
+        return Sizes::default();
+    };
     Sizes {
-        state: row[0],
-        block: row[1],
-        output: row[2],
-        digest: row[3],
+        state,
+        block,
+        output,
+        digest,
     }
 }
 
@@ -116,7 +103,7 @@ pub fn block_bits(v: u8) -> u32
 pub fn image_bytes(v: u8) -> usize
     ensures { result ≡ image_size (variant v) }
 {
-    (sizes_of(v).state as usize + 7) / 8
+    state_bits(v).div_ceil(8)
 }
 
 pub fn digest_bytes(v: u8) -> usize

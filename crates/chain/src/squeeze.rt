@@ -23,10 +23,8 @@ fn put_front(out: &mut [u8], p: usize, s: &[u8], q: usize)
         ≡ pack high_first state_room (unpack high_first (4 * p) out.old
         ++ take (4 * q) (bits_in high_first s.now)) }
 {
-    let mut i: usize = 0;
-    while i < q {
+    for i in 0..q {
         octets::nibbles::put_nibble(out, p + i, octets::nibbles::nibble_of(s[i / 2], i));
-        i += 1;
     }
 }
 
@@ -46,14 +44,13 @@ pub fn squeezed(v: u8, w: &mut [u64; 8], table: &[u64]) -> [u8; STATE_BYTES]
     let q = sizes::output_nibbles(v);
     let none = [0u8; BLOCK_BYTES];
     let mut out = [0u8; STATE_BYTES];
-    let mut p: usize = 0;
-    while p + q < n {
+    let whole = (n - 1) / q;
+    for i in 0..whole {
         let s = state::front_of(v, w);
-        put_front(&mut out, p, &s, q);
+        put_front(&mut out, i * q, &s, q);
         state::step_words(v, w, &none, 0, table);
-        p += q;
     }
     let s = state::front_of(v, w);
-    put_front(&mut out, p, &s, n - p);
+    put_front(&mut out, whole * q, &s, n - whole * q);
     out
 }

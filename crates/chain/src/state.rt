@@ -40,12 +40,8 @@ fn photon_start(v: u8) -> [u8; STATE_BYTES]
     ensures { result ≡ packed_state (variant v) (start_state (variant v)) }
 {
     let mut out = [0u8; STATE_BYTES];
-    let end = START_ENDS[v as usize];
-    let k = sizes::image_bytes(v) - 4;
-    out[k] = end[0];
-    out[k + 1] = end[1];
-    out[k + 2] = end[2];
-    out[k + 3] = end[3];
+    let end = sizes::image_bytes(v);
+    out[end - 4..end].copy_from_slice(&START_ENDS[usize::from(v)]);
     out
 }
 
@@ -54,8 +50,7 @@ pub fn start(v: u8) -> [u8; STATE_BYTES]
     requires { known v ≡ true }
     ensures { result ≡ packed_state (variant v) (start_state (variant v)) }
 {
-    let family = sizes::family_of(v);
-    match family {
+    match sizes::family_of(v) {
         Family::Photon => photon_start(v),
         Family::Spongent => [0u8; STATE_BYTES],
         Family::Lesamnta => CHAIN_START,
@@ -69,8 +64,7 @@ pub fn words_of(v: u8, s: [u8; STATE_BYTES]) -> [u64; 8]
     requires { known v ≡ true }
     ensures { state_in_words (variant v) result ≡ state_in (variant v) s }
 {
-    let family = sizes::family_of(v);
-    match family {
+    match sizes::family_of(v) {
         Family::Photon => photon::words::words_of(v, &s),
         Family::Spongent => spongent::words::words_of(v, &s),
         Family::Lesamnta => lesamnta::words::words_of(&s),
@@ -82,8 +76,7 @@ pub fn bytes_of(v: u8, w: &[u64; 8]) -> [u8; STATE_BYTES]
     requires { known v ≡ true }
     ensures { result ≡ packed_state (variant v) (state_in_words (variant v) w.now) }
 {
-    let family = sizes::family_of(v);
-    match family {
+    match sizes::family_of(v) {
         Family::Photon => photon::words::image(v, w),
         Family::Spongent => spongent::words::image(v, w),
         Family::Lesamnta => lesamnta::words::image(w),
@@ -97,8 +90,7 @@ pub fn front_of(v: u8, w: &[u64; 8]) -> [u8; STATE_BYTES]
         ≡ take (output_bits (variant v)) (bits_in high_first
         (packed_state (variant v) (state_in_words (variant v) w.now))) }
 {
-    let family = sizes::family_of(v);
-    match family {
+    match sizes::family_of(v) {
         Family::Photon => photon::words::front(v, w),
         Family::Spongent => spongent::words::front(v, w),
         Family::Lesamnta => [0u8; STATE_BYTES],
@@ -116,8 +108,7 @@ pub fn step_words(v: u8, w: &mut [u64; 8], bytes: &[u8], m: usize, table: &[u64]
         ≡ step (variant v) (state_in_words (variant v) w.old)
         (take (variant v).r (drop (4 * m) (bits_in high_first bytes.now))) }
 {
-    let family = sizes::family_of(v);
-    match family {
+    match sizes::family_of(v) {
         Family::Photon => photon::words::step(v, w, bytes, m, table),
         Family::Spongent => spongent::words::step(v, w, bytes, m, table),
         Family::Lesamnta => lesamnta::words::step(w, bytes, m, table),
@@ -131,8 +122,7 @@ pub fn permuted(v: u8, s: [u8; STATE_BYTES], way: Direction) -> [u8; STATE_BYTES
     requires holds { Holds v s }
     ensures { result ≡ packed_state (variant v) (permuted_state (variant v) way (state_in (variant v) s)) }
 {
-    let family = sizes::family_of(v);
-    match family {
+    match sizes::family_of(v) {
         Family::Photon => photon::steps::permuted(v, s, way),
         Family::Spongent => spongent::steps::permuted(v, s, way),
         Family::Lesamnta => s,

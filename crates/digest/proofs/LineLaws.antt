@@ -11,7 +11,7 @@ use lib.Seq.{take_at}
 use Rattle.standard.specs.Variants.{variant, variants, none}
 use Rattle.standard.proofs.Tests.{lt-or-le}
 use Rattle.standard.proofs.Variants.{bounds, known-true}
-use Rattle.answers.specs.declared.Status.TheVariants.{Done}
+use Rattle.answers.specs.Refusals.{Done}
 use Rattle.octets.proofs.LineLaws.{Wrote, wrote_on}
 use Rattle.hasher.specs.declared.Hasher.{Hasher}
 use Rattle.standard.specs.declared.Wanted.TheVariants.{Digest}

@@ -9,8 +9,7 @@ use lib.Seq.{take_at, take-length}
 use Rattle.standard.specs.Chain.{digest_of, end_state}
 use Rattle.standard.specs.Messages.{byte_bits, Given, given_bits}
 use Rattle.standard.specs.Variants.{variant, known}
-use Rattle.answers.specs.declared.Status.{Status}
-use Rattle.answers.specs.declared.Status.TheVariants.{Done, Refused}
+use Rattle.answers.specs.Refusals.{Status, Done, Refused}
 use Rattle.answers.specs.Outputs.{when_done}
 use Rattle.hasher.specs.declared.Hasher.{Hasher}
 use Rattle.hasher.specs.declared.Advanced.{Advanced}

@@ -2,8 +2,7 @@
 -- Assumes nothing.
 use Rattle.std.specs.Prelude.{List, ◌++◌, ℕ}
 use Rattle.standard.specs.Chain.{digest_from}
-use Rattle.answers.specs.declared.Status.{Status}
-use Rattle.answers.specs.declared.Status.TheVariants.{Done, Refused}
+use Rattle.answers.specs.Refusals.{Status, Done, Refused}
 use Rattle.octets.specs.Text.{ascii, hex_of}
 use Rattle.answers.specs.Lines.{refused_line}
 use Rattle.hasher.specs.declared.Hasher.{Hasher}

@@ -1,74 +1,53 @@
 // What each read of the input makes of the running hash, and whether a further read follows.
-ghost use Rattle.std.specs.Prelude.{◌≡◌, pos, negsuc, IfOk, IfErr};
-ghost use Rattle.std.specs.Io.{ReadsAtMost};
+ghost use Rattle.std.specs.Prelude.{◌≡◌};
 ghost use Rattle.digest.specs.Input.{goes_on, standing, variant_read, after_first, after_piece};
 
-use answers::Status;
-use hasher::Advanced;
+use answers::Refusal;
+use hasher::{Advanced, Hasher};
+use reads::Fed;
 
-// How the input stands after a read of it: what the call answered that took what was read, whether a further read
-// follows, and whether this one failed.
-#[derive(Clone, Copy)]
-pub struct Fed {
-    pub answer: Advanced,
-    pub more: bool,
-    pub failed: bool,
+// Whether a further read follows one that brought n bytes, by the answer of the call that took them: 0 is the end of the
+// input.
+fn goes_on(status: Result<(), Refusal>, n: usize) -> bool
+    ensures { result ≡ goes_on status n }
+{
+    0 < n && status.is_ok()
 }
 
-// What a read into a buffer answered, as one number: that of the bytes that it brought, 0 at the end of the input, and a
-// negative one if it failed.
-pub fn count_of(read: std::io::Result<usize>, buffer: &[u8]) -> isize
-    requires { ReadsAtMost read buffer.now }
-    ensures brought { IfOk read (λ n. result ≡ pos n) }
-    ensures failed { IfErr read (λ _. result ≡ negsuc 0) }
+fn standing(answer: Advanced, n: usize) -> Fed<Advanced>
+    ensures { result ≡ standing answer n }
 {
-    match read {
-        Ok(n) => n as isize,
-        Err(_) => -1,
-    }
-}
-
-// A read answers the number of bytes that it brought, 0 at the end of the input, and a negative number if it failed.
-fn goes_on(status: Status, got: isize) -> bool
-    ensures { result ≡ goes_on status got }
-{
-    if 0 < got {
-        answers::is_done(status)
+    if goes_on(answer.status, n) {
+        Fed::More(answer)
     } else {
-        false
-    }
-}
-
-fn standing(answer: Advanced, got: isize) -> Fed
-    ensures { result ≡ standing answer got }
-{
-    let status = answer.status;
-    Fed {
-        answer: answer,
-        more: goes_on(status, got),
-        failed: got < 0,
+        Fed::Ended(answer)
     }
 }
 
 // The byte that a first read brought, by the number of bytes that it brought.
-fn variant_read(byte: u8, count: isize) -> u8
-    ensures { result ≡ variant_read byte count }
+fn variant_read(byte: u8, n: usize) -> u8
+    ensures { result ≡ variant_read byte n }
 {
-    if 0 < count { byte } else { 0 }
+    if 0 < n { byte } else { 0 }
 }
 
 // The first read, which asked for one byte.
-pub fn after_first(byte: u8, got: isize) -> Fed
-    ensures { result ≡ after_first byte got }
+pub fn after_first(byte: u8, read: std::io::Result<usize>) -> Fed<Advanced>
+    ensures { result ≡ after_first byte read }
 {
-    standing(hasher::start(variant_read(byte, got) as u32), got)
+    match read {
+        Ok(n) => standing(hasher::start(u32::from(variant_read(byte, n))), n),
+        Err(_) => Fed::Failed,
+    }
 }
 
-// A later read, into a buffer: what came stands at its front.
-pub fn after_piece(fed: Fed, buffer: &[u8], got: isize) -> Fed
-    ensures { result ≡ after_piece fed buffer.now got }
+// A later read, into a buffer: what came stands at its front. No read brings more than the buffer holds; whatever is
+// said, no byte past its end is looked at.
+pub fn after_piece(h: Hasher, buffer: &[u8], read: std::io::Result<usize>) -> Fed<Advanced>
+    ensures { result ≡ after_piece h buffer.now read }
 {
-    let n = io::count(got, buffer);
-    let before = fed.answer;
-    standing(hasher::update(before.hasher, &buffer[..n]), got)
+    match read {
+        Ok(n) => standing(hasher::update(h, &buffer[..n.min(buffer.len())]), n),
+        Err(_) => Fed::Failed,
+    }
 }

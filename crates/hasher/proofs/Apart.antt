@@ -15,8 +15,7 @@ use Rattle.standard.proofs.Streaming.{end-length}
 use Rattle.standard.proofs.Variants.{sponge-known, streams}
 use Rattle.standard.proofs.OneValue.{value-block, one-changed-row, one-changed-part}
 use Rattle.standard.proofs.ImageStates.{image_of-length, image_of-injective}
-use Rattle.answers.specs.declared.Status.{Status}
-use Rattle.answers.specs.declared.Status.TheVariants.{Done}
+use Rattle.answers.specs.Refusals.{Status, Done}
 use Rattle.answers.specs.Outputs.{written, max_bits}
 use Rattle.chain.specs.Messages.{Fits}
 use Rattle.hasher.specs.declared.Hasher.{Hasher}

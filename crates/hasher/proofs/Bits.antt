@@ -7,7 +7,7 @@ use lib.ListN.{length}
 use Rattle.standard.specs.Chain.{end_state}
 use Rattle.standard.specs.Messages.{given_bits}
 use Rattle.standard.specs.Variants.{variant}
-use Rattle.answers.specs.declared.Status.{Status}
+use Rattle.answers.specs.Refusals.{Status}
 use Rattle.answers.specs.Checks.{first_refusal}
 use Rattle.answers.specs.Outputs.{when_done, written}
 use Rattle.answers.proofs.Rows.{row-append}

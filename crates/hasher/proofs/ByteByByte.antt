@@ -10,7 +10,7 @@ use lib.ListN.{length}
 use Rattle.standard.specs.Bits.{high_first}
 use Rattle.standard.specs.Messages.{byte_bits, bytes}
 use Rattle.standard.proofs.BitLaws.{length-bits_in}
-use Rattle.answers.specs.declared.Status.TheVariants.{Done}
+use Rattle.answers.specs.Refusals.{Done}
 use Rattle.answers.specs.Checks.{first_refusal}
 use Rattle.answers.specs.Outputs.{max_bits}
 use Rattle.answers.proofs.Statuses.{done-or}

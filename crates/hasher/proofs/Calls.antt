@@ -14,8 +14,7 @@ use Rattle.standard.specs.Messages.{Given, given_bits}
 use Rattle.standard.specs.Variants.{known, variant}
 use Rattle.answers.specs.declared.Refusal.{Refusal}
 use Rattle.answers.specs.declared.Refusal.TheVariants.{UnknownVariant, TooLong, InsideByte}
-use Rattle.answers.specs.declared.Status.{Status}
-use Rattle.answers.specs.declared.Status.TheVariants.{Done, Refused}
+use Rattle.answers.specs.Refusals.{Status, Done, Refused}
 use Rattle.answers.specs.Checks.{first_refusal}
 use Rattle.answers.specs.Outputs.{max_bits, when_done, written}
 use Rattle.answers.proofs.Rows.{passing-says, row-second, row-both}

@@ -18,8 +18,7 @@ use Rattle.standard.proofs.BitLaws.{length-bits_in, bits_in-append}
 use Rattle.standard.proofs.Tests.{lt-or-le, either}
 use Rattle.answers.specs.declared.Refusal.{Refusal}
 use Rattle.answers.specs.declared.Refusal.TheVariants.{UnknownVariant, TooLong}
-use Rattle.answers.specs.declared.Status.{Status}
-use Rattle.answers.specs.declared.Status.TheVariants.{Done, Refused}
+use Rattle.answers.specs.Refusals.{Status, Done, Refused}
 use Rattle.answers.specs.Outputs.{when_done, written, max_bits}
 use Rattle.answers.proofs.Statuses.{not_done, kept}
 use Rattle.answers.proofs.Rows.{refused-first}

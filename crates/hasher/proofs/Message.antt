@@ -16,8 +16,7 @@ use Rattle.standard.specs.Variants.{variant, known}
 use Rattle.standard.proofs.BitLaws.{length-bits_in}
 use Rattle.standard.proofs.Streaming.{Streams, end-parts}
 use Rattle.standard.proofs.Variants.{streams}
-use Rattle.answers.specs.declared.Status.{Status}
-use Rattle.answers.specs.declared.Status.TheVariants.{Done}
+use Rattle.answers.specs.Refusals.{Status, Done}
 use Rattle.answers.specs.Checks.{first_refusal}
 use Rattle.answers.specs.Outputs.{written, max_bytes, max_bits}
 use Rattle.answers.proofs.Rows.{row-second}

@@ -6,8 +6,7 @@ use Rattle.standard.specs.Families.{Variant}
 use Rattle.standard.specs.Chain.{end_state}
 use Rattle.standard.specs.Messages.{Given, bytes, given_bits}
 use Rattle.standard.specs.Variants.{variant}
-use Rattle.answers.specs.declared.Status.{Status}
-use Rattle.answers.specs.declared.Status.TheVariants.{Done}
+use Rattle.answers.specs.Refusals.{Status, Done}
 use Rattle.answers.specs.Outputs.{when_done}
 use Rattle.chain.specs.Messages.{Fits}
 use Rattle.hasher.specs.declared.Hasher.{Hasher}

@@ -6,7 +6,7 @@ use Rattle.standard.specs.Chain.{blocks_of, DifferAt, digest_of}
 use Rattle.standard.specs.Messages.{byte_bits, Given, bytes, given_bits}
 use Rattle.standard.specs.Variants.{variant, known}
 use Rattle.standard.specs.Values.{DifferWithin, in_one_block}
-use Rattle.answers.specs.declared.Status.TheVariants.{Done}
+use Rattle.answers.specs.Refusals.{Done}
 use Rattle.answers.specs.Outputs.{max_bytes, max_bits}
 use Rattle.chain.specs.Messages.{Fits, Alike}
 use Rattle.hasher.specs.declared.Hasher.{Hasher}

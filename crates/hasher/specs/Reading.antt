@@ -6,7 +6,7 @@ use Rattle.standard.specs.Chain.{digest_from, end_state}
 use Rattle.standard.specs.Messages.{Given, given_bits}
 use Rattle.standard.specs.Variants.{variant}
 use Rattle.answers.specs.declared.Refusal.TheVariants.{Malformed, WrongStage, OutputTooShort}
-use Rattle.answers.specs.declared.Status.{Status}
+use Rattle.answers.specs.Refusals.{Status}
 use Rattle.answers.specs.Checks.{Check, unless, when, first_refusal}
 use Rattle.answers.specs.Outputs.{written}
 use Rattle.chain.specs.Messages.{message_checks}

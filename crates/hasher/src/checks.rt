@@ -8,78 +8,69 @@ ghost use Rattle.hasher.specs.Running.{open_checks, follow_checks, update_checks
 ghost use Rattle.hasher.specs.Reading.{room_checks, read_status, hash_status};
 
 use crate::{Hasher, results};
-use answers::{MAX_MESSAGE_BITS, MAX_MESSAGE_BYTES, Refusal, Status};
+use answers::{MAX_MESSAGE_BITS, Refusal};
 use chain::message;
 use chain::message::Ending;
 use standard::Wanted;
 
 // Whether a running hash is open: refusals 2, 3.
-pub fn check_open(h: Hasher) -> Status
+pub fn check_open(h: Hasher) -> Result<(), Refusal>
     ensures { result ≡ first_refusal (open_checks h) }
 {
     if !crate::is_well_formed(h) {
-        return Status::Refused(Refusal::Malformed);
+        return Err(Refusal::Malformed);
     }
     if h.stage == 1 {
-        return Status::Refused(Refusal::WrongStage);
+        return Err(Refusal::WrongStage);
     }
-    Status::Done
+    Ok(())
 }
 
 // Whether `bytes` bytes may follow what was taken: refusals 16, 4.
-fn check_follow(h: Hasher, bytes: usize) -> Status
+fn check_follow(h: Hasher, bytes: usize) -> Result<(), Refusal>
     requires { h.total ≤ max_bits }
     ensures { result ≡ first_refusal (follow_checks h (8 * bytes)) }
 {
     if h.total % 8 != 0 {
-        return Status::Refused(Refusal::InsideByte);
+        return Err(Refusal::InsideByte);
     }
-    // Eight times any number could pass the word's end: more bytes than any message has are refused first.
-    if MAX_MESSAGE_BYTES < bytes {
-        return Status::Refused(Refusal::TooLong);
+    // In bytes: eight times any number of them could pass the word's end.
+    let left = (MAX_MESSAGE_BITS - h.total) / 8;
+    if (left as usize) < bytes {
+        return Err(Refusal::TooLong);
     }
-    let left = MAX_MESSAGE_BITS - h.total;
-    if (left as usize) < 8 * bytes {
-        return Status::Refused(Refusal::TooLong);
-    }
-    Status::Done
+    Ok(())
 }
 
 // Whether a piece may come: refusals 2, 3, 15, 16, 4.
-pub fn check_update(h: Hasher, piece: &[u8], ending: Ending) -> Status
+pub fn check_update(h: Hasher, piece: &[u8], ending: Ending) -> Result<(), Refusal>
     ensures { result ≡ first_refusal (update_checks h (given piece.now ending)) }
 {
-    let s = check_open(h);
-    let Status::Done = s else {
-        return s;
-    };
-    let t = message::check_number(piece, ending);
-    let Status::Done = t else {
-        return t;
-    };
+    check_open(h)?;
+    message::check_number(piece, ending)?;
     // The room left is a multiple of 8, so a partial byte fits exactly when a whole one does.
     check_follow(h, piece.len())
 }
 
 // Whether a result has room in `room` bytes: refusal 5.
-pub fn check_room(v: u8, wanted: Wanted, room: usize) -> Status
+pub fn check_room(v: u8, wanted: Wanted, room: usize) -> Result<(), Refusal>
     ensures { result ≡ first_refusal (room_checks (variant v) wanted room) }
 {
     if room < results::result_size(v, wanted) {
-        return Status::Refused(Refusal::OutputTooShort);
+        return Err(Refusal::OutputTooShort);
     }
-    Status::Done
+    Ok(())
 }
 
 // Whether a result may be read into n bytes: refusals 2, 3, 5.
-pub fn check_read(h: Hasher, wanted: Wanted, n: usize) -> Status
+pub fn check_read(h: Hasher, wanted: Wanted, n: usize) -> Result<(), Refusal>
     ensures { result ≡ read_status h wanted n }
 {
     if !crate::is_well_formed(h) {
-        return Status::Refused(Refusal::Malformed);
+        return Err(Refusal::Malformed);
     }
     if h.stage != 1 {
-        return Status::Refused(Refusal::WrongStage);
+        return Err(Refusal::WrongStage);
     }
     check_room(h.variant, wanted, n)
 }
@@ -91,12 +82,9 @@ pub fn check_hash(
     ending: Ending,
     wanted: Wanted,
     room: usize,
-) -> Status
+) -> Result<(), Refusal>
     ensures { result ≡ hash_status variant (given message.now ending) wanted room }
 {
-    let s = message::check_message(variant, message, ending);
-    let Status::Done = s else {
-        return s;
-    };
+    message::check_message(variant, message, ending)?;
     check_room(variant as u8, wanted, room)
 }

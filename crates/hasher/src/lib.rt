@@ -5,7 +5,7 @@ ghost use Rattle.std.specs.Prelude.{◌≡◌, true};
 ghost use Rattle.standard.specs.Variants.{known};
 ghost use Rattle.hasher.specs.Running.{held_count, well_formed};
 
-use answers::{MAX_MESSAGE_BITS, Status};
+use answers::{MAX_MESSAGE_BITS, Refusal};
 use chain::{BLOCK_BYTES, STATE_BYTES};
 
 pub mod checks; // checks.rt: the rows of checks
@@ -18,8 +18,9 @@ pub use results::{digest, end_state, read, result_size};
 pub use running::{finish, start, started_over, update, update_bits, update_with};
 pub use whole::{hash, hash_bits, hash_with};
 
-// Any bytes are one. Stage 0 is open, 1 is closed. The total counts bits. The state is an image at the front of its
-// bytes; the held bits are those of the message so far that fill no block.
+// Any bytes are one. Stage 0 is open, 1 is closed: a number and no enum, since a C caller's bytes may hold any
+// (`well_formed`). The total counts bits. The state is an image at the front of its bytes; the held bits are those of
+// the message so far that fill no block.
 #[repr(C)]
 #[derive(Clone, Copy)]
 pub struct Hasher {
@@ -30,10 +31,11 @@ pub struct Hasher {
     pub held: [u8; BLOCK_BYTES],
 }
 
-// The answer of a call that gives a running hash: with a refusal, the one that it was given.
+// The answer of a call that gives a running hash: with a refusal, the one that it was given. A running hash comes with
+// either answer (`UpdateUnchanged`, `WholeIsPieces`), so that it stands beside the answer and not in its Ok.
 #[derive(Clone, Copy)]
 pub struct Advanced {
-    pub status: Status,
+    pub status: Result<(), Refusal>,
     pub hasher: Hasher,
 }
 
@@ -51,20 +53,9 @@ fn held_count(h: Hasher) -> usize
 pub fn is_well_formed(h: Hasher) -> bool
     ensures { result ≡ well_formed h }
 {
-    let v = h.variant;
-    if !chain::sizes::is_known(v as u32) {
+    if !chain::sizes::is_known(u32::from(h.variant)) || 1 < h.stage || MAX_MESSAGE_BITS < h.total {
         return false;
     }
-    if 1 < h.stage {
-        return false;
-    }
-    if MAX_MESSAGE_BITS < h.total {
-        return false;
-    }
-    let state = h.state;
-    if !octets::bits::clear_from(&state, chain::sizes::state_bits(v)) {
-        return false;
-    }
-    let held = h.held;
-    octets::bits::clear_from(&held, held_count(h))
+    octets::bits::clear_from(&h.state, chain::sizes::state_bits(h.variant))
+        && octets::bits::clear_from(&h.held, held_count(h))
 }

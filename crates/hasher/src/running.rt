@@ -4,30 +4,41 @@ ghost use Rattle.standard.specs.Bits.{high_first, bits_in};
 ghost use Rattle.standard.specs.Messages.{message_bits, bytes, partial, given_bits};
 ghost use Rattle.standard.specs.Variants.{known};
 ghost use Rattle.standard.specs.Layout.{clear};
-ghost use Rattle.answers.specs.declared.Status.TheVariants.{Done};
+ghost use Rattle.answers.specs.Refusals.{Done};
 ghost use Rattle.answers.specs.Checks.{first_refusal};
 ghost use Rattle.answers.specs.Outputs.{max_bits};
 ghost use Rattle.chain.specs.Messages.{is_bit_number};
 ghost use Rattle.chain.specs.MessageBytes.{given, message_in};
-ghost use Rattle.hasher.specs.Running.{variant_of, whole_so_far, fresh, grown, ended, update_checks, started_over, started, updated, finished};
+ghost use Rattle.hasher.specs.Running.{variant_of, whole_so_far, blank, fresh, grown, ended, update_checks, started_over, started, updated, finished};
 ghost use Rattle.hasher.specs.ForCode.{Open};
 
 use crate::{Advanced, Hasher, checks};
-use answers::{Refusal, Status};
-use chain::blocks::Held;
+use answers::Refusal;
 use chain::message::Ending;
-use chain::{BLOCK_BYTES, STATE_BYTES, blocks, message, outcome, padding, sizes, state};
+use chain::stretch::{Held, Stretch};
+use chain::{BLOCK_BYTES, STATE_BYTES, message, outcome, padding, sizes, state};
 
-fn fresh(v: u8) -> Hasher
-    requires { known v ≡ true }
-    ensures { result ≡ fresh v }
+// A variant's number, open, and all else zero.
+fn blank(v: u8) -> Hasher
+    ensures { result ≡ blank v }
 {
     Hasher {
         total: 0,
         variant: v,
         stage: 0,
-        state: state::start(v),
+        state: [0u8; STATE_BYTES],
         held: [0u8; BLOCK_BYTES],
+    }
+}
+
+// The running hash of no bits yet.
+fn fresh(v: u8) -> Hasher
+    requires { known v ≡ true }
+    ensures { result ≡ fresh v }
+{
+    Hasher {
+        state: state::start(v),
+        ..blank(v)
     }
 }
 
@@ -37,12 +48,12 @@ pub fn started_over(h: Hasher, variant: u32) -> Advanced
 {
     if !sizes::is_known(variant) {
         return Advanced {
-            status: Status::Refused(Refusal::UnknownVariant),
+            status: Err(Refusal::UnknownVariant),
             hasher: h,
         };
     }
     Advanced {
-        status: Status::Done,
+        status: Ok(()),
         hasher: fresh(variant as u8),
     }
 }
@@ -51,43 +62,39 @@ pub fn started_over(h: Hasher, variant: u32) -> Advanced
 pub fn start(variant: u32) -> Advanced
     ensures { result ≡ started variant }
 {
-    let blank = Hasher {
-        total: 0,
-        variant: 0,
-        stage: 0,
-        state: [0u8; STATE_BYTES],
-        held: [0u8; BLOCK_BYTES],
-    };
-    started_over(blank, variant)
+    started_over(blank(0), variant)
 }
 
 // The message goes on with the piece and with the first k bits of a last byte, which has zeros after them: the whole
-// blocks of the held bits and these run through the state, and what is left is held.
+// blocks of the held bits and these run through the state, and what is left is held. That the running hash is open is
+// asked for in a clause here and in two functions below: a struct would be made and taken apart for each.
 fn grown(h: Hasher, piece: &[u8], last: u8, k: usize) -> Hasher
     requires fact { Open h }
     requires h_value { (whole_so_far h ≡ true) × (k ≤ 8) × (h.total + (8 * length piece.now + k) ≤ max_bits) }
     requires last_value { clear (drop (8 * length piece.now + k) (bits_in high_first (piece.now ++ last ∷ []))) ≡ true }
     ensures { result ≡ grown h (message_in piece.now last (8 * length piece.now + k)) }
 {
-    let v = h.variant;
-    let state = h.state;
-    let bytes = h.held;
-    let r = sizes::block_bits(v) as usize;
+    let r = sizes::block_bits(h.variant) as usize;
     let c = crate::held_count(h);
     let added = 8 * piece.len() + k;
     let count = (c + added) / r;
     let left = (c + added) % r;
     // In nibbles: every block is a number of them, and so is what is held after whole bytes.
-    let held = Held {
-        bytes: bytes,
-        nibbles: c / 4,
+    // A copy, since a literal takes no array out of a field here.
+    let bytes = h.held;
+    let stretch = Stretch {
+        held: Held {
+            bytes,
+            nibbles: c / 4,
+        },
+        piece,
+        last,
     };
     Hasher {
         total: h.total + added as u32,
-        variant: v,
-        stage: h.stage,
-        state: outcome::run_blocks(v, state, held, piece, last, count),
-        held: blocks::block_at(held, piece, last, count * (r / 4), (left + 3) / 4),
+        state: outcome::run_blocks(h.variant, h.state, stretch, count),
+        held: stretch.block_at(count * (r / 4), left.div_ceil(4)),
+        ..h
     }
 }
 
@@ -99,8 +106,7 @@ fn grown_bits(h: Hasher, piece: &[u8], k: usize) -> Hasher
     ensures { result ≡ grown h (message_bits (variant_of h) piece.now k) }
 {
     let n = piece.len() - 1;
-    let b = piece[n];
-    let last = message::counted_byte(h.variant, b, k);
+    let last = message::counted_byte(h.variant, piece[n], k);
     grown(h, &piece[..n], last, k)
 }
 
@@ -119,17 +125,12 @@ fn grown_by(h: Hasher, piece: &[u8], ending: Ending) -> Hasher
 pub fn update_with(h: Hasher, piece: &[u8], ending: Ending) -> Advanced
     ensures { result ≡ updated h (given piece.now ending) }
 {
-    let s = checks::check_update(h, piece, ending);
-    let Status::Done = s else {
-        return Advanced {
-            status: s,
-            hasher: h,
-        };
+    let status = checks::check_update(h, piece, ending);
+    let hasher = match status {
+        Ok(()) => grown_by(h, piece, ending),
+        Err(_) => h,
     };
-    Advanced {
-        status: Status::Done,
-        hasher: grown_by(h, piece, ending),
-    }
+    Advanced { status, hasher }
 }
 
 // A piece all of whose bits count: refusals 2, 3, 16, 4.
@@ -151,23 +152,25 @@ fn ended(h: Hasher) -> Hasher
     requires { Open h }
     ensures { result ≡ ended h }
 {
-    let v = h.variant;
-    let state = h.state;
-    let bytes = h.held;
     let c = crate::held_count(h);
-    let last = padding::last_byte(bytes, c);
-    let count = padding::data_blocks(v, c);
-    let held = Held {
-        bytes: bytes,
-        nibbles: 2 * (c / 8),
+    let last = padding::last_byte(h.held, c);
+    let count = padding::data_blocks(h.variant, c);
+    // A copy, since a literal takes no array out of a field here.
+    let bytes = h.held;
+    let stretch = Stretch {
+        held: Held {
+            bytes,
+            nibbles: 2 * (c / 8),
+        },
+        piece: b"",
+        last,
     };
-    let padded = outcome::run_blocks(v, state, held, b"", last, count);
+    let padded = outcome::run_blocks(h.variant, h.state, stretch, count);
     Hasher {
-        total: h.total,
-        variant: v,
         stage: 1,
-        state: padding::ended(v, padded, h.total),
+        state: padding::ended(h.variant, padded, h.total),
         held: [0u8; BLOCK_BYTES],
+        ..h
     }
 }
 
@@ -175,15 +178,10 @@ fn ended(h: Hasher) -> Hasher
 pub fn finish(h: Hasher) -> Advanced
     ensures { result ≡ finished h }
 {
-    let s = checks::check_open(h);
-    let Status::Done = s else {
-        return Advanced {
-            status: s,
-            hasher: h,
-        };
+    let status = checks::check_open(h);
+    let hasher = match status {
+        Ok(()) => ended(h),
+        Err(_) => h,
     };
-    Advanced {
-        status: Status::Done,
-        hasher: ended(h),
-    }
+    Advanced { status, hasher }
 }

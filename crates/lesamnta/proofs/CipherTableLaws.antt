@@ -3,7 +3,7 @@
 use mathlib.Core.Path.{◌≡◌, sym, ap, ap₂, ◌∙◌}
 use mathlib.Core.List.{List, [], ◌∷◌, ◌++◌}
 use Prim.Native.Nat.{ℕ, ◌+◌, ◌-◌, ◌*◌, ◌/◌, ◌%◌, ◌^◌, ◌<◌}
-use native.Mathlib.Nat.{not-suc-le-zero, mod-lt, zero-add, div-one}
+use native.Mathlib.Nat.{mod-lt, zero-add, div-one}
 use native.Mathlib.Omega.{arith}
 use lib.Bits.{bit_xor, xor_block, xor_mod, xor_zero_r, xor_lt}
 use lib.ListN.{get_or}
@@ -15,8 +15,7 @@ use Rattle.standard.proofs.Xor.{xor_assoc}
 use Rattle.standard.proofs.Tab.{length-tab, get_d-tab}
 use Rattle.standard.proofs.FieldLaws.{mul-lt}
 use Rattle.standard.proofs.Tests.{same-below, bound-below}
-use Rattle.octets.proofs.Upto.{Upto}
-use Rattle.lesamnta.specs.CipherTables.{boxed_byte, BoxTable, ConstantTable, cipher_table_size, CipherTable}
+use Rattle.lesamnta.specs.CipherTables.{boxed_byte, BoxTable, ConstantTable, CipherTable}
 
 -- ---- the tables
 
@@ -26,13 +25,6 @@ box-table = record { size = length-tab 256 (boxed_byte 0); entry = λ x h. get_d
 
 pub constant-table : ConstantTable (tab 64 generated)
 constant-table = record { size = length-tab 64 generated; entry = λ r h. get_d-tab 64 generated r 0 h }
-
--- the first i entries are written
-abbrev pub Boxed : ℕ → List ℕ → List ℕ → Type 0
-Boxed i xs ys = Upto 0 (λ x y. y ≡ boxed_byte 0 x * (2 ^ 32 + 1)) cipher_table_size i xs ys
-
-pub boxed-all : (xs ys : List ℕ) → Boxed 256 xs ys → CipherTable 0 ys
-boxed-all xs ys u = record { size = u.len; box = u.done; constant = λ r h. absurd (not-suc-le-zero h) }
 
 -- ---- what a byte gives
 

@@ -1,11 +1,15 @@
 -- Words of 64 bits in bytes and back, and in halves; and from them the step of the chain and the cipher.
 -- Assumes nothing.
-use mathlib.Core.Path.{◌≡◌, refl, sym, ap, ap₂, ◌∙◌}
+use mathlib.Core.Path.{◌≡◌, refl, sym, ap, ap₂, ◌∙◌, subst}
 use mathlib.Core.Bool.{Bool}
 use mathlib.Core.List.{List, [], ◌∷◌, ◌++◌, foldl, flat_map, map, append_assoc, append-nil}
 use mathlib.Core.Logic.{⊎_elim}
+use Rattle.std.specs.Int.{w64, from_be_bytes}
+use Rattle.standard.specs.Grid.{tab}
+use Rattle.standard.proofs.Tab.{tab-self}
+use Rattle.octets.proofs.ByteLaws.{take-bytes, drop-bytes}
 use Prim.Native.Nat.{ℕ, zero, suc, ◌+◌, ◌-◌, ◌*◌, ◌/◌, ◌%◌, ◌^◌, ◌≤◌, ◌<◌}
-use native.Mathlib.Nat.{mod-lt, pow-suc, zero-add, not-suc-le-zero}
+use native.Mathlib.Nat.{mod-lt, pow-suc, not-suc-le-zero}
 use native.Mathlib.Numerals.{add-one}
 use native.Mathlib.Omega.{arith}
 use lib.Arith.{digits_div, digits_mod}
@@ -50,53 +54,25 @@ word-bits bs h =
     let size : 0 + 8 * length bs ≡ 8 * length bs = omega arith in
     ap (λ (k : ℕ). bits_of high_first k (word_of bs)) (sym size) ∙ word-bits-from bs h 0 0
 
--- the four bytes from a place on, and the word that they make
-module _ (bytes : List ℕ) (at : ℕ) (room : at + 4 ≤ length bytes) where
-  next : (k : ℕ) → k < length bytes → drop k bytes ≡ get_or bytes k 0 ∷ drop (k + 1) bytes
-  next k l = drop-cons bytes k 0 l ∙ ap (λ (n : ℕ). get_or bytes k 0 ∷ drop n bytes) (sym (add-one k))
+-- the library's word of eight bytes is that of their bits
+be_word : (f : ℕ → ℕ) → from_be_bytes w64 (tab 8 f) ≡ word_of (tab 8 f)
+be_word f = omega arith
 
-  four_are : take 4 (drop at bytes) ≡ get_or bytes at 0 ∷ get_or bytes (at + 1) 0 ∷ get_or bytes (at + 2) 0 ∷ get_or bytes (at + 3) 0 ∷ []
-  four_are =
-      let e2 : at + 1 + 1 ≡ at + 2 = omega arith in
-      let e3 : at + 2 + 1 ≡ at + 3 = omega arith in
-      rw (next at (omega arith), next (at + 1) (omega arith), e2, next (at + 2) (omega arith), e3, next (at + 3) (omega arith))
-
-  pub read-half : (a b c d : ℕ) → a ≡ get_or bytes at 0 → b ≡ get_or bytes (at + 1) 0 → c ≡ get_or bytes (at + 2) 0 → d ≡ get_or bytes (at + 3) 0
-      → a < 256 → b < 256 → c < 256 → d < 256 → ((a * 256 + b) * 256 + c) * 256 + d ≡ value_of high_first (take 32 (drop (8 * at) (bits_in high_first bytes)))
-  read-half a b c d ea eb ec ed la lb lc ld =
-      let n : ℕ = ((a * 256 + b) * 256 + c) * 256 + d in
-      let are : a ∷ b ∷ c ∷ d ∷ [] ≡ take 4 (drop at bytes) = rw (ea, eb, ec, ed) (sym four_are) in
-      sym (value_of-bits_of high_first 32 n (omega arith))
-      ∙ ap (λ (m : ℕ). value_of high_first (bits_of high_first 32 (((m * 256 + b) * 256 + c) * 256 + d))) (sym (zero-add a))
-      ∙ ap (value_of high_first)
-      (word-bits (a ∷ b ∷ c ∷ d ∷ []) small ∙ ap (bits_in high_first) are ∙ sym (bits_in-take high_first 4 (drop at bytes)) ∙ ap (take 32) (sym (bits_in-drop high_first at bytes)))
-    where
-      small : (i : ℕ) → get_or (a ∷ b ∷ c ∷ d ∷ []) i 0 < 256
-      small zero = la
-      small (suc zero) = lb
-      small (suc (suc zero)) = lc
-      small (suc (suc (suc zero))) = ld
-      small (suc (suc (suc (suc i)))) = omega arith
-
--- two halves of 32 bits, one after the other
-pub read_word : (bits : List Bool) (at a b : ℕ) → 8 * at + 64 ≤ length bits
-    → a ≡ value_of high_first (take 32 (drop (8 * at) bits)) → b ≡ value_of high_first (take 32 (drop (8 * (at + 4)) bits))
-    → a < 2 ^ 32 → b < 2 ^ 32 → a * 0x100000000 + b ≡ value_of high_first (take 64 (drop (8 * at) bits))
-read_word bits at a b room ea eb la lb =
-    let x : List Bool = take 32 (drop (8 * at) bits) in
-    let y : List Bool = take 32 (drop (8 * (at + 4)) bits) in
-    let place : 8 * (at + 4) ≡ 8 * at + 32 = omega arith in
-    let lx : length x ≡ 32 = length-take-le 32 (drop (8 * at) bits) (omega (arith, length-drop (8 * at) bits)) in
-    let ly : length y ≡ 32 = length-take-le 32 (drop (8 * (at + 4)) bits) (omega (arith, length-drop (8 * (at + 4)) bits)) in
-    let bx : bits_of high_first 32 a ≡ x = ap (bits_of high_first 32) ea ∙ bits_of-value_of high_first 32 x lx in
-    let by : bits_of high_first 32 b ≡ y = ap (bits_of high_first 32) eb ∙ bits_of-value_of high_first 32 y ly in
-    let high : (a * 0x100000000 + b) / 2 ^ 32 ≡ a = digits_div a lb in
-    let low : bits_of high_first 32 (a * 0x100000000 + b) ≡ bits_of high_first 32 b = sym (bits-mod high_first 32 (a * 0x100000000 + b)) ∙ ap (bits_of high_first 32) (digits_mod a lb) in
-    sym (value_of-bits_of high_first 64 (a * 0x100000000 + b) (omega arith))
-    ∙ ap (value_of high_first)
-    (high-split 32 32 (a * 0x100000000 + b)
-    ∙ ap₂ (λ (p q : List Bool). p ++ q) (ap (bits_of high_first 32) high ∙ bx) (low ∙ by ∙ ap (λ (n : ℕ). take 32 (drop n bits)) place ∙ ap (take 32) (sym (drop-drop 32 (8 * at) bits)))
-    ∙ sym (take-add 32 32 (drop (8 * at) bits)))
+-- the word of the eight bytes from a place on
+pub read_word : (bytes word : List ℕ) (at : ℕ) → at + 8 ≤ length bytes → ((i : ℕ) → get_or bytes i 0 < 256) → word ≡ take 8 (drop at bytes)
+    → from_be_bytes w64 word ≡ value_of high_first (take 64 (drop (8 * at) (bits_in high_first bytes)))
+read_word bytes word at room small e =
+    let size : length word ≡ 8 = ap length e ∙ length-take-le 8 (drop at bytes) (omega (arith, length-drop at bytes)) in
+    let self : tab 8 (λ k. get_or word k 0) ≡ word = tab-self 8 word 0 size in
+    let bytes-small : (i : ℕ) → get_or word i 0 < 256 = λ i. rw e (take-bytes 8 (drop at bytes) (drop-bytes at bytes small) i) in
+    let bits : bits_of high_first 64 (word_of word) ≡ take 64 (drop (8 * at) (bits_in high_first bytes)) =
+    ap (λ (n : ℕ). bits_of high_first (8 * n) (word_of word)) (sym size) ∙ word-bits word bytes-small ∙ ap (bits_in high_first) e
+    ∙ sym (bits_in-take high_first 8 (drop at bytes)) ∙ ap (take 64) (sym (bits_in-drop high_first at bytes)) in
+    let fits : word_of (tab 8 (λ k. get_or word k 0)) < 2 ^ 64 =
+    omega (arith, bytes-small 0, bytes-small 1, bytes-small 2, bytes-small 3, bytes-small 4, bytes-small 5, bytes-small 6, bytes-small 7) in
+    subst (λ (l : List ℕ). from_be_bytes w64 l ≡ word_of l) self (be_word (λ k. get_or word k 0))
+    ∙ sym (value_of-bits_of high_first 64 (word_of word) (subst (λ (l : List ℕ). word_of l < 2 ^ 64) self fits))
+    ∙ ap (value_of high_first) bits
 
 -- ---- a word in bytes
 

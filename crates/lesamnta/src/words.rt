@@ -1,5 +1,5 @@
 // Lesamnta-LW by look-ups, on words: the rounds of its block cipher (6.2.5), the state in words, and the block step.
-ghost use Rattle.std.specs.Prelude.{◌≡◌, ◌++◌, ◌+◌, ◌*◌, ◌/◌, ◌%◌, ◌^◌, ◌≤◌, ◌<◌, length, take, drop};
+ghost use Rattle.std.specs.Prelude.{◌≡◌, ◌++◌, ℕ, ◌+◌, ◌*◌, ◌/◌, ◌%◌, ◌^◌, ◌≤◌, ◌<◌, length, get_or, take, drop};
 ghost use Rattle.standard.specs.Bits.{high_first, bits_of, value_of, bits_in, pack};
 ghost use Rattle.standard.specs.Rounds.{rounds};
 ghost use Rattle.standard.specs.declared.Direction.TheVariants.{Forward, Backward};
@@ -12,33 +12,20 @@ ghost use Rattle.lesamnta.specs.CipherTables.{BoxTable, ConstantTable, cipher_ta
 ghost use Rattle.lesamnta.specs.Words.{state_of_four};
 
 use crate::tables::{BOXES, CONSTANTS};
-use octets::widen;
 
 // The words of the table that the rounds look up: 256 for bytes, and a constant for each of 64 rounds.
 pub const TABLE_WORDS: usize = 320;
 
 // ---- the table
 
-// An entry twice in a word, so that a turn by whole bytes is a shift.
-fn put_boxes(out: &mut [u64], boxes: &[u32; 256])
-    requires { (length out.old ≡ cipher_table_size) × BoxTable boxes.now }
-    ensures { CipherTable 0 out.new }
+// Numbers times a factor, from a place on.
+fn put(out: &mut [u64], at: usize, numbers: &[u32], factor: u64)
+    requires { (at + length numbers.now ≤ length out.old) × (factor ≤ 2 ^ 32 + 1) }
+    ensures written { (k : ℕ) → k < length numbers.now → get_or out.new (at + k) 0 ≡ get_or numbers.now k 0 * factor }
+    ensures before { (k : ℕ) → k < at → get_or out.new k 0 ≡ get_or out.old k 0 }
 {
-    let mut i: usize = 0;
-    while i < 256 {
-        out[i] = widen::u32_to_u64(boxes[i]) * 0x100000001;
-        i += 1;
-    }
-}
-
-fn put_constants(out: &mut [u64], constants: &[u32; 64])
-    requires { CipherTable 0 out.old × ConstantTable constants.now }
-    ensures { CipherTable 64 out.new }
-{
-    let mut r: usize = 0;
-    while r < 64 {
-        out[256 + r] = widen::u32_to_u64(constants[r]);
-        r += 1;
+    for (k, number) in numbers.iter().enumerate() {
+        out[at + k] = u64::from(*number) * factor;
     }
 }
 
@@ -47,8 +34,9 @@ pub fn fill_table(out: &mut [u64])
     requires { length out.old ≡ cipher_table_size }
     ensures { CipherTable 64 out.new }
 {
-    put_boxes(out, &BOXES);
-    put_constants(out, &CONSTANTS);
+    // An entry twice in a word, so that a turn by whole bytes is a shift.
+    put(out, 0, &BOXES, 0x100000001);
+    put(out, 256, &CONSTANTS, 1);
 }
 
 // ---- the round function
@@ -92,7 +80,7 @@ fn round(x: [u64; 4], key: u64, table: &[u64]) -> [u64; 4]
     [x[3] ^ word_g(x[2], key, table), x[0], x[1], x[2]]
 }
 
-// That round taken back.
+// That round taken back: a function of its own, since each way is one expression, and they share no part but `word_g`.
 fn round_back(x: [u64; 4], key: u64, table: &[u64]) -> [u64; 4]
     requires { CipherTable 64 table.now }
     ensures { result ≡ mixing Backward x key }
@@ -122,13 +110,11 @@ pub fn enciphered(x: [u64; 4], key: [u64; 4], table: &[u64]) -> [u64; 4]
 {
     let mut words = x;
     let mut schedule = key;
-    let mut r: usize = 0;
-    while r < 64 {
+    for r in 0..64 {
         let next_words = round(words, schedule[0], table);
         let next_schedule = schedule_round(schedule, table[256 + r], table);
         words = next_words;
         schedule = next_schedule;
-        r += 1;
     }
     words
 }
@@ -140,12 +126,10 @@ pub fn round_keys(key: [u64; 4], table: &[u64]) -> [u64; 64]
 {
     let mut out = [0u64; 64];
     let mut schedule = key;
-    let mut r: usize = 0;
-    while r < 64 {
+    for r in 0..64 {
         out[r] = schedule[0];
         let next_schedule = schedule_round(schedule, table[256 + r], table);
         schedule = next_schedule;
-        r += 1;
     }
     out
 }
@@ -156,36 +140,23 @@ pub fn deciphered(x: [u64; 4], keys: [u64; 64], table: &[u64]) -> [u64; 4]
     ensures { result ≡ rounds mixing Backward keys x }
 {
     let mut words = x;
-    let mut i: usize = 0;
-    while i < 64 {
-        let before = round_back(words, keys[63 - i], table);
+    for r in (0..64).rev() {
+        let before = round_back(words, keys[r], table);
         words = before;
-        i += 1;
     }
     words
 }
 
 // ---- words and bytes
 
-// The word of four bytes, the first the highest.
-fn u32_at(bytes: &[u8], at: usize) -> u64
-    requires { at + 4 ≤ length bytes.now }
-    ensures { (result ≡ value_of high_first (take 32 (drop (8 * at) (bits_in high_first bytes.now))))
-        × (result < 2 ^ 32) }
-{
-    let first = widen::u8_to_u64(bytes[at]);
-    let second = widen::u8_to_u64(bytes[at + 1]);
-    let third = widen::u8_to_u64(bytes[at + 2]);
-    let fourth = widen::u8_to_u64(bytes[at + 3]);
-    ((first * 256 + second) * 256 + third) * 256 + fourth
-}
-
-// The word of eight bytes.
+// The word of eight bytes, the first the highest.
 fn u64_at(bytes: &[u8], at: usize) -> u64
     requires { at + 8 ≤ length bytes.now }
     ensures { result ≡ value_of high_first (take 64 (drop (8 * at) (bits_in high_first bytes.now))) }
 {
-    u32_at(bytes, at) * 0x100000000 + u32_at(bytes, at + 4)
+    let mut word = [0u8; 8];
+    word.copy_from_slice(&bytes[at..at + 8]);
+    u64::from_be_bytes(word)
 }
 
 // Two words as four of half the size.
@@ -221,10 +192,8 @@ pub fn put_state(out: &mut [u8], x: [u64; 4])
     requires { 32 ≤ length out.old }
     ensures { out.new ≡ pack high_first 32 (bits_of_words 64 x) ++ drop 32 out.old }
 {
-    let mut i: usize = 0;
-    while i < 32 {
+    for i in 0..32 {
         out[i] = ((x[i / 8] >> (56 - 8 * (i % 8))) % 256) as u8;
-        i += 1;
     }
 }
 
@@ -248,12 +217,12 @@ pub fn image(w: &[u64; 8]) -> [u8; 36]
 // ---- the block step
 
 // The state after a block, 16 bytes from `at` on: the state's first half is the key, the block and the second half are
-// what is enciphered. The words are passed by value, which tells that there are eight.
-fn stepped(w: [u64; 8], bytes: &[u8], at: usize, table: &[u64]) -> [u64; 8]
+// what is enciphered.
+fn take_block(w: &mut [u64; 8], bytes: &[u8], at: usize, table: &[u64])
     requires at_in_bounds { at + 16 ≤ length bytes.now }
     requires cipher_table { CipherTable 64 table.now }
-    ensures { state_of_four result
-        ≡ lesamnta_step (state_of_four w) (take 128 (drop (8 * at) (bits_in high_first bytes.now))) }
+    ensures { state_of_four w.new
+        ≡ lesamnta_step (state_of_four w.old) (take 128 (drop (8 * at) (bits_in high_first bytes.now))) }
 {
     let key = halves(w[0], w[1]);
     let x = enciphered(
@@ -261,7 +230,7 @@ fn stepped(w: [u64; 8], bytes: &[u8], at: usize, table: &[u64]) -> [u64; 8]
         key,
         table,
     );
-    [x[0], x[1], x[2], x[3], 0, 0, 0, 0]
+    *w = [x[0], x[1], x[2], x[3], 0, 0, 0, 0];
 }
 
 // The block step, for a block from the nibble m on of the bytes; it begins at a byte.
@@ -272,6 +241,5 @@ pub fn step(w: &mut [u64; 8], bytes: &[u8], m: usize, table: &[u64])
         ≡ step (variant 11) (state_of_four w.old)
         (take (variant 11).r (drop (4 * m) (bits_in high_first bytes.now))) }
 {
-    let next = stepped(*w, bytes, m / 2, table);
-    *w = next;
+    take_block(w, bytes, m / 2, table);
 }

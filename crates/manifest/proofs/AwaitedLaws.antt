@@ -1,30 +1,35 @@
--- The axes that a report awaits at its beginning, as the code sets them.
+-- The axes that a report awaits at its beginning, as the code makes them: an array whose elements a closure gives.
 -- Assumes nothing.
-use mathlib.Core.Path.{◌≡◌, sym, ap, ◌∙◌}
+use mathlib.Core.Path.{◌≡◌, sym, subst, ◌∙◌}
+use mathlib.Core.Bool.{Bool, false}
 use mathlib.Core.List.{List}
-use mathlib.Core.Logic.{⊎_elim}
-use Prim.Native.Nat.{ℕ}
+use Prim.Native.Nat.{ℕ, zero, suc, ◌+◌, ◌<◌}
 use native.Mathlib.Omega.{arith}
-use lib.Dec.{ltb}
-use lib.ListN.{get_or, replicate, get_or-replicate}
-use borrow.Author.Tests.{lt-ltb, le-ltb}
-use Rattle.octets.proofs.Upto.{Upto}
-use Rattle.standard.specs.Bits.{digit}
+use lib.ListN.{get_or}
+use denote.Param.Members.{Mut}
+use Rattle.std.specs.Array.{IsFromFnResult, IsFromFnResultFrom}
+use Rattle.std.specs.Fn.{Called}
+use Rattle.standard.specs.Grid.{tab}
 use Rattle.standard.proofs.Tab.{tab-self, tab-cong}
-use Rattle.standard.proofs.Tests.{lt-or-le}
-use Rattle.manifest.specs.Records.{record_count}
-use Rattle.manifest.specs.Progress.{awaited_all}
 
--- after k records
-abbrev pub Awaited : ℕ → List ℕ → Type 0
-Awaited k out = Upto 0 (λ j y. y ≡ 1) 512 k (replicate 512 0) out
+-- a closure that keeps what it captures, and whose answer at each number is h of it
+module _ {F : Type 0} (g : Mut F (ℕ × Unit {0}) Bool) (f : F) (h : ℕ → Bool)
+    (answers : (i : ℕ) (y : Bool) (q : F) → Called g f (i, tt) y q → (q ≡ f) × (y ≡ h i)) where
+  -- the n elements from i on
+  made_from : (ys : List Bool) (n i : ℕ) → IsFromFnResultFrom g f ys i n → (k : ℕ) (d : Bool) → k < n → get_or ys (i + k) d ≡ h (i + k)
+  made_from ys zero i made k d l = absurd (omega arith)
+  made_from ys (suc n) i made zero d l =
+      let same : i + 0 ≡ i = omega arith in
+      let now = answers i made.1 made.0 made.3 in
+      rw same (made.2.1 d ∙ now.1)
+  made_from ys (suc n) i made (suc k) d l =
+      let same : i + suc k ≡ i + 1 + k = omega arith in
+      let now = answers i made.1 made.0 made.3 in
+      rw same (made_from ys n (i + 1) (subst (λ (q : F). IsFromFnResultFrom g q ys (i + 1) n) now.0 made.4) k d (omega arith))
 
-pub all-awaited : (manifest : List ℕ) (n : ℕ) → n ≡ record_count manifest → (out : List ℕ) → Awaited n out → out ≡ awaited_all manifest
-unfolding awaited_all
-all-awaited manifest n e out u =
-    sym (tab-self 512 out 0 u.len)
-    ∙ tab-cong 512 (λ k. get_or out k 0) (λ k. digit (ltb k (record_count manifest)))
-    (λ k h. ⊎_elim
-    (λ l. u.done k (omega arith) ∙ ap digit (sym (lt-ltb k (record_count manifest) l)))
-    (λ l. u.rest k (omega arith) ∙ get_or-replicate 512 k 0 0 h ∙ ap digit (sym (le-ltb k (record_count manifest) l)))
-    (lt-or-le k (record_count manifest)))
+  -- the array is the table of h
+  pub made-tab : (ys : List Bool) (n : ℕ) → IsFromFnResult g f ys n → ys ≡ tab n h
+  made-tab ys n made =
+      sym (tab-self n ys false made.long)
+      ∙ tab-cong n (λ k. get_or ys k false) h
+      (λ k l. let same : 0 + k ≡ k = omega arith in subst (λ (i : ℕ). get_or ys i false ≡ h i) same (made_from ys n 0 made.each k false l))

@@ -20,10 +20,9 @@ use Rattle.manifest.specs.Installations.{Expected, axis_numbers, all_axes, is_th
 use Rattle.manifest.specs.Tables.{Table}
 use Rattle.manifest.specs.Counts.{is_told, untold}
 use Rattle.manifest.specs.Lookups.{record_for, is_listed}
-use Rattle.manifest.specs.Places.{Place}
 use Rattle.manifest.proofs.Counting.{and_yes, count_below, count-below, count-suc, count_same}
 use Rattle.manifest.proofs.RecordLaws.{first_found, first-none}
-use Rattle.manifest.proofs.OrderLaws.{Rising, record-listed, listed-record, others-from}
+use Rattle.manifest.proofs.OrderLaws.{Rising, record-listed, listed-record, Place, others-from}
 use Rattle.manifest.proofs.RecordBytes.{axis-below}
 
 -- what is held of an axis: what its record says, or nothing

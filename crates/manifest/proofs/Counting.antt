@@ -10,6 +10,7 @@ use native.Mathlib.Nat.{eq-or-lt_of_le}
 use native.Mathlib.Omega.{arith}
 use lib.Dec.{eqb, ltb}
 use lib.ListN.{length}
+use mir.Val.{bool_byte}
 use borrow.Author.Tests.{lt-ltb, le-ltb, eq-eqb, ne_eqb}
 use Rattle.standard.specs.Bits.{digit}
 use Rattle.standard.specs.Grid.{tab}
@@ -40,6 +41,11 @@ digit_split false b = refl
 pub digit-one : (b : Bool) → digit b ≤ 1
 digit-one true = omega arith
 digit-one false = omega arith
+
+-- what the code adds for a condition
+pub byte-digit : (b : Bool) → bool_byte b ≡ digit b
+byte-digit true = refl
+byte-digit false = refl
 
 -- one more if a condition holds
 pub add-digit : (b : Bool) (n : ℕ) → cond b (suc n) n ≡ digit b + n

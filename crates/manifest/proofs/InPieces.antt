@@ -11,7 +11,7 @@ use lib.Dec.{ltb}
 use lib.ListN.{length, take, drop, length-append}
 use lib.Seq.{take-take}
 use borrow.Author.Tests.{lt-ltb}
-use Rattle.answers.specs.declared.Status.TheVariants.{Done}
+use Rattle.answers.specs.Refusals.{Done}
 use Rattle.octets.specs.Numbers.{big_endian}
 use Rattle.answers.proofs.Statuses.{kept}
 use Rattle.standard.specs.Grid.{tab}

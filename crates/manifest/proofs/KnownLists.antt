@@ -12,7 +12,7 @@ use lib.Dec.{eqb}
 use lib.ListN.{get_or, replicate, get_or-eq_default}
 use borrow.Author.Tests.{eqb-true, eqb-false}
 use Rattle.answers.specs.declared.Refusal.TheVariants.{BadRecord, NotRising}
-use Rattle.answers.specs.declared.Status.TheVariants.{Done, Refused}
+use Rattle.answers.specs.Refusals.{Done, Refused}
 use Rattle.octets.specs.Numbers.{Bytes, big_endian, in_bytes}
 use Rattle.standard.specs.Variants.{variant}
 use Rattle.standard.proofs.Tests.{either, lt-or-le, bound-below}

@@ -2,6 +2,7 @@
 pub mod Counting
 pub mod RecordLaws
 pub mod OrderLaws
+pub mod SearchLaws
 pub mod RecordBytes
 pub mod AxisLaws
 pub mod ListWritten

@@ -10,7 +10,7 @@ use native.Mathlib.Nat.{eq-or-lt_of_le, le_of_suc-le-suc, not-suc-le-zero}
 use native.Mathlib.Omega.{arith}
 use lib.ListN.{length, length-append}
 use borrow.Author.Tests.{eq-eqb, le-leb}
-use Rattle.answers.specs.declared.Status.TheVariants.{Done}
+use Rattle.answers.specs.Refusals.{Done}
 use Rattle.octets.specs.Numbers.{Bytes}
 use Rattle.octets.proofs.ByteLaws.{append-bytes}
 use Rattle.answers.proofs.Rows.{passed-all, each-done}

@@ -13,16 +13,15 @@ use lib.Dec.{eqb, leb}
 use lib.ListN.{length, take}
 use lib.Seq.{take-add, take_all}
 use borrow.Author.Tests.{eqb-true}
-use Rattle.answers.specs.declared.Status.TheVariants.{Done}
+use Rattle.answers.specs.Refusals.{Done}
 use Rattle.octets.specs.Numbers.{Bytes}
 use Rattle.standard.proofs.Tests.{and-true, either, lt-or-le}
 use Rattle.manifest.specs.Records.{is_manifest, record_count, axis_at, manifest_status}
 use Rattle.manifest.specs.Installations.{Expected, axis_numbers, all_axes, axis_count, IsSound, IsInstallation, record_of, record_if, list_below, list_of, expected_at, held}
 use Rattle.manifest.specs.Lookups.{record_for, is_listed}
-use Rattle.manifest.specs.Places.{Place}
 use Rattle.manifest.specs.Promises.{PassesExactly, OneList, OnlyList, ListOfBytes, ListOfPasses, ListOfHolds, HeldRecord, HeldNothing}
 use Rattle.manifest.proofs.RecordLaws.{manifest-few, passing-manifest, none-listed}
-use Rattle.manifest.proofs.OrderLaws.{Rising, passed-record, passing-rises, record-none, record-only, record-listed, listed-record}
+use Rattle.manifest.proofs.OrderLaws.{Place, Rising, passed-record, passing-rises, record-none, record-only, record-listed, listed-record}
 use Rattle.manifest.proofs.AxisLaws.{held-there, held_none, place-next, place-own, place_same, place-last, listed-records}
 use Rattle.manifest.proofs.RecordBytes.{row_at, axis-below, row_written, row-sound}
 use Rattle.manifest.proofs.ListWritten.{below-bytes, list-passes, list-holds, list-none}

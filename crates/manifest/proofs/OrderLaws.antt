@@ -1,4 +1,4 @@
--- Manifests whose axis numbers rise: an axis has one record or none, and bisection finds it.
+-- Manifests whose axis numbers rise: an axis has one record or none.
 -- Assumes nothing.
 use mathlib.Core.Path.{◌≡◌, refl, sym, ap, subst, ◌∙◌}
 use mathlib.Core.Bool.{true}
@@ -10,7 +10,7 @@ use native.Mathlib.Omega.{arith}
 use lib.Dec.{eqb, ltb}
 use borrow.Author.Tests.{eqb-true, eqb-false, eq-eqb, ne_eqb, ltb-true, lt-ltb}
 use Rattle.answers.specs.declared.Refusal.TheVariants.{BadManifest}
-use Rattle.answers.specs.declared.Status.TheVariants.{Done}
+use Rattle.answers.specs.Refusals.{Done}
 use Rattle.answers.specs.Checks.{unless, each}
 use Rattle.answers.proofs.Rows.{passing-says, row-both, done-each}
 use Rattle.standard.specs.Variants.{known}
@@ -18,7 +18,6 @@ use Rattle.standard.proofs.Tests.{and-true, either, lt-or-le}
 use Rattle.manifest.specs.Records.{is_manifest, record_count, axis_at, variant_at, filler_at, rises_at, record_checks, manifest_status}
 use Rattle.octets.specs.Slices.{zeros}
 use Rattle.manifest.specs.Lookups.{every_below, is_ordered, record_for, is_listed}
-use Rattle.manifest.specs.Places.{Place}
 use Rattle.manifest.proofs.RecordLaws.{passing-manifest, every_below-at, every_below-all, least_at, least-none, least-holds, least_first}
 
 -- ---- rising numbers
@@ -132,33 +131,41 @@ listed-record manifest axis e =
     let h = ltb-true (record_for manifest axis) (record_count manifest) e in
     (h, record-axis manifest axis h)
 
--- ---- bisection
+-- ---- the place of an axis
 
-module _ (manifest : List ℕ) (axis : ℕ) (rising : Rising manifest) where
-  -- with the record in the middle every one before it is lower
-  pub lower-to : (m : ℕ) → m < record_count manifest → axis_at manifest m < axis → (j : ℕ) → j < m + 1 → axis_at manifest j < axis
-  lower-to m h l j i =
-      ⊎_elim
-      (λ (e : j < m). omega (arith, rising j m e h))
-      (λ (e : m ≤ j). let q : j ≡ m = omega arith in subst (λ (k : ℕ). axis_at manifest k < axis) (sym q) l)
-      (lt-or-le j m)
+-- the one at which it stands, or would stand: every record before k has a lower number, and none from k on
+pub record Place (manifest : List ℕ) (axis k : ℕ) : Type 0 where
+  pub within : k ≤ record_count manifest
+  pub lower : (j : ℕ) → j < k → axis_at manifest j < axis
+  pub others : (j : ℕ) → k ≤ j → j < record_count manifest → axis ≤ axis_at manifest j
 
-  -- or none after it
-  pub others-from : (m : ℕ) → axis ≤ axis_at manifest m → (j : ℕ) → m ≤ j → j < record_count manifest → axis ≤ axis_at manifest j
-  others-from m l j i h =
-      ⊎_elim
-      (λ (e : m ≡ j). subst (λ (k : ℕ). axis ≤ axis_at manifest k) e l)
-      (λ (e : m < j). omega (arith, rising m j e h))
-      (eq-or-lt_of_le i)
+-- with a record that has no lower number, none after it has
+pub others-from : (manifest : List ℕ) (axis : ℕ) → Rising manifest → (m : ℕ) → axis ≤ axis_at manifest m → (j : ℕ) → m ≤ j → j < record_count manifest
+    → axis ≤ axis_at manifest j
+others-from manifest axis rising m l j i h =
+    ⊎_elim
+    (λ (e : m ≡ j). subst (λ (k : ℕ). axis ≤ axis_at manifest k) e l)
+    (λ (e : m < j). omega (arith, rising m j e h))
+    (eq-or-lt_of_le i)
 
-  -- if the record at the axis's place has a different number, the axis has none
-  pub place_none : (k : ℕ) → Place manifest axis k → (k < record_count manifest → axis_at manifest k ≡ axis → ⊥) → record_for manifest axis ≡ record_count manifest
-  place_none k p n =
-      record-none manifest axis
-      (λ j h e. ⊎_elim
-      (λ (l : j < k). omega (arith, p.lower j l))
-      (λ (l : k ≤ j). ⊎_elim
-      (λ (q : k ≡ j). n (omega arith) (ap (axis_at manifest) q ∙ e))
-      (λ (q : k < j). omega (arith, rising k j q h, p.others k (omega arith) (omega arith)))
-      (eq-or-lt_of_le l))
-      (lt-or-le j k))
+-- with a record that has a lower number, every one before it has one too
+pub lower-to : (manifest : List ℕ) (axis : ℕ) → Rising manifest → (m : ℕ) → m < record_count manifest → axis_at manifest m < axis → (j : ℕ) → j < m + 1
+    → axis_at manifest j < axis
+lower-to manifest axis rising m h l j i =
+    ⊎_elim
+    (λ (e : j < m). omega (arith, rising j m e h))
+    (λ (e : m ≤ j). let q : j ≡ m = omega arith in subst (λ (k : ℕ). axis_at manifest k < axis) (sym q) l)
+    (lt-or-le j m)
+
+-- if the record at the axis's place has a different number, the axis has none
+pub place_none : (manifest : List ℕ) (axis : ℕ) → Rising manifest → (k : ℕ) → Place manifest axis k
+    → (k < record_count manifest → axis_at manifest k ≡ axis → ⊥) → record_for manifest axis ≡ record_count manifest
+place_none manifest axis rising k p n =
+    record-none manifest axis
+    (λ j h e. ⊎_elim
+    (λ (l : j < k). omega (arith, p.lower j l))
+    (λ (l : k ≤ j). ⊎_elim
+    (λ (q : k ≡ j). n (omega arith) (ap (axis_at manifest) q ∙ e))
+    (λ (q : k < j). omega (arith, rising k j q h, p.others k (omega arith) (omega arith)))
+    (eq-or-lt_of_le l))
+    (lt-or-le j k))

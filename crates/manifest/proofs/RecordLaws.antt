@@ -1,6 +1,6 @@
 -- Manifests: how many records they have, and what holds of every number below n or of the least one.
 -- Assumes nothing.
-use mathlib.Core.Path.{◌≡◌, refl, ap, ◌∙◌}
+use mathlib.Core.Path.{◌≡◌, refl, sym, ap, ap₂, ◌∙◌}
 use mathlib.Core.Bool.{Bool, true, false, ◌&&◌}
 use mathlib.Core.List.{List}
 use mathlib.Core.Logic.{⊎_elim}
@@ -8,17 +8,18 @@ use mathlib.Core.Option.{none, some, map}
 use Prim.Native.Nat.{ℕ, zero, suc, ◌+◌, ◌*◌, ◌%◌, ◌≤◌, ◌<◌}
 use native.Mathlib.Nat.{le_of_suc-le-suc, not-suc-le-zero}
 use native.Mathlib.Omega.{arith}
-use lib.Dec.{eqb, leb}
+use lib.Dec.{eqb, leb, ltb}
 use lib.ListN.{length, drop, length-drop}
 use lib.Seq.{length-take-le}
-use borrow.Author.Tests.{leb-true, lt-ltb, le-ltb}
-use Rattle.answers.specs.declared.Status.TheVariants.{Done}
+use borrow.Author.Tests.{leb-true, ltb-true, lt-ltb, le-ltb}
+use Rattle.std.proofs.Common.{Option, Some, None, IfSome}
+use Rattle.std.specs.List.{list_all, range_with_len}
+use Rattle.answers.specs.Refusals.{Done}
 use Rattle.answers.proofs.Rows.{passing-says}
 use Rattle.standard.proofs.Tests.{and-true, either}
 use Rattle.manifest.specs.Lists.{first_below}
 use Rattle.manifest.specs.Records.{is_manifest, record_count, digest_field_at, manifest_checks, manifest_status}
-use Rattle.manifest.specs.Lookups.{every_below, least_below, record_for, is_listed}
-use Rattle.manifest.proofs.Counting.{and_no}
+use Rattle.manifest.specs.Lookups.{every_below, least_below, record_for, is_listed, found_record}
 
 -- a manifest has no more than 512 records
 pub manifest-few : (manifest : List ℕ) → is_manifest manifest ≡ true → record_count manifest ≤ 512
@@ -46,10 +47,16 @@ pub every_below-all : (n : ℕ) (p : ℕ → Bool) → ((k : ℕ) → k < n → 
 every_below-all zero p h = refl
 every_below-all (suc n) p h = rw (h 0 (omega arith)) (every_below-all n (λ j. p (suc j)) (λ k l. h (suc k) (omega arith)))
 
-pub every_below-not : (n : ℕ) (p : ℕ → Bool) (k : ℕ) → k < n → p k ≡ false → every_below n p ≡ false
-every_below-not zero p k h e = absurd (omega arith)
-every_below-not (suc n) p zero h e = rw e
-every_below-not (suc n) p (suc k) h e = ap (λ (b : Bool). p 0 && b) (every_below-not n (λ j. p (suc j)) k (omega arith) e) ∙ and_no (p 0)
+-- the same of the numbers from a on as a list, which is how the code goes through them
+every_from : (n a : ℕ) (p q : ℕ → Bool) → ((k : ℕ) → p (a + k) ≡ q k) → list_all p (range_with_len a n) ≡ every_below n q
+every_from zero a p q h = refl
+every_from (suc n) a p q h =
+    let here : a ≡ a + 0 = omega arith in
+    let later : (k : ℕ) → a + 1 + k ≡ a + suc k = λ k. omega arith in
+    ap₂ ◌&&◌ (ap p here ∙ h 0) (every_from n (a + 1) p (λ k. q (suc k)) (λ k. ap p (later k) ∙ h (suc k)))
+
+pub every-listed : (n : ℕ) (p : ℕ → Bool) → list_all p (range_with_len 0 n) ≡ every_below n p
+every-listed n p = let same : (k : ℕ) → 0 + k ≡ k = λ k. omega arith in every_from n 0 p p (λ k. ap p (same k))
 
 -- the test holds of k and of none before it
 pub least_at : (n : ℕ) (p : ℕ → Bool) (k : ℕ) → k < n → ((j : ℕ) → j < k → p j ≡ false) → p k ≡ true → least_below n p ≡ k
@@ -96,7 +103,7 @@ first-none (suc n) p h =
     (λ (e : p 0 ≡ false). rw e (ap (map suc) (first-none n (λ k. p (suc k)) (le_of_suc-le-suc (rw e at h)))))
     (either (p 0))
 
--- whether there is one, as the code asks it
+-- whether there is one, as the code finds it
 module _ (manifest : List ℕ) (axis : ℕ) where
   pub found-listed : (k : ℕ) → k ≡ record_for manifest axis → k < record_count manifest → is_listed manifest axis ≡ true
   unfolding is_listed
@@ -105,3 +112,22 @@ module _ (manifest : List ℕ) (axis : ℕ) where
   pub none-listed : (k : ℕ) → k ≡ record_for manifest axis → record_count manifest ≤ k → is_listed manifest axis ≡ false
   unfolding is_listed
   none-listed k e h = rw (← e, le-ltb k (record_count manifest) h)
+
+  pub found-some : (k : ℕ) → found_record manifest axis ≡ Some k → (is_listed manifest axis ≡ true) × (k ≡ record_for manifest axis) × (k < record_count manifest)
+  unfolding found_record is_listed
+  found-some k e =
+      ⊎_elim
+      (λ (l : ltb (record_for manifest axis) (record_count manifest) ≡ true).
+      let is : k ≡ record_for manifest axis = cc (rw l at e) in
+      (l, is, omega (arith, is, ltb-true (record_for manifest axis) (record_count manifest) l)))
+      (λ (l : ltb (record_for manifest axis) (record_count manifest) ≡ false). cc (rw l at e))
+      (either (ltb (record_for manifest axis) (record_count manifest)))
+
+  pub found-none : found_record manifest axis ≡ None → is_listed manifest axis ≡ false
+  unfolding found_record
+  found-none e = ⊎_elim (λ (l : is_listed manifest axis ≡ true). cc (rw l at e)) (λ l. l) (either (is_listed manifest axis))
+
+-- and there are no more than 512
+pub found-few : (manifest : List ℕ) (axis : ℕ) (r : Option ℕ) → r ≡ found_record manifest axis → record_count manifest ≤ 512 → IfSome r (λ k. k < 512)
+found-few manifest axis None e few = tt
+found-few manifest axis (Some k) e few = omega (arith, (found-some manifest axis k (sym e)).2)

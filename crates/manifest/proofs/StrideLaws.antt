@@ -1,13 +1,12 @@
 -- A stride of the stream taken at once is its bytes taken one by one.
 -- Assumes nothing.
-use mathlib.Core.Path.{◌≡◌, refl, sym, ap, ◌∙◌}
-use mathlib.Core.Bool.{Bool, true}
-use mathlib.Core.List.{List, [], ◌∷◌, foldl, foldl-append}
+use mathlib.Core.Path.{◌≡◌, refl, ap, ap₂, ◌∙◌}
+use mathlib.Core.Bool.{Bool, true, ◌&&◌}
+use mathlib.Core.List.{List, [], ◌∷◌, ◌++◌, foldl, foldl-append}
 use mathlib.Core.Logic.{◌⊎◌, inl, inr}
-use Prim.Native.Nat.{ℕ, suc, ◌+◌, ◌-◌, ◌≤◌, ◌<◌}
+use Prim.Native.Nat.{ℕ, suc, ◌-◌, ◌≤◌, ◌<◌}
 use native.Mathlib.Omega.{arith}
-use lib.ListN.{length, get_or, take, drop, take-append-drop, length-drop}
-use lib.Seq.{length-take-le, drop-drop}
+use lib.ListN.{length, get_or}
 use borrow.Author.Tests.{lt-ltb, le-ltb, le-leb, ne_eqb}
 use Rattle.standard.proofs.Tests.{lt-or-le}
 use Rattle.hasher.specs.declared.Hasher.{Hasher}
@@ -15,20 +14,14 @@ use Rattle.hasher.specs.Pieces.{with_byte}
 use Rattle.manifest.specs.declared.tally.Tally.{Tally}
 use Rattle.manifest.specs.declared.current.Current.{Current}
 use Rattle.manifest.specs.declared.report.Report.{Report}
+use Rattle.manifest.specs.Lookups.{is_ordered}
 use Rattle.manifest.specs.Tables.{max_tables}
-use Rattle.manifest.specs.Progress.{header_byte, content_byte, table_byte, is_complete, tallied, settled, byte_taken}
+use Rattle.manifest.specs.Progress.{header_byte, content_byte, table_byte, is_complete, tallied, settled, byte_taken, piece_taken}
 use Rattle.manifest.specs.Strides.{Stride}
 
 -- the table that is being read, with so much left and this running hash
 abbrev pub further : Current → ℕ → Hasher → Current
 further c n h = record { header = c.header; got = c.got; left = n; hasher = h }
-
--- the part of a piece that the code lends
-abbrev pub part_of : List ℕ → ℕ → ℕ → List ℕ
-part_of piece i n = take (i + n - i) (drop i piece)
-
-pub part_length : (piece : List ℕ) (i n : ℕ) → i + n ≤ length piece → length (part_of piece i n) ≡ n
-part_length piece i n h = length-take-le (i + n - i) (drop i piece) (omega (arith, length-drop i piece)) ∙ omega arith
 
 -- a report of these parts
 abbrev pub report_with : Bool → Tally → Current → Report
@@ -94,10 +87,17 @@ module _ (manifest : List ℕ) where
   full-stays r h [] = refl
   full-stays r h (b ∷ part) = ap (λ (q : Report). foldl (byte_taken manifest) q part) (full-byte r h b) ∙ full-stays r h part
 
-  -- the bytes from i on: the part of n of them, then those from i + n on
-  pub stream-stepped : (r s : Report) (piece : List ℕ) (i n : ℕ) → s ≡ foldl (byte_taken manifest) r (part_of piece i n)
-      → foldl (byte_taken manifest) r (drop i piece) ≡ foldl (byte_taken manifest) s (drop (i + n) piece)
-  stream-stepped r s piece i n e =
-      let l : i + n - i ≡ n = omega arith in
-      sym (rw (e, l, ← drop-drop n i piece) (sym (foldl-append (byte_taken manifest) r (take n (drop i piece)) (drop n (drop i piece))))
-      ∙ ap (foldl (byte_taken manifest) r) (take-append-drop n (drop i piece)))
+  -- nor does a piece of no bytes
+  pub nothing-stays : (r : Report) (part : List ℕ) → length part ≡ 0 → foldl (byte_taken manifest) r part ≡ r
+  nothing-stays r [] e = refl
+  nothing-stays r (b ∷ part) e = absurd (omega arith)
+
+  -- a part of what is left, then the rest of it
+  pub stream-stepped : (r s : Report) (left part rest : List ℕ) → left ≡ part ++ rest → s ≡ foldl (byte_taken manifest) r part
+      → foldl (byte_taken manifest) r left ≡ foldl (byte_taken manifest) s rest
+  stream-stepped r s left part rest parts e = rw (parts, e) (foldl-append (byte_taken manifest) r part rest)
+
+  -- a report that takes a piece takes each byte of it
+  pub piece-read : (r : Report) (piece : List ℕ) → r.passed ≡ true → is_ordered manifest ≡ true → piece_taken manifest r piece ≡ foldl (byte_taken manifest) r piece
+  unfolding piece_taken
+  piece-read r piece p o = let read : (r.passed && is_ordered manifest) ≡ true = ap₂ ◌&&◌ p o in rw read

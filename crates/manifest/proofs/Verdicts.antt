@@ -15,8 +15,7 @@ use Rattle.standard.specs.Messages.{byte_bits, bytes}
 use Rattle.standard.specs.Variants.{variant, known}
 use Rattle.standard.proofs.Tests.{lt-or-le}
 use Rattle.standard.proofs.Variants.{bounds}
-use Rattle.answers.specs.declared.Status.{Status}
-use Rattle.answers.specs.declared.Status.TheVariants.{Done}
+use Rattle.answers.specs.Refusals.{Status, Done}
 use Rattle.answers.specs.Outputs.{when_done, max_bytes}
 use Rattle.hasher.specs.declared.Hasher.{Hasher}
 use Rattle.hasher.specs.declared.Advanced.{Advanced}

@@ -5,7 +5,6 @@ pub mod Installations
 pub mod Tables
 pub mod Counts
 pub mod Lookups
-pub mod Places
 pub mod Progress
 pub mod Strides
 pub mod Promises

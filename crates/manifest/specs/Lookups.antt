@@ -2,7 +2,7 @@
 -- in-pieces what a report comes to that looks axes up. Manifests in which an axis can be looked up by its number, and
 -- the number of its record.
 -- Assumes nothing.
-use Rattle.std.specs.Prelude.{Bool, true, cond, ◌&&◌, List, ℕ, zero, suc, eqb, ltb}
+use Rattle.std.specs.Prelude.{Bool, true, cond, ◌&&◌, List, ℕ, zero, suc, eqb, ltb, Option, Some, None}
 use Rattle.manifest.specs.Records.{is_manifest, record_count, axis_at, rises_at}
 
 -- p holds of every number below n
@@ -27,3 +27,7 @@ record_for manifest axis = least_below (record_count manifest) (λ k. eqb (axis_
 -- an axis has a record
 unfoldable pub is_listed : List ℕ → ℕ → Bool
 is_listed manifest axis = ltb (record_for manifest axis) (record_count manifest)
+
+-- the record of an axis, if it has one
+unfoldable pub found_record : List ℕ → ℕ → Option ℕ
+found_record manifest axis = cond (is_listed manifest axis) (Some (record_for manifest axis)) None

@@ -4,7 +4,7 @@
 use Rattle.std.specs.Prelude.{◌≡◌, ◌↔◌, ℕ, ◌+◌, ◌≤◌, ◌<◌}
 use mathlib.Core.List.{List, foldl}
 use Rattle.std.proofs.Math.Option.{none, some}
-use Rattle.answers.specs.declared.Status.TheVariants.{Done}
+use Rattle.answers.specs.Refusals.{Done}
 use Rattle.octets.specs.Numbers.{Bytes}
 use Rattle.hasher.specs.Pieces.{joined}
 use Rattle.manifest.specs.declared.report.Report.{Report}

@@ -3,7 +3,7 @@
 -- Assumes nothing.
 use Rattle.std.specs.Prelude.{Bool, true, ◌&&◌, List, [], ◌∷◌, ℕ, zero, suc, ◌+◌, ◌*◌, ◌/◌, ◌%◌, eqb, ltb, leb, length, take, drop, get_or}
 use Rattle.answers.specs.declared.Refusal.TheVariants.{BadManifest, BadRecord, NotRising}
-use Rattle.answers.specs.declared.Status.{Status}
+use Rattle.answers.specs.Refusals.{Status}
 use Rattle.answers.specs.Checks.{Check, unless, first_refusal, each}
 use Rattle.octets.specs.Numbers.{big_endian}
 use Rattle.octets.specs.Slices.{zeros}

@@ -1,18 +1,16 @@
 // The table that is being read.
-ghost use Rattle.std.specs.Prelude.{◌≡◌, true, ◌+◌, ◌-◌, ◌*◌, ◌≤◌, ◌<◌, length};
+ghost use Rattle.std.specs.Prelude.{◌≡◌, ◌+◌, ◌*◌, ◌≤◌, ◌<◌, length};
 ghost use mathlib.Core.List.{foldl};
 ghost use Rattle.answers.specs.Outputs.{max_bits};
 ghost use Rattle.hasher.specs.Pieces.{with_byte};
-ghost use Rattle.manifest.specs.Lookups.{is_ordered};
 ghost use Rattle.manifest.specs.Tables.{header_bytes, axis_in, length_in};
 ghost use Rattle.manifest.specs.Progress.{unread, variant_for, opened_table, header_byte, table_byte, is_complete};
 ghost use Rattle.manifest.specs.Strides.{Stride};
 
+use crate::ordered::Ordered;
 use crate::records;
-use crate::records::RECORD_BYTES;
 use answers::{MAX_MESSAGE_BITS, MAX_MESSAGE_BYTES};
 use hasher::Hasher;
-use octets::compare::min;
 
 // Two bytes of axis number and four of length.
 const HEADER_BYTES: usize = 6;
@@ -20,6 +18,7 @@ const HEADER_BYTES: usize = 6;
 // The table that is being read: its header and how many bytes of it came; after the last of them, the number of bytes
 // of the contents that are still to come, and the running hash of those that came. A table that need not be hashed has
 // one of variant 0, which takes nothing.
+// The header is a buffer with its length beside it, since nothing here has memory of its own to grow into.
 #[derive(Clone, Copy)]
 pub struct Current {
     pub header: [u8; HEADER_BYTES],
@@ -32,29 +31,26 @@ pub struct Current {
 pub fn unread() -> Current
     ensures { result ≡ unread }
 {
-    let refused = hasher::start(0);
-    let none = refused.hasher;
     Current {
-        header: [0u8; HEADER_BYTES],
+        header: [0; HEADER_BYTES],
         got: 0,
         left: 0,
-        hasher: none,
+        hasher: hasher::start(0).hasher,
     }
 }
 
-// The variant under which a table of n bytes is hashed: 0, under which nothing is, if it need not be.
-fn variant_for(manifest: &[u8], axis: u16, n: u32) -> u32
-    requires { is_ordered manifest.now ≡ true }
+// The variant under which a table of n bytes is hashed: 0, under which nothing is, if it need not be. It is no Option,
+// since a start that is refused yields a running hash of variant 0, which is what a table then has.
+fn variant_for(manifest: &Ordered, axis: u16, n: u32) -> u32
     ensures { result ≡ variant_for manifest.now axis n }
 {
-    let k = records::record_for(manifest, axis);
-    if manifest.len() / RECORD_BYTES <= k {
+    let Some(k) = manifest.record_for(axis) else {
         return 0;
-    }
+    };
     if MAX_MESSAGE_BYTES < n as usize {
         return 0;
     }
-    records::variant_at(manifest, k) as u32
+    u32::from(records::variant_at(manifest.bytes(), k))
 }
 
 pub fn axis_in(header: [u8; HEADER_BYTES]) -> u16
@@ -70,36 +66,30 @@ fn length_in(header: [u8; HEADER_BYTES]) -> u32
 }
 
 // The header is there, and the contents are to come.
-fn open_table(manifest: &[u8], header: [u8; HEADER_BYTES]) -> Current
-    requires { is_ordered manifest.now ≡ true }
+fn open_table(manifest: &Ordered, header: [u8; HEADER_BYTES]) -> Current
     ensures { result ≡ opened_table manifest.now header }
 {
     let n = length_in(header);
-    let started = hasher::start(variant_for(manifest, axis_in(header), n));
-    let h = started.hasher;
     Current {
-        header: header,
+        header,
         got: HEADER_BYTES as u8,
         left: n,
-        hasher: h,
+        hasher: hasher::start(variant_for(manifest, axis_in(header), n)).hasher,
     }
 }
 
 // One byte more of the header.
-fn header_byte(manifest: &[u8], c: Current, b: u8) -> Current
-    requires manifest_value { is_ordered manifest.now ≡ true }
-    requires got_lt_header_bytes { c.got < header_bytes }
+fn header_byte(manifest: &Ordered, c: Current, b: u8) -> Current
+    requires { c.got < header_bytes }
     ensures { result ≡ header_byte manifest.now c b }
 {
     let mut header = c.header;
-    header[c.got as usize] = b;
-    if (c.got as usize) + 1 < HEADER_BYTES {
-        let h = c.hasher;
+    header[usize::from(c.got)] = b;
+    if usize::from(c.got) + 1 < HEADER_BYTES {
         return Current {
-            header: header,
+            header,
             got: c.got + 1,
-            left: c.left,
-            hasher: h,
+            ..c
         };
     }
     open_table(manifest, header)
@@ -123,21 +113,14 @@ pub fn stride(c: Current, available: usize) -> usize
     requires { 1 ≤ available }
     ensures { (result ≤ available) × Stride c result }
 {
-    if (c.got as usize) < HEADER_BYTES {
+    if usize::from(c.got) < HEADER_BYTES {
         return 1;
     }
     // No stream leads to a table with nothing left, but the next byte must move even that one on.
     if c.left == 0 {
         return 1;
     }
-    min(min(available, c.left as usize), room(c.hasher.total))
-}
-
-// What is left of a when b is taken away, and 0 if b is more.
-pub fn minus(a: u32, b: u32) -> u32
-    ensures { result ≡ a - b }
-{
-    if a < b { 0 } else { a - b }
+    available.min(c.left as usize).min(room(c.hasher.total))
 }
 
 // The running hash after some bytes more, which it takes whole or not at all.
@@ -146,26 +129,21 @@ fn with_bytes(h: Hasher, part: &[u8]) -> Hasher
     requires part_bound { h.total + 8 ≤ max_bits → h.total + 8 * length part.now ≤ max_bits }
     ensures { result ≡ foldl with_byte h part.now }
 {
-    let u = hasher::update(h, part);
-    u.hasher
+    hasher::update(h, part).hasher
 }
 
 // A stride more of the table.
-pub fn advance(manifest: &[u8], c: Current, part: &[u8]) -> Current
-    requires manifest_value { is_ordered manifest.now ≡ true }
-    requires stride { Stride c (length part.now) }
+pub fn advance(manifest: &Ordered, c: Current, part: &[u8]) -> Current
+    requires { Stride c (length part.now) }
     ensures { result ≡ foldl (table_byte manifest.now) c part.now }
 {
-    if (c.got as usize) < HEADER_BYTES {
+    if usize::from(c.got) < HEADER_BYTES {
         return header_byte(manifest, c, part[0]);
     }
-    let header = c.header;
-    let h = with_bytes(c.hasher, part);
     Current {
-        header: header,
-        got: c.got,
-        left: minus(c.left, part.len() as u32),
-        hasher: h,
+        left: c.left.saturating_sub(part.len() as u32),
+        hasher: with_bytes(c.hasher, part),
+        ..c
     }
 }
 
@@ -173,5 +151,5 @@ pub fn advance(manifest: &[u8], c: Current, part: &[u8]) -> Current
 pub fn is_complete(c: Current) -> bool
     ensures { result ≡ is_complete c }
 {
-    HEADER_BYTES <= c.got as usize && c.left == 0
+    HEADER_BYTES <= usize::from(c.got) && c.left == 0
 }

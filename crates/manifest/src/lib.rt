@@ -2,6 +2,7 @@
 #![tactic(auto)]
 
 mod current;
+mod ordered;
 mod records;
 mod report;
 mod tally;

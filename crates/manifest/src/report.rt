@@ -1,23 +1,23 @@
 // The report of an installation: its tables come as a stream, in pieces cut anywhere, and each is hashed as its bytes
 // come.
-ghost use Rattle.std.specs.Prelude.{◌≡◌, true, ◌<◌, length};
+ghost use Rattle.std.specs.Prelude.{◌≡◌, ◌<◌, length};
 ghost use mathlib.Core.List.{foldl};
-ghost use Rattle.manifest.specs.Records.{is_manifest};
-ghost use Rattle.manifest.specs.Lookups.{is_ordered};
 ghost use Rattle.manifest.specs.Tables.{max_tables};
 ghost use Rattle.manifest.specs.Progress.{tallied, settled, byte_taken, piece_taken, fresh_report, empty_report, begun, counts_so_far};
 ghost use Rattle.manifest.specs.Strides.{Stride};
 
 use crate::current::Current;
+use crate::ordered::Ordered;
 use crate::records::MAX_RECORDS;
 use crate::tally::Tally;
-use crate::{current, records, tally};
-use answers::Status;
+use crate::{current, tally};
+use answers::Refusal;
 
 // The maximum number of tables that a report looks at.
 pub const MAX_TABLES: u32 = 65535;
 
-// A report in progress. If the manifest was refused at its beginning, it takes nothing.
+// A report in progress. If the manifest was refused at its beginning, it takes nothing: `passed` says so beside the
+// rest, and not an Option, since theorem nothing-counted speaks of what such a report goes on to count.
 #[derive(Clone, Copy)]
 pub struct Report {
     pub passed: bool,
@@ -25,15 +25,16 @@ pub struct Report {
     pub current: Current,
 }
 
-// A report begun: with a refusal, one of nothing.
+// A report begun: with a refusal, one of nothing. It is no Result, since theorem nothing-counted speaks of the report
+// that comes with a refusal.
 #[derive(Clone, Copy)]
 pub struct Beginning {
-    pub status: Status,
+    pub status: Result<(), Refusal>,
     pub report: Report,
 }
 
 // The six counts.
-#[derive(Clone, Copy)]
+#[derive(Clone, Copy, PartialEq, Eq)]
 pub struct Summary {
     pub listed: u32,
     pub tables: u32,
@@ -44,8 +45,7 @@ pub struct Summary {
 }
 
 // No table read yet.
-fn fresh_report(manifest: &[u8]) -> Report
-    requires { is_manifest manifest.now ≡ true }
+fn fresh_report(manifest: &Ordered) -> Report
     ensures { result ≡ fresh_report manifest.now }
 {
     let n = tally::listed(manifest);
@@ -75,7 +75,7 @@ fn empty_report() -> Report
             equal: 0,
             unequal: 0,
             unlisted: 0,
-            awaited: [0u8; MAX_RECORDS],
+            awaited: [false; MAX_RECORDS],
         },
         current: current::unread(),
     }
@@ -85,23 +85,21 @@ fn empty_report() -> Report
 pub fn start(manifest: &[u8]) -> Beginning
     ensures { result ≡ begun manifest.now }
 {
-    let status = records::check(manifest);
-    let Status::Done = status else {
-        return Beginning {
-            status: status,
+    match Ordered::checked(manifest) {
+        Ok(ordered) => Beginning {
+            status: Ok(()),
+            report: fresh_report(&ordered),
+        },
+        Err(refusal) => Beginning {
+            status: Err(refusal),
             report: empty_report(),
-        };
-    };
-    Beginning {
-        status: Status::Done,
-        report: fresh_report(manifest),
+        },
     }
 }
 
 // A table that is complete goes into the tally.
-fn settle(manifest: &[u8], y: Tally, c: Current) -> Report
-    requires manifest_value { is_ordered manifest.now ≡ true }
-    requires y_bound { tallied y < max_tables }
+fn settle(manifest: &Ordered, y: Tally, c: Current) -> Report
+    requires { tallied y < max_tables }
     ensures { result ≡ settled manifest.now y c }
 {
     if current::is_complete(c) {
@@ -119,8 +117,7 @@ fn settle(manifest: &[u8], y: Tally, c: Current) -> Report
 }
 
 // Some bytes of the stream, of which only the last can end a table.
-fn stepped(manifest: &[u8], r: Report, part: &[u8]) -> Report
-    requires manifest_value { is_ordered manifest.now ≡ true }
+fn stepped(manifest: &Ordered, r: Report, part: &[u8]) -> Report
     requires tally_bound { tallied r.tally < max_tables }
     requires stride { Stride r.current (length part.now) }
     ensures { result ≡ foldl (byte_taken manifest.now) r part.now }
@@ -136,20 +133,20 @@ fn stepped(manifest: &[u8], r: Report, part: &[u8]) -> Report
 pub fn update(manifest: &[u8], report: Report, piece: &[u8]) -> Report
     ensures { result ≡ piece_taken manifest.now report piece.now }
 {
-    let mut latest = report;
     if !report.passed {
-        return latest;
+        return report;
     }
     // Without an order no axis can be looked up.
-    if !records::is_ordered(manifest) {
-        return latest;
-    }
-    let mut i = 0;
-    while i < piece.len() && tally::tallied(latest.tally) < MAX_TABLES {
-        let n = current::stride(latest.current, piece.len() - i);
-        let next = stepped(manifest, latest, &piece[i..i + n]);
-        latest = next;
-        i += n;
+    let Some(ordered) = Ordered::of(manifest) else {
+        return report;
+    };
+    let mut latest = report;
+    let mut rest = piece;
+    while !rest.is_empty() && tally::tallied(latest.tally) < MAX_TABLES {
+        let n = current::stride(latest.current, rest.len());
+        let (part, left) = rest.split_at(n);
+        latest = stepped(&ordered, latest, part);
+        rest = left;
     }
     latest
 }
@@ -160,11 +157,11 @@ pub fn summary_of(report: Report) -> Summary
 {
     let y = report.tally;
     Summary {
-        listed: y.listed as u32,
+        listed: u32::from(y.listed),
         tables: tally::tallied(y),
-        equal: y.equal as u32,
-        unequal: y.unequal as u32,
-        untold: y.untold as u32,
-        unlisted: y.unlisted as u32,
+        equal: u32::from(y.equal),
+        unequal: u32::from(y.unequal),
+        untold: u32::from(y.untold),
+        unlisted: u32::from(y.unlisted),
     }
 }

@@ -4,20 +4,20 @@ use mathlib.Core.Path.{◌≡◌, refl, sym, ap, ap₂, ◌∙◌}
 use mathlib.Core.Bool.{Bool, true, false, ◌&&◌, and_assoc, false≢true}
 use mathlib.Core.List.{List, [], ◌∷◌, ◌++◌}
 use mathlib.Core.Logic.{⊎_elim}
-use Prim.Native.Nat.{ℕ, zero, suc, ◌+◌, ◌≤◌, ◌<◌}
+use Prim.Native.Nat.{ℕ, zero, suc, ◌+◌, ◌-◌, ◌/◌, ◌%◌, ◌^◌, ◌<◌}
 use native.Mathlib.Nat.{mod-eq_of_lt}
-use native.Mathlib.Numerals.{add-one}
 use native.Mathlib.Omega.{arith}
 use lib.Dec.{eqb}
-use lib.ListN.{length, drop, get_or, replicate, drop_of_length-le}
-use lib.Seq.{drop-cons}
+use lib.ListN.{length, drop, get_or, replicate}
 use borrow.Author.Tests.{eqb-true, eq-eqb, ne_eqb}
+use Rattle.std.specs.List.{list_all}
 use Rattle.standard.specs.Bits.{high_first, bits_of, bits_in}
 use Rattle.standard.specs.Layout.{clear}
 use Rattle.standard.proofs.Tests.{and-true, lt-or-le}
 use Rattle.octets.specs.Numbers.{Bytes}
 use Rattle.octets.specs.Slices.{same, zeros}
-use Rattle.octets.proofs.Clear.{clear-append, width-set, width-clear}
+use Rattle.octets.proofs.ByteLaws.{drop-bytes}
+use Rattle.octets.proofs.Clear.{clear-append, part-byte, width-set, width-clear}
 
 -- ---- the same bytes
 
@@ -40,17 +40,6 @@ same-append [] b (y ∷ c) d e = absurd (omega arith)
 same-append (x ∷ a) b [] d e = absurd (omega arith)
 same-append (x ∷ a) b (y ∷ c) d e =
     ap (λ (t : Bool). eqb x y && t) (same-append a b c d (omega arith)) ∙ sym (and_assoc (eqb x y) (same a c) (same b d))
-
--- byte by byte
-module _ (a b : List ℕ) (l : length a ≡ length b) (i : ℕ) where
-  pub same-stopped : i < length a → (get_or a i 0 ≡ get_or b i 0 → ⊥) → same (drop i a) (drop i b) ≡ false
-  same-stopped h n = rw (drop-cons a i 0 h, drop-cons b i 0 (omega arith), ne_eqb (get_or a i 0) (get_or b i 0) n)
-
-  pub same-passed : i < length a → get_or a i 0 ≡ get_or b i 0 → same (drop i a) (drop i b) ≡ same (drop (i + 1) a) (drop (i + 1) b)
-  same-passed h e = rw (add-one, drop-cons a i 0 h, drop-cons b i 0 (omega arith), eq-eqb (get_or a i 0) (get_or b i 0) e)
-
-  pub same-past : length a ≤ i → same (drop i a) (drop i b) ≡ true
-  same-past h = let m : length b ≤ i = omega arith in rw (drop_of_length-le a h, drop_of_length-le b m)
 
 -- ---- zeros
 
@@ -78,16 +67,10 @@ zeros-same (a ∷ x) (b ∷ y) l ex ey =
     let q = and-true (eqb b 0) (zeros y) ey in
     rw (eqb-true a 0 p.0, eqb-true b 0 q.0) (zeros-same x y (omega arith) p.1 q.1)
 
--- byte by byte
-module _ (bytes : List ℕ) (i : ℕ) where
-  pub zeros-stopped : i < length bytes → (get_or bytes i 0 ≡ 0 → ⊥) → zeros (drop i bytes) ≡ false
-  zeros-stopped h n = rw (drop-cons bytes i 0 h, ne_eqb (get_or bytes i 0) 0 n)
-
-  pub zeros-passed : i < length bytes → get_or bytes i 0 ≡ 0 → zeros (drop i bytes) ≡ zeros (drop (i + 1) bytes)
-  zeros-passed h e = rw (add-one, drop-cons bytes i 0 h, eq-eqb (get_or bytes i 0) 0 e)
-
-  pub zeros-past : length bytes ≤ i → zeros (drop i bytes) ≡ true
-  zeros-past h = ap zeros (drop_of_length-le bytes h)
+-- as the code asks, by a test of each byte
+pub list_all-zeros : (xs : List ℕ) → list_all (λ b. eqb b 0) xs ≡ zeros xs
+list_all-zeros [] = refl
+list_all-zeros (x ∷ xs) = ap (λ (rest : Bool). eqb x 0 && rest) (list_all-zeros xs)
 
 -- in bits: none of a byte's is set exactly when it is 0
 clear-byte : (x : ℕ) → x < 256 → clear (bits_of high_first 8 x) ≡ eqb x 0
@@ -97,8 +80,19 @@ clear-byte x h =
     (λ l. width-set high_first 8 x (λ e. omega (arith, sym (mod-eq_of_lt h) ∙ e)) ∙ sym (ne_eqb x 0 (λ e. omega arith)))
     (lt-or-le x 1)
 
-pub clear-zero-bytes : (bytes : List ℕ) → Bytes bytes → clear (bits_in high_first bytes) ≡ zeros bytes
+clear-zero-bytes : (bytes : List ℕ) → Bytes bytes → clear (bits_in high_first bytes) ≡ zeros bytes
 unfolding bits_in
 clear-zero-bytes [] h = refl
 clear-zero-bytes (x ∷ bytes) h =
     clear-append (bits_of high_first 8 x) _ ∙ ap₂ ◌&&◌ (clear-byte x (h 0)) (clear-zero-bytes bytes (λ i. h (suc i)))
+
+-- from bit c on, which lies in the byte x: the lower bits of x, and the bytes after it
+module _ (bytes : List ℕ) (c x : ℕ) (h : c / 8 < length bytes) (e : x ≡ get_or bytes (c / 8) 0) where
+  apart : clear (drop c (bits_in high_first bytes)) ≡ (clear (bits_of high_first (8 - c % 8) x) && clear (bits_in high_first (drop (c / 8 + 1) bytes)))
+  apart = rw e (part-byte bytes c h)
+
+  pub part-set : (x % 2 ^ (8 - c % 8) ≡ 0 → ⊥) → clear (drop c (bits_in high_first bytes)) ≡ false
+  part-set n = rw (apart, width-set high_first (8 - c % 8) x n)
+
+  pub part-clear : Bytes bytes → x % 2 ^ (8 - c % 8) ≡ 0 → clear (drop c (bits_in high_first bytes)) ≡ zeros (drop (c / 8 + 1) bytes)
+  part-clear h z = rw (apart, width-clear high_first (8 - c % 8) x z) (clear-zero-bytes (drop (c / 8 + 1) bytes) (drop-bytes (c / 8 + 1) bytes h))

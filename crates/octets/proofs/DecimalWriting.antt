@@ -1,50 +1,58 @@
 -- The digits of a number, written from the last to the first.
 -- Assumes nothing.
 use mathlib.Core.Path.{◌≡◌, sym, ap, ◌∙◌}
-use mathlib.Core.List.{List, [], ◌∷◌, ◌++◌, append_assoc, append-nil}
-use Prim.Native.Nat.{ℕ, ◌+◌, ◌-◌, ◌/◌, ◌%◌, ◌≤◌, ◌<◌}
+use mathlib.Core.List.{List, ◌∷◌}
+use mathlib.Core.Logic.{⊎_elim}
+use Prim.Native.Nat.{ℕ, suc, ◌+◌, ◌-◌, ◌/◌, ◌%◌, ◌≤◌, ◌<◌}
 use native.Mathlib.Omega.{arith}
-use lib.ListN.{length, set, length-append}
+use lib.ListN.{length, take, drop, get_or, set, length-drop}
+use lib.Seq.{length-take-le, take_at, take-take, drop-cons, get_or-take, get_or-append_seam}
+use Rattle.standard.proofs.Tests.{lt-or-le}
 use Rattle.octets.specs.Text.{digit_code, decimal}
 use Rattle.octets.specs.Slices.{written_at}
-use Rattle.octets.proofs.WrittenAt.{written_at-none, byte-before}
-use Rattle.octets.proofs.DecimalLaws.{decimal_digit, decimal-rest, length-digit, length_rest, decimal-some}
+use Rattle.octets.proofs.WrittenAt.{byte-before}
+use Rattle.octets.proofs.DecimalLaws.{decimal_digit, decimal-rest, length-digit, length_rest}
 
--- the digits after those of the rest are written from place i on
-pub record Later (n at : ℕ) (out₀ : List ℕ) (rest i : ℕ) (out : List ℕ) : Type 0 where
-  pub later : List ℕ
-  pub whole : decimal rest ++ later ≡ decimal n
-  pub place : i ≡ at + length (decimal rest)
-  pub stored : out ≡ written_at i later out₀
+-- a number of k + 1 digits: the last one, and those in front of it
+module _ (n k : ℕ) (h : length (decimal n) ≡ k + 1) where
+  last : get_or (decimal n) k 0 ≡ digit_code (n % 10)
+  last =
+      ⊎_elim
+      (λ l.
+      let e : k ≡ 0 = omega (arith, length-digit n l) in
+      let d : n % 10 ≡ n = omega arith in
+      rw (e, decimal_digit n l, d))
+      (λ l.
+      let e : k ≡ length (decimal (n / 10)) = omega (arith, length_rest n l) in
+      rw (decimal-rest n l, e, get_or-append_seam))
+      (lt-or-le n 10)
 
-pub later-none : (n at i : ℕ) (out : List ℕ) → i ≡ at + length (decimal n) → Later n at out n i out
-later-none n at i out e = record { later = []; whole = append-nil (decimal n); place = e; stored = sym (written_at-none i out) }
+  front : 0 < k → take k (decimal n) ≡ decimal (n / 10)
+  front p =
+      ⊎_elim
+      (λ l. absurd (omega (arith, length-digit n l)))
+      (λ l. rw (decimal-rest n l) (take_at (decimal (n / 10)) _ k (omega (arith, length_rest n l))))
+      (lt-or-le n 10)
 
-length_whole : {n at : ℕ} {out₀ : List ℕ} {rest i : ℕ} {out : List ℕ} → (w : Later n at out₀ rest i out)
-    → length (decimal rest) + length w.later ≡ length (decimal n)
-length_whole {rest = rest} w = sym (length-append (decimal rest) w.later) ∙ ap length w.whole
+-- the digits of n are written from place i on, and those before it are the rest's
+module _ (n at : ℕ) (out : List ℕ) (room : at + length (decimal n) ≤ length out) (rest i : ℕ) (low : at < i) (high : i ≤ at + length (decimal n)) (left : take (i - at) (decimal n) ≡ decimal rest) where
+  size : length (decimal rest) ≡ i - 1 - at + 1
+  size = sym (ap length left) ∙ length-take-le (i - at) (decimal n) (omega arith) ∙ omega arith
 
--- some digits of the rest are still to be written
-pub later-place : {n at : ℕ} {out₀ : List ℕ} {rest i : ℕ} {out : List ℕ} → Later n at out₀ rest i out → (at < i) × (i ≤ at + length (decimal n))
-later-place {rest = rest} w = (omega (arith, w.place, decimal-some rest), omega (arith, w.place, length_whole w))
+  digit : get_or (decimal n) (i - 1 - at) 0 ≡ digit_code (rest % 10)
+  digit =
+      sym (get_or-take (i - at) (decimal n) (i - 1 - at) 0 (omega arith)) ∙ ap (λ (text : List ℕ). get_or text (i - 1 - at) 0) left
+      ∙ last rest (i - 1 - at) size
 
--- the last digit of the rest
-pub later_more : (n at : ℕ) (out₀ : List ℕ) (rest i : ℕ) (out : List ℕ) → at + length (decimal n) ≤ length out₀ → 10 ≤ rest
-    → Later n at out₀ rest i out → Later n at out₀ (rest / 10) (i - 1) (set out (i - 1) (digit_code (rest % 10)))
-later_more n at out₀ rest i out room h w =
-    let e : i - 1 + 1 ≡ i = omega (arith, w.place, length_rest rest h) in
-    record {
-      later = digit_code (rest % 10) ∷ w.later;
-      whole = sym (append_assoc (decimal (rest / 10)) (digit_code (rest % 10) ∷ []) w.later) ∙ ap (λ (text : List ℕ). text ++ w.later) (sym (decimal-rest rest h)) ∙ w.whole;
-      place = omega (arith, w.place, length_rest rest h);
-      stored = rw w.stored (rw e at (byte-before (i - 1) (digit_code (rest % 10)) w.later out₀ (omega (arith, w.place, length_rest rest h, length_whole w))));
-    }
+  -- the last digit of the rest
+  pub digit-before : set (written_at i (drop (i - at) (decimal n)) out) (i - 1) (digit_code (rest % 10)) ≡ written_at (i - 1) (drop (i - 1 - at) (decimal n)) out
+  digit-before =
+      let k : i - at ≡ suc (i - 1 - at) = omega arith in
+      let p : i - 1 + 1 ≡ i = omega arith in
+      let cut : drop (i - 1 - at) (decimal n) ≡ digit_code (rest % 10) ∷ drop (suc (i - 1 - at)) (decimal n) = rw digit at (drop-cons (decimal n) (i - 1 - at) 0 (omega arith)) in
+      rw (k, cut) (rw p at (byte-before (i - 1) (digit_code (rest % 10)) (drop (suc (i - 1 - at)) (decimal n)) out (omega (arith, length-drop (suc (i - 1 - at)) (decimal n)))))
 
--- and the first digit of all
-pub later-all : (n at : ℕ) (out₀ : List ℕ) (rest i : ℕ) (out : List ℕ) → at + length (decimal n) ≤ length out₀ → rest < 10
-    → Later n at out₀ rest i out → set out at (digit_code (rest % 10)) ≡ written_at at (decimal n) out₀
-later-all n at out₀ rest i out room h w =
-    let e : i ≡ at + 1 = omega (arith, w.place, length-digit rest h) in
-    let d : rest % 10 ≡ rest = omega arith in
-    let whole : digit_code rest ∷ w.later ≡ decimal n = rw (decimal_digit rest h) at w.whole in
-    rw (w.stored, e, d, ← whole) (byte-before at (digit_code rest) w.later out₀ (omega (arith, length_whole w, length-digit rest h)))
+  -- and what is left of it
+  pub digits-left : at < i - 1 → take (i - 1 - at) (decimal n) ≡ decimal (rest / 10)
+  digits-left p =
+      sym (take-take (i - 1 - at) (i - at) (decimal n) (omega arith)) ∙ ap (take (i - 1 - at)) left ∙ front rest (i - 1 - at) size (omega arith)

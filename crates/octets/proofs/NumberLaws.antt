@@ -1,6 +1,6 @@
 -- A number in bytes reads back as itself, and bytes as the number that they stand for.
 -- Assumes nothing.
-use mathlib.Core.Path.{◌≡◌, refl, ap, ◌∙◌}
+use mathlib.Core.Path.{◌≡◌, refl, ◌∙◌}
 use mathlib.Core.List.{List, [], ◌∷◌, ◌++◌, foldl-append}
 use Prim.Native.Nat.{ℕ, zero, suc, ◌+◌, ◌*◌, ◌/◌, ◌%◌, ◌^◌, ◌≤◌, ◌<◌}
 use native.Mathlib.Nat.{pow-zero, pow-suc}
@@ -58,10 +58,3 @@ four_bytes xs i h =
     let two : i + 1 + 1 ≡ i + 2 = omega arith in
     let three : i + 2 + 1 ≡ i + 3 = omega arith in
     rw (drop_at xs i (omega arith), drop_at xs (i + 1) (omega arith), two, drop_at xs (i + 2) (omega arith), three, drop_at xs (i + 3) (omega arith)) (omega arith)
-
--- a number in two bytes, as the code writes them
-pub two-in-bytes : (n : ℕ) → n < 65536 → in_bytes 2 n ≡ n / 256 ∷ n % 256 ∷ []
-unfolding in_bytes
-two-in-bytes n h =
-    let e : n / 256 % 256 ≡ n / 256 = omega arith in
-    ap (λ (b : ℕ). b ∷ n % 256 ∷ []) e

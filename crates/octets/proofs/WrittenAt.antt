@@ -55,20 +55,12 @@ written_at-before at xs ys out h =
     let e : at + (length xs + length ys) ≡ p + length ys = omega arith in
     rw (first, behind, length-append xs ys, e) (sym (append_assoc (take at out ++ xs) ys rest) ∙ ap (λ (l : List ℕ). l ++ rest) (append_assoc (take at out) xs ys))
 
--- ---- byte by byte
-
+-- one byte after them, and the next of a row of bytes
 pub one-after : (at : ℕ) (xs out : List ℕ) (x p : ℕ) → p ≡ at + length xs → p < length out
     → set (written_at at xs out) p x ≡ written_at at (xs ++ x ∷ []) out
 one-after at xs out x p e h =
     set-written p x (written_at at xs out) (omega (arith, length-written_at at xs out (omega arith)))
     ∙ rw e (written_at-after at xs (x ∷ []) out (omega arith))
-
-pub two-after : (at : ℕ) (xs out : List ℕ) (x y p : ℕ) → p ≡ at + length xs → p + 1 < length out
-    → set (set (written_at at xs out) p x) (p + 1) y ≡ written_at at (xs ++ x ∷ y ∷ []) out
-two-after at xs out x y p e h =
-    ap (λ (l : List ℕ). set l (p + 1) y) (one-after at xs out x p e (omega arith))
-    ∙ one-after at (xs ++ x ∷ []) out y (p + 1) (omega (arith, length-append xs (x ∷ []))) h
-    ∙ ap (λ (l : List ℕ). written_at at l out) (append_assoc xs (x ∷ []) (y ∷ []))
 
 pub byte-after : (at : ℕ) (bytes out : List ℕ) (i : ℕ) → i < length bytes → at + length bytes ≤ length out
     → set (written_at at (take i bytes) out) (at + i) (get_or bytes i 0) ≡ written_at at (take (i + 1) bytes) out
@@ -76,6 +68,7 @@ byte-after at bytes out i hi h =
     rw (add-one, take-suc bytes i 0)
     (one-after at (take i bytes) out (get_or bytes i 0) (at + i) (omega (arith, length-take-le i bytes (omega arith))) (omega arith))
 
+-- one byte before them
 pub byte-before : (at b : ℕ) (bytes out : List ℕ) → at + 1 + length bytes ≤ length out
     → set (written_at (at + 1) bytes out) at b ≡ written_at at (b ∷ bytes) out
 byte-before at b bytes out h =

@@ -10,11 +10,8 @@ pub fn clear_from(bytes: &[u8], c: usize) -> bool
     ensures { result ≡ clear (drop c (bits_in high_first bytes.now)) }
 {
     let k = c / 8;
-    if bytes.len() <= k {
+    let Some(&first) = bytes.get(k) else {
         return true;
-    }
-    if (bytes[k] as u32) % (1 << (8 - c % 8)) != 0 {
-        return false;
-    }
-    compare::zero_from(bytes, k + 1)
+    };
+    u32::from(first) % (1 << (8 - c % 8)) == 0 && compare::zero_from(bytes, k + 1)
 }

@@ -8,12 +8,9 @@ pub fn write_bytes(bytes: &[u8], out: &mut [u8], at: usize) -> usize
     ensures out_after { out.new ≡ written_at at bytes.now out.old }
     ensures value { result ≡ at + length bytes.now }
 {
-    let mut i = 0;
-    while i < bytes.len() {
-        out[at + i] = bytes[i];
-        i += 1;
-    }
-    at + i
+    let end = at + bytes.len();
+    out[at..end].copy_from_slice(bytes);
+    end
 }
 
 // The first n bytes of s over the front of the output.
@@ -21,5 +18,5 @@ pub fn copy_front(s: &[u8], n: usize, out: &mut [u8])
     requires { (n ≤ length s.now) × (n ≤ length out.old) }
     ensures { out.new ≡ take n s.now ++ drop n out.old }
 {
-    write_bytes(&s[..n], out, 0);
+    out[..n].copy_from_slice(&s[..n]);
 }

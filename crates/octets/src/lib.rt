@@ -8,4 +8,3 @@ pub mod copies;
 pub mod nibbles;
 pub mod numbers;
 pub mod text;
-pub mod widen;

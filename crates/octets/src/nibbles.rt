@@ -7,10 +7,7 @@ ghost use Rattle.octets.specs.Nibbles.{nibble_of};
 pub fn nibble_of(x: u8, n: usize) -> u8
     ensures { result ≡ nibble_of x n }
 {
-    if n % 2 == 0 {
-        return x / 16;
-    }
-    x % 16
+    if n % 2 == 0 { x / 16 } else { x % 16 }
 }
 
 // A nibble moved to the place that the nibble n of bytes has in its byte: the upper one if n is even.
@@ -18,10 +15,7 @@ fn shifted_nibble(x: u8, n: usize) -> u8
     requires { x < 16 }
     ensures { result ≡ cond (eqb (n % 2) 0) (x * 16) x }
 {
-    if n % 2 == 0 {
-        return x * 16;
-    }
-    x
+    if n % 2 == 0 { x * 16 } else { x }
 }
 
 // The nibble x after the first p nibbles, which are all that the bytes hold.
@@ -31,6 +25,5 @@ pub fn put_nibble(out: &mut [u8], p: usize, x: u8)
     ensures { out.new ≡ pack high_first (length out.old)
         (unpack high_first (4 * p) out.old ++ bits_of high_first 4 x) }
 {
-    let k = p / 2;
-    out[k] = out[k] ^ shifted_nibble(x, p);
+    out[p / 2] ^= shifted_nibble(x, p);
 }

@@ -1,4 +1,6 @@
 // Text written over a part of an output, from a place on. Each call answers the place after what it wrote.
+// The output and the place stay two parameters, and no writer with methods: callers have `write_line`, `write_decimal` and
+// `write_hex` with these.
 ghost use Rattle.std.specs.Prelude.{◌≡◌, ◌+◌, ◌*◌, ◌/◌, ◌%◌, ◌<◌, ◌≤◌, length};
 ghost use Rattle.octets.specs.Slices.{written_at};
 ghost use Rattle.octets.specs.Text.{digit_code, decimal, hex_digit, hex_of, line_of};
@@ -9,36 +11,30 @@ use crate::copies::write_bytes;
 fn last_digit(n: u32) -> u8
     ensures { result ≡ digit_code (n % 10) }
 {
-    48 + (n % 10) as u8
+    b'0' + (n % 10) as u8
 }
 
+// The digits after the first are as many as the logarithm says. 0 has no logarithm, and one digit.
 fn digit_count(n: u32) -> usize
     ensures { result ≡ length (decimal n) }
 {
-    let mut count = 1;
-    let mut rest = n;
-    while 10 <= rest {
-        rest /= 10;
-        count += 1;
-    }
-    count
+    let tens = n.checked_ilog10().unwrap_or(0);
+    1 + tens as usize
 }
 
-// A number in decimal, from its last digit to its first.
+// A number in decimal, from its last digit to its first. By index: of what `iter_mut` lends out, a proof learns only the
+// length.
 pub fn write_decimal(n: u32, out: &mut [u8], at: usize) -> usize
     requires { at + length (decimal n) ≤ length out.old }
     ensures out_after { out.new ≡ written_at at (decimal n) out.old }
     ensures value { result ≡ at + length (decimal n) }
 {
     let end = at + digit_count(n);
-    let mut i = end;
     let mut rest = n;
-    while 10 <= rest {
-        i -= 1;
+    for i in (at..end).rev() {
         out[i] = last_digit(rest);
         rest /= 10;
     }
-    out[at] = last_digit(rest);
     end
 }
 
@@ -59,19 +55,7 @@ pub fn hex_digit(n: u8) -> u8
     requires { n < 16 }
     ensures { result ≡ hex_digit n }
 {
-    if n < 10 { 48 + n } else { 87 + n }
-}
-
-fn upper_digit(b: u8) -> u8
-    ensures { result ≡ hex_digit (b / 16) }
-{
-    hex_digit(b / 16)
-}
-
-fn lower_digit(b: u8) -> u8
-    ensures { result ≡ hex_digit (b % 16) }
-{
-    hex_digit(b % 16)
+    b"0123456789abcdef"[usize::from(n)]
 }
 
 // Bytes in lower-case hexadecimal.
@@ -80,13 +64,9 @@ pub fn write_hex(bytes: &[u8], out: &mut [u8], at: usize) -> usize
     ensures out_after { out.new ≡ written_at at (hex_of bytes.now) out.old }
     ensures value { result ≡ at + 2 * length bytes.now }
 {
-    let mut i = 0;
     let mut p = at;
-    while i < bytes.len() {
-        out[p] = upper_digit(bytes[i]);
-        out[p + 1] = lower_digit(bytes[i]);
-        i += 1;
-        p += 2;
+    for &b in bytes {
+        p = write_bytes(&[hex_digit(b / 16), hex_digit(b % 16)], out, p);
     }
     p
 }

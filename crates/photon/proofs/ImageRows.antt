@@ -4,7 +4,7 @@ use mathlib.Core.Path.{◌≡◌, refl, sym, ap, ap₂, ◌∙◌}
 use mathlib.Core.Bool.{Bool}
 use mathlib.Core.List.{List, [], ◌∷◌, ◌++◌, append-nil, flat_map}
 use Prim.Native.Nat.{ℕ, zero, suc, ◌+◌, ◌*◌, ◌/◌, ◌%◌, ◌^◌, ◌≤◌, ◌<◌}
-use native.Mathlib.Nat.{zero-mul, suc-mul, mul_assoc, le_refl}
+use native.Mathlib.Nat.{zero-mul, suc-mul, le_refl}
 use native.Mathlib.Numerals.{add-one}
 use native.Mathlib.Omega.{arith}
 use lib.Dec.{lit≤}
@@ -18,16 +18,14 @@ use Rattle.standard.specs.ForCode.{output_bits}
 use Rattle.standard.proofs.Tests.{one-to-five}
 use Rattle.standard.proofs.Tab.{length-tab, get_d-tab, square-grid}
 use Rattle.standard.proofs.BitLaws.{length-pack, pack-none}
-use Rattle.standard.proofs.CutLaws.{cut_fits, flat_map-append}
+use Rattle.standard.proofs.CutLaws.{flat_map-append}
 use Rattle.standard.proofs.MatrixLaws.{length-bits_of_matrix}
 use Rattle.photon_tables.specs.Columns.{place_in}
 use Rattle.photon.specs.Parameters.{photon_of}
 use Rattle.photon.specs.Words.{matrix_in, state_of_columns}
 use Rattle.photon.proofs.ParametersOf.{photon-variant}
-use Rattle.photon.proofs.WordPlaces.{one-to-four}
 use Rattle.standard.specs.Layout.{state_room, packed_state}
 use Rattle.octets.proofs.LayoutLaws.{packed-bits}
-use Rattle.photon.proofs.MatrixImage.{square_le}
 use Rattle.octets.proofs.RowsIntoBytes.{row-length, read_back, kept_back}
 
 -- ---- the first rows of a matrix
@@ -88,13 +86,6 @@ pub image-rows : (v d s : ℕ) → d ≡ (photon_of v).d → s ≡ (photon_of v)
     → r ≡ pack high_first state_room (bits_of_matrix (photon_of v).s (take rows (matrix_in v w)))
 image-rows v d s ed es w i rows ei r e = e ∙ ap (row_bytes d s w) ei ∙ ap₂ (λ (a b : ℕ). row_bytes a b w rows) ed es
 
--- the row after i rows of cells of four bits begins at the nibble i * d, and has room
-pub half-rows : (d i : ℕ) → 4 * (i * d) ≡ i * (d * 4)
-half-rows d i = omega (arith, mul_assoc i d 4)
-
-pub row_room : (d i : ℕ) → d ≤ 8 → i < d → i * d + d ≤ 64
-row_room d i m h = cut_fits d d i 64 h (square_le d m)
-
 -- ---- sizes by a variant's number
 
 -- the rows of its matrix, and those that hold the bits that are given out
@@ -108,9 +99,9 @@ pub side-of : (v : ℕ) → 1 ≤ v → v ≤ 5 → side_of v ≡ (photon_of v).
 unfolding photon_of variant
 side-of = one-to-five (λ v. side_of v ≡ (photon_of v).d) refl refl refl refl refl
 
--- what the calls for the variants with cells of four bits ask
-pub side4 : (v : ℕ) → 1 ≤ v → v ≤ 4 → (rows : ℕ) → rows ≤ side_of v → (1 ≤ v) × (v ≤ 4) × (side_of v ≡ (photon_of v).d) × (rows ≤ side_of v)
-side4 v low high rows fits = (low, high, side-of v low (omega arith), fits)
+-- what the calls for the variants ask
+pub sides : (v : ℕ) → 1 ≤ v → v ≤ 5 → (rows : ℕ) → rows ≤ side_of v → (1 ≤ v) × (v ≤ 5) × (rows ≤ (photon_of v).d)
+sides v low high rows fits = (low, high, omega (arith, side-of v low high))
 
 abbrev FrontFits : ℕ → Type 0
 FrontFits v = (front_of v ≤ (photon_of v).d) × (output_bits (variant v) ≤ front_of v * ((photon_of v).d * (photon_of v).s)) × ((photon_of v).d * ((photon_of v).d * (photon_of v).s) ≤ state_room * 8)
@@ -118,14 +109,6 @@ FrontFits v = (front_of v ≤ (photon_of v).d) × (output_bits (variant v) ≤ f
 front_fits : (v : ℕ) → 1 ≤ v → v ≤ 5 → FrontFits v
 unfolding photon_of variant
 front_fits = one-to-five FrontFits (lit≤ tt, lit≤ tt, lit≤ tt) (lit≤ tt, lit≤ tt, lit≤ tt) (lit≤ tt, lit≤ tt, lit≤ tt) (lit≤ tt, lit≤ tt, lit≤ tt) (lit≤ tt, lit≤ tt, lit≤ tt)
-
-pub eight-bits : 8 ≡ (photon_of 5).s
-unfolding photon_of variant
-eight-bits = refl
-
-pub columns_of : (v : ℕ) → 1 ≤ v → v ≤ 4 → (5 ≤ (photon_of v).d) × ((photon_of v).d ≤ 8)
-unfolding photon_of variant
-columns_of = one-to-four (λ v. (5 ≤ (photon_of v).d) × ((photon_of v).d ≤ 8)) (lit≤ tt, lit≤ tt) (lit≤ tt, lit≤ tt) (lit≤ tt, lit≤ tt) (lit≤ tt, lit≤ tt)
 
 -- ---- the whole state, and its front
 

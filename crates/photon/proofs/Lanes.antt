@@ -1,18 +1,20 @@
 -- The cells of a row that is held in one number: a sum of rows sums the cells, the doubling of a row doubles each, and shifts by whole cells turn it.
 -- Assumes nothing.
-use mathlib.Core.Path.{◌≡◌, refl, ap, ◌∙◌}
+use mathlib.Core.Path.{◌≡◌, refl, sym, ap, ◌∙◌}
 use mathlib.Core.Bool.{Bool, true, false, cond}
 use mathlib.Core.Logic.{⊎_elim}
 use Prim.Native.Nat.{ℕ, zero, suc, ◌+◌, ◌-◌, ◌*◌, ◌/◌, ◌%◌, ◌^◌, ◌≤◌, ◌<◌, suc-le-suc}
-use native.Mathlib.Nat.{mod-lt, mod-eq_of_lt, mod-eq-sub-mod, div-eq_of_lt, div-eq_of_lt-le, div-div-eq-div-mul, div-lt_iff_lt-mul, div-add-mod', add-zero, add-suc, add-mul, mul-one, mul_assoc, mul_comm, mul-div_cancel, mul-mod_left, div-one, le_of_suc-le-suc, mul_right_comm, one-mul, zero-mul, mul-le-mul, pow-suc, zero-lt-suc, not-suc-le-zero}
-use native.Mathlib.Numerals.{add-one}
+use native.Mathlib.Nat.{zero-add, mod-lt, mod-eq_of_lt, mod-eq-sub-mod, div-eq_of_lt, div-eq_of_lt-le, div-div-eq-div-mul, div-lt_iff_lt-mul, div-add-mod', add-zero, add-suc, add-mul, mul-one, mul_assoc, mul_comm, mul-div_cancel, mul-mod_left, div-one, le_of_suc-le-suc, mul_right_comm, one-mul, zero-mul, mul-le-mul, pow-suc, zero-lt-suc, not-suc-le-zero}
 use native.Mathlib.Omega.{arith}
-use lib.Arith.{lt-one, digits_lt, digits_div, digits_mod, mod-mul}
+use lib.Arith.{lt-one, digits_div, digits_mod, mod-mul}
 use lib.Pow.{pow_pos, pow_mono, pow-add}
 use mathlib.Core.List.{List}
-use lib.ListN.{get_or}
+use lib.ListN.{length, get_or}
 use lib.Dec.{ltb}
 use lib.Bits.{bit_xor, bit_and, xor_zero_l, xor_zero_r, xor_shr, xor_mod, and_shr, and_mod, and_mask}
+use Rattle.std.specs.Int.{byte_at, bytes_low_first, to_le_bytes, from_le_bytes}
+use Rattle.std.proofs.Common.{w64}
+use Rattle.std.proofs.lemmas.Nat.{le_bytes_8}
 use borrow.Author.Tests.{ltb-true, ltb-false}
 use Rattle.standard.specs.Field.{double}
 use Rattle.standard.specs.ForCode.{Modulus}
@@ -124,37 +126,34 @@ lane-double (suc k) poly x j l u m hj h =
         let most : poly % 256 ≤ 255 = omega arith in
         omega (arith, mul-le-mul {n₁ = bit} {m₁ = poly % 256} {n₂ = 1} {m₂ = 255} (omega (arith, lane_ones i (x / 2 ^ k) hi)) most)
 
--- ---- a row made of its cells, the last first
+-- ---- a row's number in bytes
+
+-- a cell is a byte of the number
+lane-at : (j x : ℕ) → lane j x ≡ x / 256 ^ j % 256
+unfolding lane
+lane-at zero x = rw div-one
+lane-at (suc j) x = lane-at j (x / 256) ∙ ap (λ (y : ℕ). y % 256) (rw (div-div-eq-div-mul x 256 (256 ^ j), mul_comm 256 (256 ^ j), ← pow-suc 256 j))
+
+lane-byte : (j x : ℕ) → byte_at j x ≡ lane j x
+unfolding lane
+lane-byte zero x = refl
+lane-byte (suc j) x = sym (lane-at (suc j) x)
+
+byte-in : (k i j x : ℕ) → j < k → get_or (bytes_low_first i k x) j 0 ≡ byte_at (i + j) x
+byte-in zero i j x h = absurd (not-suc-le-zero h)
+byte-in (suc k) i zero x h = rw add-zero
+byte-in (suc k) i (suc j) x h = let on : i + suc j ≡ suc i + j = omega arith in rw on (byte-in k (suc i) j x (le_of_suc-le-suc h))
+
+pub byte-lane : (j x : ℕ) → j < 8 → get_or (to_le_bytes w64 x) j 0 ≡ lane j x
+byte-lane j x h = rw zero-add at (byte-in 8 0 j x h) ∙ lane-byte j x
+
+pub lane-of_bytes : (row : List ℕ) (x j : ℕ) → length row ≡ 8 → ((i : ℕ) → get_or row i 0 < 256) → x ≡ from_le_bytes w64 row → j < 8 → lane j x ≡ get_or row j 0
+lane-of_bytes row x j len small e h = sym (byte-lane j x h) ∙ ap (λ (bytes : List ℕ). get_or bytes j 0) (le_bytes_8 row x len small e)
+
+-- ---- a row shifted by whole cells
 
 cells-suc : (e : ℕ) → 2 ^ (8 * suc e) ≡ 2 ^ (8 * e) * 256
 cells-suc e = let more : 8 * suc e ≡ 8 * e + 8 = omega arith in rw more (pow-add 2 (8 * e) 8)
-
--- the number holds the last n cells of the row, and no more
-pub record Held (row : List ℕ) (n x : ℕ) : Type 0 where
-  pub most : x < 2 ^ (8 * n)
-  pub cell : (j : ℕ) → j < n → lane j x ≡ get_or row (8 - n + j) 0
-
-pub held_none : (row : List ℕ) → Held row 0 0
-held_none row = record { most = omega arith; cell = λ j h. absurd (not-suc-le-zero h) }
-
--- it has room for one cell more
-pub held-room : (row : List ℕ) (n x : ℕ) → n < 8 → Held row n x → x < 2 ^ 56
-held-room row n x h k = omega (arith, k.most, pow_mono {i = 8 * n} {j = 56} (omega arith))
-
-pub held_more : (row : List ℕ) (n x y : ℕ) → n < 8 → y < 256 → y ≡ get_or row (7 - n) 0 → Held row n x → Held row (n + 1) (x * 256 + y)
-unfolding lane
-held_more row n x y h l e k =
-    record { most = rw (add-one, cells-suc) (digits_lt k.most l); cell = cells }
-  where
-    cells : (j : ℕ) → j < n + 1 → lane j (x * 256 + y) ≡ get_or row (8 - (n + 1) + j) 0
-    cells zero hj =
-        let at : 8 - (n + 1) + 0 ≡ 7 - n = omega arith in
-        rw at (digits_mod x l ∙ e)
-    cells (suc j) hj =
-        let at : 8 - (n + 1) + suc j ≡ 8 - n + j = omega arith in
-        rw (digits_div x l, at) (k.cell j (omega arith))
-
--- ---- a row shifted by whole cells
 
 -- shifted up by e cells: those below are empty
 lane-up : (j e x : ℕ) → lane (j + e) (x * 2 ^ (8 * e)) ≡ lane j x

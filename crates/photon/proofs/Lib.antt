@@ -8,9 +8,9 @@ pub mod RoundsOf
 pub mod WordPlaces
 pub mod WordRounds
 pub mod PairTables
-pub mod CellsOfBytes
 pub mod CellsIntoWords
 pub mod MatrixImage
 pub mod MatrixStates
 pub mod ImageRows
+pub mod CellWidths
 pub mod WordSteps

@@ -1,9 +1,8 @@
 -- The matrix in the bytes that hold a state, through the rounds.
 -- Assumes nothing.
-use mathlib.Core.Path.{◌≡◌, refl}
+use mathlib.Core.Path.{◌≡◌}
 use mathlib.Core.Bool.{Bool}
 use mathlib.Core.List.{List}
-use mathlib.Core.Logic.{◌⊎◌, inl, inr}
 use Prim.Native.Nat.{ℕ, ◌*◌, ◌^◌, ◌≤◌}
 use lib.Dec.{lit≤}
 use Rattle.standard.specs.Bits.{high_first, bits_in, pack, unpack}
@@ -22,19 +21,19 @@ use Rattle.photon.specs.Parameters.{photon_of}
 use Rattle.photon.proofs.ParametersOf.{photon-variant, sound}
 use Rattle.photon.proofs.MatrixImage.{matrix-front}
 
--- a cell of PHOTON has 4 or 8 bits, and the cells are the state
-cell-widths : (v : ℕ) → 1 ≤ v → v ≤ 5 → ((photon_of v).s ≡ 4) ⊎ ((photon_of v).s ≡ 8)
-unfolding photon_of variant
-cell-widths = one-to-five (λ v. ((photon_of v).s ≡ 4) ⊎ ((photon_of v).s ≡ 8)) (inl refl) (inl refl) (inl refl) (inl refl) (inr refl)
-
+-- the cells are the state
 state-cells : (v : ℕ) → 1 ≤ v → v ≤ 5 → (photon_of v).d * (photon_of v).d * (photon_of v).s ≤ (variant v).t
 unfolding photon_of variant
 state-cells = one-to-five (λ v. (photon_of v).d * (photon_of v).d * (photon_of v).s ≤ (variant v).t) (lit≤ tt) (lit≤ tt) (lit≤ tt) (lit≤ tt) (lit≤ tt)
 
+room : (v : ℕ) → 1 ≤ v → v ≤ 5 → (photon_of v).s * ((photon_of v).d * (photon_of v).d) ≤ 288
+unfolding photon_of variant
+room = one-to-five (λ v. (photon_of v).s * ((photon_of v).d * (photon_of v).d) ≤ 288) (lit≤ tt) (lit≤ tt) (lit≤ tt) (lit≤ tt) (lit≤ tt)
+
 -- a matrix of d rows and columns of cells of s bits, as tables give the two
 module _ (v : ℕ) (low : 1 ≤ v) (high : v ≤ 5) (d s : ℕ) (ed : d ≡ (photon_of v).d) (es : s ≡ (photon_of v).s) where
-  pub cell-width : (s ≡ 4) ⊎ (s ≡ 8)
-  cell-width = rw es (cell-widths v low high)
+  pub cells-room : s * (d * d) ≤ 288
+  cells-room = rw (es, ed) (room v low high)
 
   pub matrix-ready : (bits : List Bool) (g : Grid) → window d g ≡ matrix_of d s bits → Small (photon_of v).d (2 ^ (photon_of v).s) g
   matrix-ready bits g e = small-window _ _ g (rw (rw (ed, es) at e) (matrix_of-small (photon_of v).d (photon_of v).s bits))

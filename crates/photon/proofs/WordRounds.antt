@@ -94,23 +94,21 @@ module _ (words : List ℕ) where
 
   -- the sums of the first k rows of each column, with c in the first
   pub record Shared (c k : ℕ) (f : List ℕ) : Type 0 where
-    pub len : length f ≡ 8
     pub sum : (m : ℕ) → m < 6 → get_or f m 0 ≡ bit_xor (in_first m c 0) (sum_of k (λ r. share (place_of (photon_of 5)) (photon_of 5) r (cell m r)))
 
   pub shared-none : (c : ℕ) → Shared c 0 (set (replicate 8 0) 0 c)
-  shared-none c = record { len = refl; sum = λ m h. first m }
+  shared-none c = record { sum = λ m h. first m }
     where
       first : (m : ℕ) → get_or (set (replicate 8 0) 0 c) m 0 ≡ bit_xor (in_first m c 0) 0
       first zero = sym (xor_zero_r c)
       first (suc m) = zeros-at 7 m
 
-  pub shared-more : (table : List ℕ) → Entries 1552 (photon_of 5) table → (c k : ℕ) → k < 6 → (f g : List ℕ) → Shared c k f → length g ≡ 8
+  pub shared-more : (table : List ℕ) → Entries 1552 (photon_of 5) table → (c k : ℕ) → k < 6 → (f g : List ℕ) → Shared c k f
       → ((m : ℕ) → m < 6 → get_or g m 0 ≡ bit_xor (get_or f m 0) (get_or table (16 + 256 * k + get_or words ((m + k) % 6) 0 / 2 ^ place_of (photon_of 5) k % 256) 0))
       → Shared c (k + 1) g
   unfolding photon_of variant
-  shared-more table T c k hk f g u lg e =
+  shared-more table T c k hk f g u e =
       record {
-        len = lg;
         sum = λ m h.
             let x : ℕ = get_or words ((m + k) % 6) 0 / 2 ^ place_of (photon_of 5) k % 256 in
             let small : x < 256 = mod-lt _ {m = 256} (omega arith) in

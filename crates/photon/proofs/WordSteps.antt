@@ -3,14 +3,14 @@
 use mathlib.Core.Path.{◌≡◌, refl, sym, ap, ap₂, ◌∙◌, subst}
 use mathlib.Core.Bool.{Bool}
 use mathlib.Core.List.{List}
-use Prim.Native.Nat.{ℕ, zero, suc, ◌+◌, ◌*◌, ◌/◌, ◌%◌, ◌^◌, ◌≤◌, ◌<◌}
+use Prim.Native.Nat.{ℕ, zero, suc, ◌+◌, ◌-◌, ◌*◌, ◌/◌, ◌%◌, ◌^◌, ◌≤◌, ◌<◌}
 use native.Mathlib.Nat.{mul_comm, zero-mul, zero-add, one-mul, add-mul, suc-mul, mul-le-mul_left, mul-le-mul_right, mul_assoc}
 use native.Mathlib.Omega.{arith}
 use lib.Bits.{bit_xor}
 use lib.Dec.{lit≤}
-use lib.ListN.{length, get_or, take, drop, replicate}
-use lib.Seq.{length-take-le}
-use Rattle.standard.specs.Bits.{high_first, bits_in, unpack, xor_into}
+use lib.ListN.{length, get_or, take, drop, replicate, length-drop}
+use lib.Seq.{length-take-le, take_all, drop-drop}
+use Rattle.standard.specs.Bits.{high_first, bits_in, unpack, value_of, xor_into}
 use Rattle.standard.proofs.Turned.{turned-high}
 use Rattle.standard.specs.declared.Direction.TheVariants.{Forward}
 use Rattle.standard.specs.Grid.{at}
@@ -21,16 +21,16 @@ use Rattle.standard.specs.Chain.{step}
 use Rattle.standard.specs.Variants.{variant}
 use Rattle.standard.proofs.Tests.{one-to-five}
 use Rattle.standard.proofs.Tab.{at-grid, grid-cong, grid-self, square-grid}
-use Rattle.standard.proofs.BitLaws.{length-bits_in}
+use Rattle.standard.proofs.BitLaws.{length-bits_in, bits_in-drop}
 use Rattle.standard.proofs.MatrixLaws.{length-bits_of_matrix, matrix_of-square, bits-matrix}
 use Rattle.standard.proofs.PhotonLaws.{State}
-use Rattle.photon_tables.specs.Columns.{cell_of, place_in, place_of}
+use Rattle.photon_tables.specs.Columns.{cell_of, place_of}
 use Rattle.photon_tables.specs.Tables.{Pairs}
 use Rattle.photon_tables.proofs.LookUps.{words-state}
 use Rattle.photon.specs.Parameters.{photon_of}
 use Rattle.photon.specs.Words.{matrix_in, state_of_columns, TableFor}
 use Rattle.photon.proofs.ParametersOf.{photon-variant, sound}
-use Rattle.photon.proofs.WordPlaces.{rising-places, one-to-four, four-bits}
+use Rattle.photon.proofs.WordPlaces.{rising-places, four-bits}
 use Rattle.octets.specs.Cells.{cell_in}
 use Rattle.standard.specs.Layout.{state_room}
 use Rattle.photon.proofs.MatrixImage.{matrix-front}
@@ -73,11 +73,11 @@ module _ (v : ℕ) (low : 1 ≤ v) (high : v ≤ 4) (bytes : List ℕ) (m : ℕ)
   TakenTo e w x = Taken (place_of (photon_of v)) (photon_of v).s (photon_of v).d bytes m e w x
 
   -- the first n cells are those of row 0
-  pub row-taken : (at odd n : ℕ) → 2 * at + odd ≡ m → n ≤ (photon_of v).d → (w x : List ℕ)
-      → ((j : ℕ) → j < n → get_or x j 0 ≡ bit_xor (get_or w j 0) (cell_in 4 bytes (2 * at + odd + j) * 2 ^ 0))
+  row-taken : (c n : ℕ) → c ≡ m → n ≤ (photon_of v).d → (w x : List ℕ)
+      → ((j : ℕ) → j < n → get_or x j 0 ≡ bit_xor (get_or w j 0) (cell_in 4 bytes (c + j) * 2 ^ 0))
       → ((j : ℕ) → n ≤ j → get_or x j 0 ≡ get_or w j 0)
       → TakenTo (0 * (photon_of v).d + n) w x
-  row-taken at odd n e hn w x new old =
+  row-taken c n e hn w x new old =
       let p = photon_of v in
       let zero_row : 0 ≡ 0 * p.d = sym (zero-mul p.d) in
       taken-row (place_of p) p.s p.d (rising-places v low up) bytes m 0 n 0 (sound v low up).pos hn (first-place v low up) w w x
@@ -85,7 +85,7 @@ module _ (v : ℕ) (low : 1 ≤ v) (high : v ≤ 4) (bytes : List ℕ) (m : ℕ)
       (λ j h. new j h ∙ ap₂ (λ (k s : ℕ). bit_xor (get_or w j 0) (cell_in s bytes k * 2 ^ 0)) (here j) s4)
       old
     where
-      here : (j : ℕ) → 2 * at + odd + j ≡ m + (0 * (photon_of v).d + j)
+      here : (j : ℕ) → c + j ≡ m + (0 * (photon_of v).d + j)
       here j = omega (arith, zero-mul (photon_of v).d)
 
   pub nibbles-stepped : (q : ℕ) → (variant v).r ≡ 4 * q → 4 * m + (variant v).r ≤ 8 * length bytes → (w x y : List ℕ) → TakenTo q w x
@@ -99,11 +99,37 @@ module _ (v : ℕ) (low : 1 ≤ v) (high : v ≤ 4) (bytes : List ℕ) (m : ℕ)
 -- n cells of s bits, from the cell c of the bytes on, are added to the words w from the bit `bit` on
 abbrev Added : ℕ → List ℕ → ℕ → ℕ → ℕ → List ℕ → List ℕ → Type 0
 Added s bytes c n bit w x =
-    (length x ≡ 8) × ((j : ℕ) → j < n → get_or x j 0 ≡ bit_xor (get_or w j 0) (cell_in s bytes (c + j) * 2 ^ bit)) × ((j : ℕ) → n ≤ j → get_or x j 0 ≡ get_or w j 0)
+    ((j : ℕ) → j < n → get_or x j 0 ≡ bit_xor (get_or w j 0) (cell_in s bytes (c + j) * 2 ^ bit)) × ((j : ℕ) → n ≤ j → get_or x j 0 ≡ get_or w j 0)
+
+-- the bytes from byte k on, as the code cuts them off
+abbrev pub Past : ℕ → List ℕ → List ℕ
+Past k bytes = take (length bytes - k) (drop k bytes)
+
+pub past-is : (k : ℕ) (bytes : List ℕ) → Past k bytes ≡ drop k bytes
+past-is k bytes = take_all (length bytes - k) (drop k bytes) (omega (arith, length-drop k bytes))
+
+pub past-size : (k : ℕ) (bytes : List ℕ) → length (Past k bytes) ≡ length bytes - k
+past-size k bytes = ap length (past-is k bytes) ∙ length-drop k bytes
+
+-- which are those after u cells
+cell-past : (s : ℕ) (bytes : List ℕ) (k u : ℕ) → u * s ≡ 8 * k → (n : ℕ) → cell_in s (Past k bytes) n ≡ cell_in s bytes (u + n)
+unfolding cell_in
+cell-past s bytes k u e n =
+    let on : 8 * k + n * s ≡ (u + n) * s = omega (arith, add-mul u n s) in
+    ap (λ (Z : List Bool). value_of high_first (take s Z))
+    (rw (past-is k bytes, ← bits_in-drop high_first k bytes, drop-drop (n * s) (8 * k) (bits_in high_first bytes), on))
+
+added-past : (s : ℕ) (bytes : List ℕ) (k u : ℕ) → u * s ≡ 8 * k → (c n bit : ℕ) (w x : List ℕ) → Added s (Past k bytes) c n bit w x → Added s bytes (u + c) n bit w x
+added-past s bytes k u e c n bit w x added = (
+  λ j h.
+      let on : u + (c + j) ≡ u + c + j = omega arith in
+      added.0 j h ∙ ap (λ (y : ℕ). bit_xor (get_or w j 0) (y * 2 ^ bit)) (cell-past s bytes k u e (c + j) ∙ ap (cell_in s bytes) on),
+  added.1,
+)
 
 -- the rounds of the variant k lead from the words x to y
 abbrev Ran : ℕ → List ℕ → List ℕ → Type 0
-Ran k x y = (length y ≡ 8) × (matrix_in k y ≡ photon_rounds (photon_of k) Forward (matrix_in k x))
+Ran k x y = matrix_in k y ≡ photon_rounds (photon_of k) Forward (matrix_in k x)
 
 -- the step of a block from the nibble m of the bytes on leads from the words w to y
 abbrev Stepped : ℕ → List ℕ → ℕ → List ℕ → List ℕ → Type 0
@@ -143,37 +169,39 @@ module _ {k d q : ℕ} (R : Row k d q) {v : ℕ} (is : v ≡ k) where
       let whole : (variant v).r % 8 ≡ 0 = rw is (omega (arith, R.rate)) in
       omega (arith, even whole)
 
-  pub row-table : (table : List ℕ) (n : ℕ) → TableFor v table → n ≡ 8
-      → record { w_len : (n ≡ 8) × (1 ≤ k) × (k ≤ 4) × (d ≡ (photon_of k).d); pairs : Pairs (photon_of k) table }
-  row-table table n T len = let four : v ≤ 4 = omega (arith, R.high) in record { w_len = (len, R.low, R.high, R.size); pairs = rw is at (T.pairs four) }
+  pub row-table : (table : List ℕ) → TableFor v table → record { le_v : (1 ≤ k) × (k ≤ 4); pairs : Pairs (photon_of k) table }
+  row-table table T = let four : v ≤ 4 = omega (arith, R.high) in record { le_v = (R.low, R.high); pairs = rw is at (T.pairs four) }
 
   module _ (bytes : List ℕ) (m : ℕ) (room : 4 * m + (variant v).r ≤ 8 * length bytes) {w s : List ℕ} (copy : s ≡ w) where
     cells-stepped : (x y : List ℕ) → TakenTo k R.low R.high bytes m q s x → Ran k x y → Stepped v bytes m w y
-    cells-stepped x y u run = rw (is, ← copy) (nibbles-stepped k R.low R.high bytes m q R.rate (rw is at room) s x y u run.1)
+    cells-stepped x y u run = rw (is, ← copy) (nibbles-stepped k R.low R.high bytes m q R.rate (rw is at room) s x y u run)
 
     -- a block in row 0
-    pub one-row : (at odd : ℕ) → 2 * at + odd ≡ m → q ≤ d → (x y : List ℕ) → Added 4 bytes (2 * at + odd) q 0 s x → Ran k x y → Stepped v bytes m w y
-    one-row at odd e fits x y added run =
+    pub one-row : (b c : ℕ) → 2 * b + c ≡ m → q ≤ d → (x y : List ℕ) → Added 4 (Past b bytes) c q 0 s x → Ran k x y → Stepped v bytes m w y
+    one-row b c e fits x y block run =
+        let added = added-past 4 bytes b (2 * b) (omega arith) c q 0 s x block in
         let whole : 0 * (photon_of k).d + q ≡ q = omega (arith, zero-mul (photon_of k).d) in
         cells-stepped x y
         (subst (λ (n : ℕ). TakenTo k R.low R.high bytes m n s x) whole
-        (row-taken k R.low R.high bytes m at odd q e (omega (arith, R.size)) s x added.1 added.2)) run
+        (row-taken k R.low R.high bytes m (2 * b + c) q e (omega (arith, R.size)) s x added.0 added.1)) run
 
     -- a block that ends in row 1, with n cells there, from the bit `bit` on
-    pub two-rows : (at odd at₂ odd₂ n bit : ℕ) → 2 * at + odd ≡ m → 2 * at₂ + odd₂ ≡ m + d → q ≡ d + n → n ≤ d → 1 < d → bit ≡ place_of (photon_of k) 1
-        → (x y z : List ℕ) → Added 4 bytes (2 * at + odd) d 0 s x → Added 4 bytes (2 * at₂ + odd₂) n bit x y → Ran k y z → Stepped v bytes m w z
-    two-rows at odd at₂ odd₂ n bit e e₂ eq fits some place x y z added added₂ run =
+    pub two-rows : (b c c₂ n bit : ℕ) → 2 * b + c ≡ m → c₂ ≡ c + d → q ≡ d + n → n ≤ d → 1 < d → bit ≡ place_of (photon_of k) 1
+        → (x y z : List ℕ) → Added 4 (Past b bytes) c d 0 s x → Added 4 (Past b bytes) c₂ n bit x y → Ran k y z → Stepped v bytes m w z
+    two-rows b c c₂ n bit e e₂ eq fits some place x y z block block₂ run =
+        let added = added-past 4 bytes b (2 * b) (omega arith) c d 0 s x block in
+        let added₂ = added-past 4 bytes b (2 * b) (omega arith) c₂ n bit x y block₂ in
         let p = photon_of k in
         let size : 1 * p.d + n ≡ q = omega (arith, R.size, one-mul p.d) in
         let first : 0 * p.d + d ≡ 1 * p.d = omega (arith, R.size, one-mul p.d, zero-mul p.d) in
         cells-stepped y z
         (subst (λ (c : ℕ). TakenTo k R.low R.high bytes m c s y) size
         (taken-row (place_of p) p.s p.d (rising-places k R.low (omega (arith, R.high))) bytes m 1 n bit (omega (arith, R.size)) (omega (arith, R.size)) place s x y
-        (subst (λ (c : ℕ). TakenTo k R.low R.high bytes m c s x) first (row-taken k R.low R.high bytes m at odd d e (omega (arith, R.size)) s x added.1 added.2))
-        (λ j h. added₂.1 j h ∙ ap₂ (λ (c b : ℕ). bit_xor (get_or x j 0) (cell_in b bytes c * 2 ^ bit)) (here j) (sym (four-bits k R.low R.high)))
-        added₂.2)) run
+        (subst (λ (c : ℕ). TakenTo k R.low R.high bytes m c s x) first (row-taken k R.low R.high bytes m (2 * b + c) d e (omega (arith, R.size)) s x added.0 added.1))
+        (λ j h. added₂.0 j h ∙ ap₂ (λ (c b : ℕ). bit_xor (get_or x j 0) (cell_in b bytes c * 2 ^ bit)) (here j) (sym (four-bits k R.low R.high)))
+        added₂.1)) run
       where
-        here : (j : ℕ) → 2 * at₂ + odd₂ + j ≡ m + (1 * (photon_of k).d + j)
+        here : (j : ℕ) → 2 * b + c₂ + j ≡ m + (1 * (photon_of k).d + j)
         here j = omega (arith, R.size, one-mul (photon_of k).d)
 
 -- cells of eight bits: the variant 5, with blocks of four
@@ -182,16 +210,17 @@ unfolding variant
 row8-block v m n is room even = (rw is at room, rw is at even refl)
 
 pub one-row8 : (v : ℕ) → v ≡ 5 → (bytes : List ℕ) (m : ℕ) → 4 * m + (variant v).r ≤ 8 * length bytes → ((variant v).r % 8 ≡ 0 → m % 2 ≡ 0) → {w s : List ℕ} → s ≡ w → (x y : List ℕ)
-    → Added 8 bytes (m / 2) 4 0 s x → Ran 5 x y → Stepped v bytes m w y
+    → Added 8 (Past (m / 2) bytes) 0 4 0 s x → Ran 5 x y → Stepped v bytes m w y
 unfolding photon_of variant
-one-row8 v is bytes m room even {w} {s} copy x y added run =
+one-row8 v is bytes m room even {w} {s} copy x y block run =
+    let added = added-past 8 bytes (m / 2) (m / 2) (mul_comm (m / 2) 8) 0 4 0 s x block in
     let asked = row8-block v m (length bytes) is room even in
     rw (is, ← copy)
     (block-stepped 5 (lit≤ tt) (lit≤ tt) bytes s x y (m / 2) (4 * m) 4 (omega (arith, asked.1)) asked.0 refl
     (taken-row (place_of (photon_of 5)) 8 6 (rising-places 5 (lit≤ tt) (lit≤ tt)) bytes (m / 2) 0 4 0 (lit≤ tt) (lit≤ tt) refl s s x
     (taken_none (place_of (photon_of 5)) 8 6 bytes (m / 2) s)
-    (λ j h. added.1 j h ∙ ap (λ (c : ℕ). bit_xor (get_or s j 0) (cell_in 8 bytes (m / 2 + c) * 2 ^ 0)) (sym (zero-add j)))
-    added.2) run.1)
+    (λ j h. let on : m / 2 + 0 + j ≡ m / 2 + (0 * 6 + j) = omega arith in added.0 j h ∙ ap (λ (c : ℕ). bit_xor (get_or s j 0) (cell_in 8 bytes c * 2 ^ 0)) on)
+    added.1) run)
 
 -- ---- the columns of an image, row by row
 
@@ -207,14 +236,28 @@ none-at zero k = refl
 none-at (suc n) zero = refl
 none-at (suc n) (suc k) = none-at n k
 
--- a matrix of four-bit cells has five to eight rows, as many as the code lays out
-pub four-size : (v d : ℕ) → 1 ≤ v → v ≤ 4 → d ≡ (photon_of v).d → (5 ≤ d) × (d ≤ 8)
-unfolding photon_of variant
-four-size v d l h e =
-    rw e (one-to-four (λ k. (5 ≤ (photon_of k).d) × ((photon_of k).d ≤ 8)) (lit≤ tt, lit≤ tt) (lit≤ tt, lit≤ tt) (lit≤ tt, lit≤ tt) (lit≤ tt, lit≤ tt) v l h)
+-- a matrix has five to eight rows, and one of cells of eight bits has six
+abbrev Shape : ℕ → Type 0
+Shape v = (5 ≤ (photon_of v).d) × ((photon_of v).d ≤ 8) × ((photon_of v).s ≡ 8 → (photon_of v).d ≡ 6)
 
-pub row-place4 : (v d i bit : ℕ) → 1 ≤ v → v ≤ 4 → d ≡ (photon_of v).d → bit ≡ place_in d 4 i → bit ≡ place_of (photon_of v) i
-row-place4 v d i bit l h e eb = rw (four-bits v l h, ← e) eb
+shapes : (v : ℕ) → 1 ≤ v → v ≤ 5 → Shape v
+unfolding photon_of variant
+shapes = one-to-five Shape (lit≤ tt, lit≤ tt, λ e. absurd (omega arith)) (lit≤ tt, lit≤ tt, λ e. absurd (omega arith)) (lit≤ tt, lit≤ tt, λ e. absurd (omega arith)) (lit≤ tt, lit≤ tt, λ e. absurd (omega arith)) (lit≤ tt, lit≤ tt, λ e. refl)
+
+pub shape-of : (v d s : ℕ) → 1 ≤ v → v ≤ 5 → d ≡ (photon_of v).d → s ≡ (photon_of v).s → (5 ≤ d) × (d ≤ 8) × (s ≡ 8 → d ≡ 6)
+shape-of v d s low high ed es = rw (ed, es) (shapes v low high)
+
+-- it fits the bytes of a state
+state-rooms : (v : ℕ) → 1 ≤ v → v ≤ 5 → (photon_of v).s * ((photon_of v).d * (photon_of v).d) ≤ 288
+unfolding photon_of variant
+state-rooms = one-to-five (λ v. (photon_of v).s * ((photon_of v).d * (photon_of v).d) ≤ 288) (lit≤ tt) (lit≤ tt) (lit≤ tt) (lit≤ tt) (lit≤ tt)
+
+-- and so do the cells of its first rows
+pub row-room : (v d s : ℕ) → 1 ≤ v → v ≤ 5 → d ≡ (photon_of v).d → s ≡ (photon_of v).s → (i : ℕ) → i < d → s * (i * d + d) ≤ 288
+row-room v d s low high ed es i h =
+    let next : i + 1 ≤ d = omega arith in
+    let rows : i * d + d ≤ d * d = omega (arith, mul-le-mul_right d next, add-mul i 1 d, one-mul d) in
+    omega (arith, mul-le-mul_left s rows, rw (← ed, ← es) at (state-rooms v low high))
 
 module _ (v : ℕ) (low : 1 ≤ v) (high : v ≤ 5) (bytes : List ℕ) where
   pub rows_none : (w : List ℕ) → Rows v bytes 0 w w

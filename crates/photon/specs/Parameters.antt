@@ -6,6 +6,8 @@ use Rattle.standard.specs.declared.Direction.TheVariants.{Forward, Backward}
 use Rattle.standard.specs.Photon.{PhotonParameters}
 use Rattle.standard.specs.Families.{photon, spongent, Family, sponge, lesamnta}
 use Rattle.standard.specs.Variants.{variant}
+use Rattle.photon.specs.declared.Cell.{Cell}
+use Rattle.photon.specs.declared.Cell.TheVariants.{Nibble, Byte}
 
 abbrev no_parameters : PhotonParameters
 no_parameters = record { d = 0; s = 0; poly = 0; box = []; unbox = []; ic = []; z = []; unz = [] }
@@ -19,6 +21,11 @@ photon_in lesamnta = no_parameters
 -- the parameters of the variant v, 1 to 5
 unfoldable pub photon_of : ℕ → PhotonParameters
 photon_of v = photon_in (variant v).family
+
+-- the bits of a cell
+abbrev pub width : Cell → ℕ
+width Nibble = 4
+width Byte = 8
 
 -- ---- what a direction takes of them
 

@@ -2,11 +2,12 @@
 // the block step by look-ups in `words`.
 #![tactic(auto)]
 
-ghost use Rattle.std.specs.Prelude.{◌≡◌, ℕ, ◌-◌, ◌≤◌, ◌<◌, get_or};
+ghost use Rattle.std.specs.Prelude.{◌≡◌, ℕ, ◌+◌, ◌-◌, ◌*◌, ◌^◌, ◌≤◌, ◌<◌, length, get_or};
 ghost use Rattle.standard.specs.Rounds.{in_turn};
 ghost use Rattle.standard.specs.ForCode.{cells};
 ghost use Rattle.standard.specs.Photon.{round_constants};
-ghost use Rattle.photon.specs.Parameters.{photon_of, box_of};
+ghost use Rattle.octets.specs.Cells.{cell_in};
+ghost use Rattle.photon.specs.Parameters.{photon_of, box_of, width};
 
 pub mod steps;
 pub mod words;
@@ -19,11 +20,14 @@ use tables::{AES, PRESENT, UNAES, UNPRESENT};
 // after them.
 pub const STATE_BYTES: usize = 36;
 
+// How wide a cell is: two cells to a byte, the first high, or one.
+#[derive(Clone, Copy)]
+enum Cell {
+    Nibble,
+    Byte,
+}
+
 // The tables below have an entry for each variant, 1 to 5. A row of fewer than eight cells is filled with zeros.
-const SIZE: [usize; 5] = [5, 6, 7, 8, 6];
-
-const CELL_BITS: [usize; 5] = [4, 4, 4, 4, 8];
-
 const ROW: [[u8; 8]; 5] = [
     [0, 1, 3, 6, 4, 0, 0, 0],
     [0, 1, 3, 7, 6, 4, 0, 0],
@@ -51,15 +55,32 @@ pub fn size_of(v: usize) -> usize
     requires { (1 ≤ v) × (v ≤ 5) }
     ensures { result ≡ (photon_of v).d }
 {
-    SIZE[v - 1]
+    match v {
+        1 => 5,
+        2 => 6,
+        3 => 7,
+        4 => 8,
+        _ => 6,
+    }
 }
 
-// The bits of a cell.
-fn cell_bits(v: usize) -> usize
+// How wide the cells of a variant are.
+fn cell_kind(v: usize) -> Cell
     requires { (1 ≤ v) × (v ≤ 5) }
-    ensures { result ≡ (photon_of v).s }
+    ensures { width result ≡ (photon_of v).s }
 {
-    CELL_BITS[v - 1]
+    if v == 5 { Cell::Byte } else { Cell::Nibble }
+}
+
+// The n-th cell of the bytes.
+fn cell_of(cell: Cell, bytes: &[u8], n: usize) -> u8
+    requires { width cell * (n + 1) ≤ 8 * length bytes.now }
+    ensures { (result ≡ cell_in (width cell) bytes.now n) × (result < 2 ^ width cell) }
+{
+    match cell {
+        Cell::Nibble => octets::nibbles::nibble_of(bytes[n / 2], n),
+        Cell::Byte => bytes[n],
+    }
 }
 
 // The entries of a nibble's table, and zeros after them: a table that any byte can index.
@@ -67,11 +88,7 @@ fn widened(table: [u8; 16]) -> [u8; 256]
     ensures { (k : ℕ) → get_or result k 0 ≡ get_or table k 0 }
 {
     let mut out = [0u8; 256];
-    let mut k = 0;
-    while k < 16 {
-        out[k] = table[k];
-        k += 1;
-    }
+    out[..16].copy_from_slice(&table);
     out
 }
 
@@ -80,19 +97,11 @@ fn box_of(v: usize, way: Direction) -> [u8; 256]
     requires { (1 ≤ v) × (v ≤ 5) }
     ensures { (k : ℕ) → get_or result k 0 ≡ get_or (box_of (photon_of v) way) k 0 }
 {
-    match way {
-        Direction::Forward => {
-            if v == 5 {
-                return AES;
-            }
-            widened(PRESENT)
-        }
-        Direction::Backward => {
-            if v == 5 {
-                return UNAES;
-            }
-            widened(UNPRESENT)
-        }
+    match (way, v) {
+        (Direction::Forward, 5) => AES,
+        (Direction::Forward, _) => widened(PRESENT),
+        (Direction::Backward, 5) => UNAES,
+        (Direction::Backward, _) => widened(UNPRESENT),
     }
 }
 

@@ -12,11 +12,10 @@ ghost use Rattle.standard.specs.Families.{state_in};
 ghost use Rattle.standard.specs.Variants.{variant};
 ghost use Rattle.standard.specs.Layout.{state_room, packed_state};
 ghost use Rattle.octets.specs.Cells.{cell_in};
-ghost use Rattle.photon.specs.Parameters.{photon_of, box_of, rotation_from, distance, shift_factor};
+ghost use Rattle.photon.specs.Parameters.{photon_of, box_of, width, rotation_from, distance, shift_factor};
 ghost use Rattle.photon.specs.Rows.{lane, lanes, column_from, odd_sum, nth, Mixing, NoneFrom, SmallRows};
 
-use crate::{STATE_BYTES, UNZ, Z};
-use octets::widen;
+use crate::{Cell, STATE_BYTES, UNZ, Z};
 use standard::Direction;
 
 // The steps work on all eight rows and columns, whatever the size of the matrix: a loop of a fixed number of turns is
@@ -26,11 +25,8 @@ fn sub_row(table: &[u8; 256], row: [u8; 8]) -> [u8; 8]
     ensures { (j : ℕ) → j < 8 → get_or result j 0 ≡ get_or table.now (get_or row j 0) 0 }
 {
     let mut out = row;
-    let mut j = 0;
-    while j < 8 {
-        let k = widen::u8_to_usize(out[j]);
-        out[j] = table[k];
-        j += 1;
+    for cell in out.iter_mut() {
+        *cell = table[usize::from(*cell)];
     }
     out
 }
@@ -39,10 +35,8 @@ fn sub_cells(table: &[u8; 256], g: [[u8; 8]; 8]) -> [[u8; 8]; 8]
     ensures { (i j : ℕ) → i < 8 → j < 8 → at result i j ≡ get_or table.now (at g i j) 0 }
 {
     let mut out = g;
-    let mut i = 0;
-    while i < 8 {
-        out[i] = sub_row(table, out[i]);
-        i += 1;
+    for row in out.iter_mut() {
+        *row = sub_row(table, *row);
     }
     out
 }
@@ -51,9 +45,7 @@ fn sub_cells(table: &[u8; 256], g: [[u8; 8]; 8]) -> [[u8; 8]; 8]
 fn with_first(row: [u8; 8], x: u8) -> [u8; 8]
     ensures { (j : ℕ) → j < 8 → get_or result j 0 ≡ in_first j (bit_xor (get_or row 0 0) x) (get_or row j 0) }
 {
-    let cells = packed(row);
-    let first = widen::u8_to_u64(x);
-    unpacked(cells ^ first)
+    unpacked(packed(row) ^ u64::from(x))
 }
 
 fn add_constants(g: [[u8; 8]; 8], rc: u8, ic: [u8; 8]) -> [[u8; 8]; 8]
@@ -61,10 +53,8 @@ fn add_constants(g: [[u8; 8]; 8], rc: u8, ic: [u8; 8]) -> [[u8; 8]; 8]
         ≡ in_first j (bit_xor (at g i 0) (bit_xor rc (get_or ic i 0))) (at g i j) }
 {
     let mut out = g;
-    let mut i = 0;
-    while i < 8 {
-        out[i] = with_first(out[i], rc ^ ic[i]);
-        i += 1;
+    for (i, row) in out.iter_mut().enumerate() {
+        *row = with_first(*row, rc ^ ic[i]);
     }
     out
 }
@@ -73,33 +63,13 @@ fn add_constants(g: [[u8; 8]; 8], rc: u8, ic: [u8; 8]) -> [[u8; 8]; 8]
 fn packed(row: [u8; 8]) -> u64
     ensures { (j : ℕ) → j < 8 → lane j result ≡ get_or row j 0 }
 {
-    let mut out: u64 = 0;
-    let mut j = 0;
-    while j < 8 {
-        out = out * 256 + widen::u8_to_u64(row[7 - j]);
-        j += 1;
-    }
-    out
-}
-
-fn low_cell(x: u64) -> u8
-    ensures { result ≡ x % 256 }
-{
-    (x % 256) as u8
+    u64::from_le_bytes(row)
 }
 
 fn unpacked(x: u64) -> [u8; 8]
     ensures { (j : ℕ) → j < 8 → get_or result j 0 ≡ lane j x }
 {
-    let mut out = [0u8; 8];
-    let mut rest = x;
-    let mut j = 0;
-    while j < 8 {
-        out[j] = low_cell(rest);
-        rest = rest / 256;
-        j += 1;
-    }
-    out
+    x.to_le_bytes()
 }
 
 // The first d cells of a row rotated left by `by` places.
@@ -117,9 +87,7 @@ fn rotate_row(row: [u8; 8], d: usize, by: usize) -> [u8; 8]
     requires d_bound { d ≤ 8 }
     ensures { (j : ℕ) → j < d → get_or result j 0 ≡ get_or row ((j + by) % d) 0 }
 {
-    let x = packed(row);
-    let y = rotated(x, d, by);
-    unpacked(y)
+    unpacked(rotated(packed(row), d, by))
 }
 
 // The row from which the others count how far they rotate: row 0 or, for the inverse, the row past the last.
@@ -152,11 +120,9 @@ fn shift_rows(g: [[u8; 8]; 8], d: usize, way: Direction) -> [[u8; 8]; 8]
 {
     let from = rotation_from(d, way);
     let mut out = g;
-    let mut i = 1;
-    while i < 8 {
+    for i in 1..8 {
         let by = rotation_of(d, i, from);
         out[i] = rotate_row(out[i], d, by);
-        i += 1;
     }
     out
 }
@@ -192,11 +158,9 @@ fn bit_sum(rows: &[u64; 16], n: usize, y: u64) -> u64
 {
     let mut sum: u64 = 0;
     let mut rest = y;
-    let mut i = 0;
-    while i < 8 {
-        sum = sum ^ low_bit(rest, rows[n + i]);
-        rest = rest / 256;
-        i += 1;
+    for i in 0..8 {
+        sum ^= low_bit(rest, rows[n + i]);
+        rest /= 256;
     }
     sum
 }
@@ -210,9 +174,7 @@ fn row_sum(rows: &[u64; 16], n: usize, s: u8, poly: u16, z: u64) -> u64
         → lane j result ≡ dot (2 ^ s) poly (lanes d z) (column_from d rows.now n j) }
 {
     let mut sum: u64 = 0;
-    let mut b: u8 = 8;
-    while 0 < b {
-        b -= 1;
+    for b in (0u8..8).rev() {
         let twice = doubled(sum, s, poly);
         sum = bit_sum(rows, n, z >> b) ^ twice;
     }
@@ -223,10 +185,8 @@ fn packed_rows(g: [[u8; 8]; 8]) -> [u64; 16]
     ensures { (i j : ℕ) → i < 8 → j < 8 → lane j (get_or result i 0) ≡ at g i j }
 {
     let mut out = [0u64; 16];
-    let mut i = 0;
-    while i < 8 {
+    for i in 0..8 {
         out[i] = packed(g[i]);
-        i += 1;
     }
     out
 }
@@ -237,10 +197,8 @@ fn unpacked_rows(rows: [u64; 16], d: usize) -> [[u8; 8]; 8]
     ensures { (i j : ℕ) → i < 8 → j < 8 → at result i j ≡ lane j (get_or rows (d + i) 0) }
 {
     let mut out = [[0u8; 8]; 8];
-    let mut i = 0;
-    while i < 8 {
+    for i in 0..8 {
         out[i] = unpacked(rows[d + i]);
-        i += 1;
     }
     out
 }
@@ -251,11 +209,8 @@ fn flipped(g: [[u8; 8]; 8], d: usize) -> [[u8; 8]; 8]
     ensures { window d result ≡ reverse (window d g) }
 {
     let mut out = g;
-    let mut i = 0;
-    while i < d {
-        let k = d - 1 - i;
-        out[i] = g[k];
-        i += 1;
+    for i in 0..d {
+        out[i] = g[d - 1 - i];
     }
     out
 }
@@ -269,10 +224,8 @@ fn mix_columns(g: [[u8; 8]; 8], d: usize, s: u8, poly: u16, z: u64) -> [[u8; 8];
     ensures { window d result ≡ mix_columns (2 ^ s) poly d (lanes d z) (window d g) }
 {
     let mut rows = packed_rows(g);
-    let mut n = 0;
-    while n < d {
+    for n in 0..d {
         rows[n + d] = row_sum(&rows, n, s, poly, z);
-        n += 1;
     }
     unpacked_rows(rows, d)
 }
@@ -286,19 +239,13 @@ fn mix_columns_of(v: usize, g: [[u8; 8]; 8]) -> [[u8; 8]; 8]
         ≡ mix_columns (2 ^ (photon_of v).s) (photon_of v).poly (photon_of v).d (photon_of v).z
         (window (photon_of v).d g) }
 {
-    if v == 1 {
-        return mix_columns(g, 5, 4, 0x13, Z[0]);
+    match v {
+        1 => mix_columns(g, 5, 4, 0x13, Z[0]),
+        2 => mix_columns(g, 6, 4, 0x13, Z[1]),
+        3 => mix_columns(g, 7, 4, 0x13, Z[2]),
+        4 => mix_columns(g, 8, 4, 0x13, Z[3]),
+        _ => mix_columns(g, 6, 8, 0x11b, Z[4]),
     }
-    if v == 2 {
-        return mix_columns(g, 6, 4, 0x13, Z[1]);
-    }
-    if v == 3 {
-        return mix_columns(g, 7, 4, 0x13, Z[2]);
-    }
-    if v == 4 {
-        return mix_columns(g, 8, 4, 0x13, Z[3]);
-    }
-    mix_columns(g, 6, 8, 0x11b, Z[4])
 }
 
 // The same with the coefficients of the inverse.
@@ -309,13 +256,11 @@ fn mix_back_of(v: usize, g: [[u8; 8]; 8]) -> [[u8; 8]; 8]
         ≡ mix_columns (2 ^ (photon_of v).s) (photon_of v).poly (photon_of v).d (photon_of v).unz
         (window (photon_of v).d g) }
 {
-    if v <= 3 {
-        return mix_columns_of(v, g);
+    match v {
+        4 => mix_columns(g, 8, 4, 0x13, UNZ[0]),
+        5 => mix_columns(g, 6, 8, 0x11b, UNZ[1]),
+        _ => mix_columns_of(v, g),
     }
-    if v == 4 {
-        return mix_columns(g, 8, 4, 0x13, UNZ[0]);
-    }
-    mix_columns(g, 6, 8, 0x11b, UNZ[1])
 }
 
 // The inverse of MixColumnsSerial: the same on the rows from the bottom up, with its own coefficients.
@@ -327,8 +272,7 @@ fn unmix_columns_of(v: usize, g: [[u8; 8]; 8]) -> [[u8; 8]; 8]
         (window (photon_of v).d g) }
 {
     let d = crate::size_of(v);
-    let f = flipped(g, d);
-    let m = mix_back_of(v, f);
+    let m = mix_back_of(v, flipped(g, d));
     flipped(m, d)
 }
 
@@ -376,65 +320,38 @@ fn rounds(v: usize, g: [[u8; 8]; 8], way: Direction) -> [[u8; 8]; 8]
     let ic = crate::row_constants(v);
     let table = crate::box_of(v, way);
     let mut out = g;
-    let mut n = 0;
-    while n < 12 {
+    for n in 0..12 {
         let rc = crate::round_constant(n, way);
+        // By a name of its own: `out = round_with(..)` gets no proof, since the borrow checker does not cover a result that
+        // is laid in an array.
         let next = round_with(v, d, ic, &table, out, rc, way);
         out = next;
-        n += 1;
     }
     out
 }
 
 // ---- the matrix in bytes
 
-// The n-th cell of w bits, 4 or 8: two cells to a byte, the first high, or one.
-fn cell_of(w: usize, s: [u8; STATE_BYTES], n: usize) -> u8
-    requires fact { (w ≡ 4) ⊎ (w ≡ 8) }
-    requires n_bound { n < 64 }
-    ensures { result ≡ cell_in w s n }
-{
-    if w == 8 {
-        if STATE_BYTES <= n {
-            return 0;
-        }
-        return s[n];
-    }
-    let k = n / 2;
-    if n % 2 == 0 {
-        return s[k] / 16;
-    }
-    s[k] % 16
-}
-
 // d cells from the cell `base` on.
-fn read_row(w: usize, s: [u8; STATE_BYTES], d: usize, base: usize) -> [u8; 8]
-    requires fact { (w ≡ 4) ⊎ (w ≡ 8) }
-    requires d_bound { (d ≤ 8) × (base ≤ 56) }
-    ensures { (j : ℕ) → j < d → get_or result j 0 ≡ cell_in w s (base + j) }
+fn read_row(cell: Cell, s: [u8; STATE_BYTES], d: usize, base: usize) -> [u8; 8]
+    requires { (d ≤ 8) × (width cell * (base + d) ≤ 288) }
+    ensures { (j : ℕ) → j < d → get_or result j 0 ≡ cell_in (width cell) s (base + j) }
 {
     let mut out = [0u8; 8];
-    let mut j = 0;
-    while j < d {
-        out[j] = cell_of(w, s, base + j);
-        j += 1;
+    for j in 0..d {
+        out[j] = crate::cell_of(cell, &s, base + j);
     }
     out
 }
 
 // The matrix of d rows and columns that the bytes hold.
-fn grid_of(w: usize, s: [u8; STATE_BYTES], d: usize) -> [[u8; 8]; 8]
-    requires fact { (w ≡ 4) ⊎ (w ≡ 8) }
-    requires d_bound { d ≤ 8 }
-    ensures { window d result ≡ matrix_of d w (bits_in high_first s) }
+fn grid_of(cell: Cell, s: [u8; STATE_BYTES], d: usize) -> [[u8; 8]; 8]
+    requires { (d ≤ 8) × (width cell * (d * d) ≤ 288) }
+    ensures { window d result ≡ matrix_of d (width cell) (bits_in high_first s) }
 {
     let mut out = [[0u8; 8]; 8];
-    let mut base = 0;
-    let mut i = 0;
-    while i < d {
-        out[i] = read_row(w, s, d, base);
-        base += d;
-        i += 1;
+    for i in 0..d {
+        out[i] = read_row(cell, s, d, i * d);
     }
     out
 }
@@ -453,33 +370,27 @@ fn cell_at(g: [[u8; 8]; 8], d: usize, n: usize) -> u8
 }
 
 // The k-th byte of a matrix's image.
-fn byte_of(w: usize, g: [[u8; 8]; 8], d: usize, k: usize) -> u8
-    requires fact { (w ≡ 4) ⊎ (w ≡ 8) }
+fn byte_of(cell: Cell, g: [[u8; 8]; 8], d: usize, k: usize) -> u8
     requires d_nonzero { (0 < d) × (d ≤ 8) }
-    requires small { Small d (2 ^ w) g }
+    requires small { Small d (2 ^ width cell) g }
     requires k_lt_state_room { k < state_room }
-    ensures { result ≡ get_or (pack high_first state_room (bits_of_matrix w (window d g))) k 0 }
+    ensures { result ≡ get_or (pack high_first state_room (bits_of_matrix (width cell) (window d g))) k 0 }
 {
-    if w == 8 {
-        return cell_at(g, d, k);
+    match cell {
+        Cell::Nibble => cell_at(g, d, k * 2) * 16 + cell_at(g, d, k * 2 + 1),
+        Cell::Byte => cell_at(g, d, k),
     }
-    let a = cell_at(g, d, k * 2);
-    let b = cell_at(g, d, k * 2 + 1);
-    a * 16 + b
 }
 
 // The bytes that hold the matrix of d rows and columns.
-fn bytes_of(w: usize, g: [[u8; 8]; 8], d: usize) -> [u8; STATE_BYTES]
-    requires fact { (w ≡ 4) ⊎ (w ≡ 8) }
+fn bytes_of(cell: Cell, g: [[u8; 8]; 8], d: usize) -> [u8; STATE_BYTES]
     requires d_nonzero { (0 < d) × (d ≤ 8) }
-    requires small { Small d (2 ^ w) g }
-    ensures { result ≡ pack high_first state_room (bits_of_matrix w (window d g)) }
+    requires small { Small d (2 ^ width cell) g }
+    ensures { result ≡ pack high_first state_room (bits_of_matrix (width cell) (window d g)) }
 {
     let mut out = [0u8; STATE_BYTES];
-    let mut k = 0;
-    while k < STATE_BYTES {
-        out[k] = byte_of(w, g, d, k);
-        k += 1;
+    for (k, byte) in out.iter_mut().enumerate() {
+        *byte = byte_of(cell, g, d, k);
     }
     out
 }
@@ -491,8 +402,8 @@ pub fn permuted(v: u8, s: [u8; STATE_BYTES], way: Direction) -> [u8; STATE_BYTES
 {
     let n = v as usize;
     let d = crate::size_of(n);
-    let w = crate::cell_bits(n);
-    let g = grid_of(w, s, d);
+    let cell = crate::cell_kind(n);
+    let g = grid_of(cell, s, d);
     let h = rounds(n, g, way);
-    bytes_of(w, h, d)
+    bytes_of(cell, h, d)
 }

@@ -9,8 +9,7 @@ use lib.ListN.{length, drop, get_or}
 use lib.Seq.{set-get_or}
 use borrow.Author.Tests.{lt-ltb, le-ltb, eq-eqb}
 use Rattle.answers.specs.declared.Refusal.TheVariants.{NoBlock}
-use Rattle.answers.specs.declared.Status.{Status}
-use Rattle.answers.specs.declared.Status.TheVariants.{Done, Refused}
+use Rattle.answers.specs.Refusals.{Status, Done, Refused}
 use Rattle.answers.specs.Checks.{first_refusal}
 use Rattle.answers.specs.Outputs.{written}
 use Rattle.answers.proofs.Rows.{row-second}

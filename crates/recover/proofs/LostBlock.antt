@@ -8,7 +8,7 @@ use mathlib.Core.Logic.{◌↔◌, ◌⊎◌, inl, inr, ⊎_elim}
 use Prim.Native.Nat.{ℕ, ◌-◌}
 use lib.ListN.{length, drop, replicate, length-drop}
 use Rattle.answers.specs.declared.Refusal.TheVariants.{NoBlock}
-use Rattle.answers.specs.declared.Status.TheVariants.{Done, Refused}
+use Rattle.answers.specs.Refusals.{Done, Refused}
 use Rattle.answers.specs.Checks.{first_refusal}
 use Rattle.answers.proofs.Statuses.{not_done}
 use Rattle.answers.proofs.Rows.{row-second, row-both}

@@ -8,7 +8,7 @@ use lib.Dec.{ltb, eqb}
 use lib.ListN.{length}
 use borrow.Author.Tests.{lt-ltb, ne_eqb}
 use Rattle.answers.specs.declared.Refusal.TheVariants.{NotSponge}
-use Rattle.answers.specs.declared.Status.TheVariants.{Refused}
+use Rattle.answers.specs.Refusals.{Refused}
 use Rattle.answers.specs.Checks.{first_refusal}
 use Rattle.answers.proofs.Statuses.{not_done}
 use Rattle.answers.proofs.Rows.{row_first, row-second}

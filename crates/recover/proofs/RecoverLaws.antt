@@ -11,8 +11,7 @@ use lib.ListN.{length, take, drop, get_or, replicate, length-drop}
 use lib.Seq.{length-take-le, take-add, drop-append-le}
 use borrow.Author.Tests.{ltb-true, ltb-false, not-true}
 use Rattle.answers.specs.declared.Refusal.TheVariants.{NoBlock}
-use Rattle.answers.specs.declared.Status.{Status}
-use Rattle.answers.specs.declared.Status.TheVariants.{Done, Refused}
+use Rattle.answers.specs.Refusals.{Status, Done, Refused}
 use Rattle.answers.specs.Checks.{Check, first_refusal}
 use Rattle.answers.specs.Outputs.{written}
 use Rattle.answers.proofs.Statuses.{kept}

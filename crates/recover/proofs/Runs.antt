@@ -6,8 +6,6 @@ use mathlib.Core.List.{List, [], ◌∷◌, ◌++◌, append_assoc}
 use Prim.Native.Nat.{ℕ, suc, ◌+◌, ◌-◌, ◌*◌, ◌/◌, ◌^◌, ◌≤◌, ◌<◌}
 use native.Mathlib.Numerals.{add-one}
 use native.Mathlib.Omega.{arith}
-use mir.Syntax.{w64}
-use mir.Val.{Fits}
 use lib.ListN.{length, take, drop, get_or, replicate, length-append, length-drop, length-replicate}
 use lib.Seq.{drop-cons, drop-length, take-take, take-append-le, drop-append-le}
 use Rattle.standard.specs.Bits.{Order, high_first, bits_in, unpack, pack, filled, xor_into}
@@ -27,7 +25,7 @@ use Rattle.chain.specs.Holding.{block_in, Holds}
 use Rattle.chain.specs.TakenBack.{permuted_state, unstep, unrun}
 use Rattle.chain.proofs.TakenBack.{unrun-one, unrun-none, unrun-length, wanted-length}
 use Rattle.chain.specs.Blocks.{none_held, bits_after, block_from, first_blocks, after_blocks}
-use Rattle.chain.specs.declared.blocks.Held.{Held}
+use Rattle.chain.specs.declared.stretch.Held.{Held}
 use Rattle.chain.proofs.BlockRows.{with_one, length-first, first-take, marked-at, marked-blocks, held_then-alone}
 use Rattle.chain.specs.Padding.{data_blocks, length_blocks}
 use Rattle.chain.proofs.LastBlocks.{ending-blocks, place-marked, count_most}
@@ -37,37 +35,39 @@ use Rattle.chain.proofs.States.{stored, stored-ready}
 use Rattle.recover.specs.Difference.{state_before, state_behind, between, difference}
 use Rattle.recover.proofs.Searching.{between-sponge}
 use Rattle.standard.specs.Lesamnta.{cipher}
-use Rattle.chain.specs.MessageBytes.{message_in, HoldsMessage}
+use Rattle.chain.specs.declared.split.Split.{Split}
+use Rattle.chain.specs.Splits.{message_held}
 use Rattle.chain.proofs.MessageLaws.{held-length}
 
 -- the blocks of a message of n bits that the code holds
-pub count_held : (v : ℕ) {front : List ℕ} {last n count : ℕ} → HoldsMessage front last n → count ≡ block_count (variant v) n → count ≡ length (blocks_of (variant v) (message_in front last n))
-count_held v h e = e ∙ ap (block_count (variant v)) (sym (held-length h)) ∙ sym (block-count (variant v) _)
+pub count_held : (v : ℕ) (m : Split) {count : ℕ} → count ≡ block_count (variant v) m.bits → count ≡ length (blocks_of (variant v) (message_held m))
+count_held v m e = e ∙ ap (block_count (variant v)) (sym (held-length m.holds)) ∙ sym (block-count (variant v) _)
 
-module _ (v : ℕ) (k : known v ≡ true) {front : List ℕ} {last n : ℕ} (h : HoldsMessage front last n) where
+-- what is held and the bytes after it are a message's, nothing held before it
+abbrev pub AllOf : Split → Held → List ℕ → Type 0
+AllOf m held bytes = (held ≡ none_held) × (bytes ≡ m.front.now ++ m.last ∷ [])
+
+module _ (v : ℕ) (k : known v ≡ true) (m : Split) where
   abbrev H : Variant
   H = variant v
 
   abbrev M : List Bool
-  M = message_in front last n
+  M = message_held m
 
   abbrev bytes : List ℕ
-  bytes = front ++ last ∷ []
+  bytes = m.front.now ++ m.last ∷ []
 
   abbrev bs : List (List Bool)
-  bs = blocks_of (variant v) (message_in front last n)
+  bs = blocks_of (variant v) (message_held m)
 
   -- there are few enough
   pub few : length bs ≤ 2 ^ 32
-  few = omega (arith, block-count H M, count_most v k (length M), held-length h, h.short)
+  few = omega (arith, block-count H M, count_most v k (length M), held-length m.holds, m.holds.short)
 
   -- and the place of each, in half bytes, is far below the limits of the machine's numbers
   module _ (q : ℕ) (eq : q ≡ H.r / 4) (j : ℕ) (l : j ≤ length bs) where
     pub place-low : j * q ≤ 2 ^ 40
     place-low = place-le v k q eq j (omega (arith, few))
-
-    pub place-fits : Fits w64 (j * q)
-    place-fits = omega (arith, place-low)
 
   -- ---- the blocks of the padded message before the length's are those of the bytes
 
@@ -80,18 +80,18 @@ module _ (v : ℕ) (k : known v ≡ true) {front : List ℕ} {last n : ℕ} (h :
       ap (take j) (ending-blocks v k M n refl)
       ∙ take-append-le j (first_blocks H.r c (with_one M)) (length_blocks H n) (omega (arith, length-first H.r (with_one M) c))
       ∙ first-take H.r (with_one M) c j among
-      ∙ sym (marked-blocks H.r j M bytes h.marked)
+      ∙ sym (marked-blocks H.r j M bytes m.holds.marked)
 
-  -- ---- run forward, with nothing held before the message
+  -- ---- run forward
 
-  alone : (held : Held) → held ≡ none_held → bits_after held bytes ≡ bits_in high_first bytes
-  alone held eh = ap (λ (x : Held). bits_after x bytes) eh ∙ held_then-alone _ bytes
+  alone : {held : Held} {all : List ℕ} → AllOf m held all → bits_after held all ≡ bits_in high_first bytes
+  alone is = ap₂ bits_after is.0 is.1 ∙ held_then-alone _ bytes
 
-  run-before : (s x : List ℕ) (held : Held) → held ≡ none_held → (j : ℕ) → j < length bs → s ≡ packed_state H (start_state H)
-      → x ≡ packed_state H (after_blocks H (state_in H s) held bytes j) → x ≡ packed_state H (run H (start_state H) (take j bs))
-  run-before s x held eh j l es ex =
+  run-before : (s x : List ℕ) {held : Held} {all : List ℕ} → AllOf m held all → (j : ℕ) → j < length bs → s ≡ packed_state H (start_state H)
+      → x ≡ packed_state H (after_blocks H (state_in H s) held all j) → x ≡ packed_state H (run H (start_state H) (take j bs))
+  run-before s x is j l es ex =
       ex
-      ∙ ap₂ (λ (y z : List Bool). packed_state H (run H y (first_blocks H.r j z))) (stored v k s (start_state H) (streams v k).start-length es) (alone held eh)
+      ∙ ap₂ (λ (y z : List Bool). packed_state H (run H y (first_blocks H.r j z))) (stored v k s (start_state H) (streams v k).start-length es) (alone is)
       ∙ ap (λ (z : List (List Bool)). packed_state H (run H (start_state H) z)) (sym (first-blocks j l))
 
   -- ---- of a sponge, taken back from the state e
@@ -105,7 +105,7 @@ module _ (v : ℕ) (k : known v ≡ true) {front : List ℕ} {last n : ℕ} (h :
     row = ap (λ (p : List Bool). whole_blocks H.r (M ++ p)) (padding-sponge H (is-sponge v q) (length M))
 
     block_at : (j : ℕ) → j < length bs → get_or bs j [] ≡ filled H.r (drop (j * H.r) (bits_in high_first bytes))
-    block_at j l = ap (λ (x : List (List Bool)). get_or x j []) row ∙ marked-at H.r (streams v k).rate-pos M bytes h.marked j (omega (arith, count))
+    block_at j l = ap (λ (x : List (List Bool)). get_or x j []) row ∙ marked-at H.r (streams v k).rate-pos M bytes m.holds.marked j (omega (arith, count))
 
     -- the state before block j
     abbrev before : ℕ → List Bool
@@ -117,20 +117,18 @@ module _ (v : ℕ) (k : known v ≡ true) {front : List ℕ} {last n : ℕ} (h :
     pub back_start : (j : ℕ) → j ≡ length bs → e ≡ before j
     back_start j p = sym (ap before p ∙ ap (unrun H e) (drop-length bs) ∙ unrun-none H (is-sponge v q) e)
 
-    -- the same place, as the loop counts it before and after a turn
-    pub back_at : (i j : ℕ) → i ≡ j → (s : List ℕ) → s ≡ packed_state H (before i) → s ≡ packed_state H (before j)
-    back_at i j p s z = z ∙ ap (λ (n : ℕ). packed_state H (before n)) p
-
     pub back-ready : (j : ℕ) (s : List ℕ) → s ≡ packed_state H (before j) → Holds v s
     back-ready j s z = stored-ready v k s (before j) (before-size j) z
 
-    pub back_more : (w : ℕ) → w ≡ H.r / 4 → (j : ℕ) (s x next : List ℕ) (held : Held) → held ≡ none_held → j < length bs → s ≡ packed_state H (before (j + 1))
-        → x ≡ packed_block (block_from held bytes (j * w) w)
+    -- the state before block i, with block j in front of it taken back
+    pub back_more : (w : ℕ) → w ≡ H.r / 4 → (i j : ℕ) → i ≡ j + 1 → (s x next : List ℕ) {held : Held} {all : List ℕ} → AllOf m held all → j < length bs → s ≡ packed_state H (before i)
+        → x ≡ packed_block (block_from held all (j * w) w)
         → next ≡ packed_state H (unstep H (state_in H s) (block_in H x)) → next ≡ packed_state H (before j)
-    back_more w ew j s x next held eh l es ex en =
+    back_more w ew i j p s x next {held} {all} is l ei ex en =
         let B : List Bool = filled H.r (drop (j * H.r) (bits_in high_first bytes)) in
+        let es : s ≡ packed_state H (before (j + 1)) = ei ∙ ap (λ (n : ℕ). packed_state H (before n)) p in
         let block : x ≡ packed_block B =
-        ex ∙ ap packed_block (block-is v k w ew (bits_after held bytes) j) ∙ ap (λ (z : List Bool). packed_block (filled H.r (drop (j * H.r) z))) (alone held eh) in
+        ex ∙ ap packed_block (block-is v k w ew (bits_after held all) j) ∙ ap (λ (z : List Bool). packed_block (filled H.r (drop (j * H.r) z))) (alone is) in
         en
         ∙ ap₂ (λ (y z : List Bool). packed_state H (unstep H y z)) (stored v k s (before (j + 1)) (before-size (j + 1)) es)
         (block_read v k x B (length-filled H.r (drop (j * H.r) (bits_in high_first bytes))) block ∙ sym (block_at j l))
@@ -156,21 +154,21 @@ states-xored v k p q x S Z l_s l_z hx lx ep eq ex =
     ∙ ap (λ (l : List Bool). xor_into S Z ++ l) (xor_into-zeros (replicate (288 - t) false) (288 - t)))
 
 -- what lies between the state before the place, run forward, and the state after it
-module _ (v : ℕ) (k : known v ≡ true) {front : List ℕ} {last n : ℕ} (h : HoldsMessage front last n) (e : List Bool) (le : length e ≡ (variant v).t)
-    (place : ℕ) (within : place < length (blocks_of (variant v) (message_in front last n))) where
+module _ (v : ℕ) (k : known v ≡ true) (message : Split) (e : List Bool) (le : length e ≡ (variant v).t)
+    (place : ℕ) (within : place < length (blocks_of (variant v) (message_held message))) where
   abbrev K : Variant
   K = variant v
 
   abbrev m : List Bool
-  m = message_in front last n
+  m = message_held message
 
   before-long : length (state_before K m place) ≡ K.t
   before-long = run_length K (streams v k) (take place (blocks_of K m)) (start_state K) (streams v k).start-length
 
-  module _ (s x : List ℕ) (es : s ≡ packed_state (variant v) (start_state (variant v))) (held : Held) (eh : held ≡ none_held)
-      (ex : x ≡ packed_state (variant v) (after_blocks (variant v) (state_in (variant v) s) held (front ++ last ∷ []) place)) where
+  module _ (s x : List ℕ) (es : s ≡ packed_state (variant v) (start_state (variant v))) {held : Held} {all : List ℕ} (is : AllOf message held all)
+      (ex : x ≡ packed_state (variant v) (after_blocks (variant v) (state_in (variant v) s) held all place)) where
     before-held : x ≡ packed_state K (state_before K m place)
-    before-held = run-before v k h s x held eh place within es ex
+    before-held = run-before v k message s x is place within es ex
 
     pub before-ready : Holds v x
     before-ready = stored-ready v k x (state_before K m place) before-long before-held
@@ -190,7 +188,7 @@ module _ (v : ℕ) (k : known v ≡ true) {front : List ℕ} {last n : ℕ} (h :
         ∙ ap (packed_state K) (sym (between-sponge K.family q K (state_before K m place) (state_behind K m place e)))
 
     -- of what is no sponge, at the last place: no block is after it
-    pub last-held : suc place ≡ length (blocks_of (variant v) (message_in front last n)) → (r : List ℕ) → r ≡ packed_state K (between K.family K (state_in K x) e) → r ≡ packed_state K (difference K m place e)
+    pub last-held : suc place ≡ length (blocks_of (variant v) (message_held message)) → (r : List ℕ) → r ≡ packed_state K (between K.family K (state_in K x) e) → r ≡ packed_state K (difference K m place e)
     unfolding unrun
     last-held final r er =
         let nothing : drop (suc place) (blocks_of K m) ≡ [] = ap (λ (j : ℕ). drop j (blocks_of K m)) final ∙ drop-length (blocks_of K m) in

@@ -2,7 +2,7 @@
 -- Assumes nothing.
 use Rattle.std.specs.Prelude.{◌≡◌, Bool, true, false, List, [], ◌++◌, ◌↔◌, ℕ, suc, ◌≤◌, ◌<◌, length, drop, get_or}
 use Rattle.answers.specs.declared.Refusal.TheVariants.{NoBlock, NotSponge}
-use Rattle.answers.specs.declared.Status.TheVariants.{Done, Refused}
+use Rattle.answers.specs.Refusals.{Done, Refused}
 use Rattle.answers.specs.Checks.{first_refusal}
 use Rattle.answers.specs.Outputs.{max_bits}
 use Rattle.standard.specs.Bits.{high_first, pack}

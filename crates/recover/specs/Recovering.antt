@@ -8,7 +8,7 @@ use Rattle.standard.specs.Chain.{block_count}
 use Rattle.standard.specs.Messages.{Given, given_bits}
 use Rattle.standard.specs.Variants.{variant}
 use Rattle.answers.specs.declared.Refusal.TheVariants.{OutputTooShort, BadImage, OutOfRange, NoBlock, NotSponge}
-use Rattle.answers.specs.declared.Status.{Status}
+use Rattle.answers.specs.Refusals.{Status}
 use Rattle.answers.specs.Checks.{Check, unless, when, first_refusal}
 use Rattle.answers.specs.Outputs.{written}
 use Rattle.chain.specs.Images.{is_image}

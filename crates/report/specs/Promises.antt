@@ -1,7 +1,7 @@
 -- What a user relies on of what the program prints. Assumes nothing.
 use Rattle.std.specs.Prelude.{◌≡◌, List, ℕ}
 use Rattle.octets.specs.Numbers.{Bytes}
-use Rattle.answers.specs.declared.Status.TheVariants.{Done}
+use Rattle.answers.specs.Refusals.{Done}
 use Rattle.hasher.specs.Pieces.{joined}
 use Rattle.manifest.specs.Records.{manifest_status}
 use Rattle.manifest.specs.Counts.{counts_of}

@@ -1,86 +1,62 @@
 // What each read makes of the report, and whether a further read follows.
-ghost use Rattle.std.specs.Prelude.{◌≡◌, pos, negsuc, IfOk, IfErr};
-ghost use Rattle.std.specs.Io.{ReadsAtMost};
-ghost use Rattle.report.specs.Input.{at_end, file_status, goes_on, after_manifest, after_piece};
+ghost use Rattle.std.specs.Prelude.{◌≡◌};
+ghost use Rattle.report.specs.Input.{file_status, after_manifest, goes_on, standing, after_piece};
 
-use answers::{Refusal, Status};
+use answers::Refusal;
 use manifest::{MAX_TABLES, Report};
+use reads::Fed;
 
-// How the report stands after a read: whether it could be begun, what it has come to, whether a further read follows,
-// and whether this one failed.
-#[derive(Clone, Copy)]
-pub struct Fed {
-    pub status: Status,
-    pub report: Report,
-    pub more: bool,
-    pub failed: bool,
-}
-
-// What a read into a buffer answered, as one number: that of the bytes that it brought, 0 at the end of the input, and a
-// negative one if it failed.
-pub fn count_of(read: std::io::Result<usize>, buffer: &[u8]) -> isize
-    requires { ReadsAtMost read buffer.now }
-    ensures brought { IfOk read (λ n. result ≡ pos n) }
-    ensures failed { IfErr read (λ _. result ≡ negsuc 0) }
-{
-    match read {
-        Ok(n) => n as isize,
-        Err(_) => -1,
-    }
-}
-
-// A read answers the number of bytes that it brought, 0 at the end of the input, and a negative number if it failed.
-fn is_at_end(got: isize) -> bool
-    ensures { result ≡ at_end got }
-{
-    got == 0
-}
-
-// The answer for the file, from that for the bytes that were read of it: 12 if a read after them was not at its end.
-fn file_status(status: Status, past: isize) -> Status
+// The answer for the file, from that for the bytes that were read of it: 12 unless a read after them was at its end.
+fn file_status(status: Result<(), Refusal>, past: std::io::Result<usize>) -> Result<(), Refusal>
     ensures { result ≡ file_status status past }
 {
-    if is_at_end(past) {
-        status
-    } else {
-        Status::Refused(Refusal::BadManifest)
+    match past {
+        Ok(0) => status,
+        _ => Err(Refusal::BadManifest),
     }
 }
 
 // The file was read: a report begins.
-pub fn after_manifest(manifest: &[u8], past: isize) -> Fed
+pub fn after_manifest(manifest: &[u8], past: std::io::Result<usize>) -> Result<Report, Refusal>
     ensures { result ≡ after_manifest manifest.now past }
 {
     let begun = manifest::start(manifest);
-    let report = begun.report;
-    let checked = begun.status;
-    let status = file_status(checked, past);
-    Fed {
-        status: status,
-        report: report,
-        more: answers::is_done(status),
-        failed: false,
+    file_status(begun.status, past)?;
+    Ok(begun.report)
+}
+
+// Whether a further read follows one that brought n bytes: 0 is the end of the input.
+fn goes_on(tables: u32, n: usize) -> bool
+    ensures { result ≡ goes_on tables n }
+{
+    0 < n && tables < MAX_TABLES
+}
+
+fn standing(report: Report, n: usize) -> Fed<Report>
+    ensures { result ≡ standing report n }
+{
+    if goes_on(manifest::summary_of(report).tables, n) {
+        Fed::More(report)
+    } else {
+        Fed::Ended(report)
     }
 }
 
-fn goes_on(tables: u32, got: isize) -> bool
-    ensures { result ≡ goes_on tables got }
+// A read of the tables, into a buffer: what came stands at its front. No read brings more than the buffer holds; whatever
+// is said, no byte past its end is looked at.
+pub fn after_piece(
+    manifest: &[u8],
+    report: Report,
+    buffer: &[u8],
+    read: std::io::Result<usize>,
+) -> Fed<Report>
+    ensures { result ≡ after_piece manifest.now report buffer.now read }
 {
-    if 0 < got { tables < MAX_TABLES } else { false }
-}
-
-// A read of the tables, into a buffer: what came stands at its front.
-pub fn after_piece(manifest: &[u8], fed: Fed, buffer: &[u8], got: isize) -> Fed
-    ensures { result ≡ after_piece manifest.now fed buffer.now got }
-{
-    let n = io::count(got, buffer);
-    let next = manifest::update(manifest, fed.report, &buffer[..n]);
-    let counts = manifest::summary_of(next);
-    let status = fed.status;
-    Fed {
-        status: status,
-        report: next,
-        more: goes_on(counts.tables, got),
-        failed: got < 0,
+    match read {
+        Ok(n) => {
+            let part = &buffer[..n.min(buffer.len())];
+            standing(manifest::update(manifest, report, part), n)
+        }
+        Err(_) => Fed::Failed,
     }
 }

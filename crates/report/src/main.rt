@@ -7,111 +7,77 @@
 mod input;
 mod text;
 
-ghost use Rattle.io.specs.Counts.{IsPrefixLen};
-
-use input::Fed;
-use manifest::{MAX_RECORDS, RECORD_BYTES};
+use answers::Refusal;
+use manifest::{MAX_RECORDS, RECORD_BYTES, Report};
+use reads::Fed;
 use std::fs::File;
-use std::io::{Read, Result};
+use std::io::Read;
 use std::rt::Files;
-
-// What was read of the file: the number of bytes, and what a read after them answered, which is 0 at the end of the
-// file.
-#[derive(Drop)]
-struct Held {
-    length: usize,
-    past: isize,
-}
 
 // The maximum number of bytes of 65,535 tables. A read that is followed by a further one brings at least one byte, so
 // the last table is told before these are used up.
 const MAX_READS: u64 = 65535 * (6 + 4294967295);
 
-// Reads until the buffer is full, the input ends or a read fails. Answers the number of bytes that came.
-fn read_full<R: Read>(source: &mut R, buffer: &mut [u8]) -> usize
-    ensures { IsPrefixLen result buffer.new }
-{
-    let mut done = 0;
-    while done < buffer.len() {
-        let Ok(n) = source.read(&mut buffer[done..]) else {
-            break;
-        };
-        if n == 0 {
-            break;
-        }
-        done += n;
-    }
-    done
-}
-
-// Reads the file as far as there is room. A read that fails takes no byte and does not say so: the next one goes on
-// from the same place, and so the last one tells whether all was read, also if one failed before.
-fn read_manifest(rt: &impl Files, manifest: &mut [u8]) -> Held
-    ensures { IsPrefixLen result.length manifest.new }
-{
+// Reads the file as far as there is room, and answers what it has, with what a read after it answered, or the opening if
+// it failed. A read that fails takes no byte: the next one goes on from the same place, and so the last one tells whether
+// all was read, also if one failed before.
+fn read_manifest<'a>(rt: &impl Files, room: &'a mut [u8]) -> (&'a [u8], std::io::Result<usize>) {
     // Were standard input closed, the file would have its number: left open, it would be read as the tables. It is
     // closed at the end of this function.
-    let Ok(mut file) = File::open(rt, "rig") else {
-        return Held {
-            length: 0,
-            past: -1,
-        };
+    let mut file = match File::open(rt, "rig") {
+        Ok(file) => file,
+        Err(e) => return (&room[..0], Err(e)),
     };
-    let n = read_full(&mut file, manifest);
-    let mut one = [0u8; 1];
-    let read = file.read(&mut one);
-    Held {
-        length: n,
-        past: input::count_of(read, &one),
-    }
+    let (n, _) = reads::read_full(&mut file, room);
+    let past = file.read(&mut [0u8; 1]);
+    (&room[..n], past)
 }
 
-// Reads the tables once.
-fn feed_some<R: Read>(source: &mut R, manifest: &[u8], fed: Fed) -> Fed {
+// Reads the tables once. With `digest` this and the loop below share no function: it would take the step as a closure
+// with its contract, and be longer than these lines.
+fn feed_some<R: Read>(source: &mut R, manifest: &[u8], report: Report) -> Fed<Report> {
     let mut buffer = io::large_buffer();
     let read = source.read(&mut buffer);
-    let got = input::count_of(read, &buffer);
-    input::after_piece(manifest, fed, &buffer, got)
+    input::after_piece(manifest, report, &buffer, read)
 }
 
 // Reads the tables for as long as there is more.
-fn feed_all<R: Read>(source: &mut R, manifest: &[u8], begun: Fed) -> Fed {
-    let mut fed = begun;
-    let mut left = MAX_READS;
-    while 0 < left && fed.more {
-        fed = feed_some(source, manifest, fed);
-        left -= 1;
+fn feed_all<R: Read>(source: &mut R, manifest: &[u8], begun: Report) -> Fed<Report> {
+    let mut fed = Fed::More(begun);
+    for _ in 0..MAX_READS {
+        let Fed::More(report) = fed else {
+            break;
+        };
+        fed = feed_some(source, manifest, report);
     }
     fed
 }
 
-// Nothing but a complaint is printed if the input cannot be read.
-fn show(rt: &(impl Print + Eprint), fed: Fed) -> Result<()> {
-    if fed.failed {
-        return rt.eprintln("report: standard input cannot be read");
-    }
-    let status = fed.status;
+fn show(rt: &impl Print, report: Result<Report, Refusal>) -> std::io::Result<()> {
     let mut lines = [0u8; text::MAX_BYTES];
-    let n = text::write_report(status, fed.report, &mut lines);
-    rt.write_all(&lines[0..n])
+    let n = text::write_report(report, &mut lines);
+    rt.write_all(&lines[..n])
 }
 
-// The report of the tables in the input.
+// The report of the tables in the input. Nothing but a complaint is printed if the input cannot be read.
 fn report_on<R: Read>(
     rt: &(impl Print + Eprint),
     source: &mut R,
     manifest: &[u8],
-    past: isize,
-) -> Result<()> {
-    show(
-        rt,
-        feed_all(source, manifest, input::after_manifest(manifest, past)),
-    )
+    past: std::io::Result<usize>,
+) -> std::io::Result<()> {
+    let begun = match input::after_manifest(manifest, past) {
+        Ok(begun) => begun,
+        Err(r) => return show(rt, Err(r)),
+    };
+    match feed_all(source, manifest, begun) {
+        Fed::More(report) | Fed::Ended(report) => show(rt, Ok(report)),
+        Fed::Failed => rt.eprintln("report: standard input cannot be read"),
+    }
 }
 
-fn main(rt: HostRuntime) -> Result<()> {
-    let mut manifest = [0u8; MAX_RECORDS * RECORD_BYTES];
-    let held = read_manifest(&rt, &mut manifest);
-    let n = held.length;
-    report_on(&rt, &mut rt.stdin(), &manifest[..n], held.past)
+fn main(rt: HostRuntime) -> std::io::Result<()> {
+    let mut room = [0u8; MAX_RECORDS * RECORD_BYTES];
+    let (manifest, past) = read_manifest(&rt, &mut room);
+    report_on(&rt, &mut rt.stdin(), manifest, past)
 }

@@ -1,9 +1,9 @@
 // A report as text: its six lines, or the line of a refusal.
 ghost use Rattle.std.specs.Prelude.{◌≡◌, ◌≤◌, length};
 ghost use Rattle.octets.specs.Slices.{written_at};
-ghost use Rattle.report.specs.Lines.{lines_of, printed};
+ghost use Rattle.report.specs.Lines.{lines_of, lines_for};
 
-use answers::Status;
+use answers::Refusal;
 use answers::text::write_refusal;
 use manifest::{Report, Summary};
 use octets::text::write_line;
@@ -17,6 +17,7 @@ fn write_summary(s: Summary, out: &mut [u8]) -> usize
     ensures out_after { out.new ≡ written_at 0 (lines_of s) out.old }
     ensures value { (result ≡ length (lines_of s)) × (result ≤ 110) }
 {
+    // An array of names and counts with a loop over it would be no shorter.
     let listed = write_line(b"listed", s.listed, out, 0);
     let tables = write_line(b"tables", s.tables, out, listed);
     let equal = write_line(b"equal", s.equal, out, tables);
@@ -26,13 +27,13 @@ fn write_summary(s: Summary, out: &mut [u8]) -> usize
 }
 
 // What is printed over the front of the output. Answers the number of its bytes.
-pub fn write_report(status: Status, report: Report, out: &mut [u8]) -> usize
+pub fn write_report(report: Result<Report, Refusal>, out: &mut [u8]) -> usize
     requires { 110 ≤ length out.old }
-    ensures out_after { out.new ≡ written_at 0 (printed status report) out.old }
-    ensures value { (result ≡ length (printed status report)) × (result ≤ 110) }
+    ensures out_after { out.new ≡ written_at 0 (lines_for report) out.old }
+    ensures value { (result ≡ length (lines_for report)) × (result ≤ 110) }
 {
-    match status {
-        Status::Done => write_summary(manifest::summary_of(report), out),
-        Status::Refused(r) => write_refusal(r, out),
+    match report {
+        Ok(report) => write_summary(manifest::summary_of(report), out),
+        Err(r) => write_refusal(r, out),
     }
 }

@@ -10,8 +10,7 @@ use native.Mathlib.Numerals.{add-one}
 use native.Mathlib.Omega.{arith}
 use Rattle.answers.specs.declared.Refusal.{Refusal}
 use Rattle.answers.specs.declared.Refusal.TheVariants.{UnknownVariant, TooLong, BadList}
-use Rattle.answers.specs.declared.Status.{Status}
-use Rattle.answers.specs.declared.Status.TheVariants.{Done, Refused}
+use Rattle.answers.specs.Refusals.{Status, Done, Refused}
 use Rattle.answers.specs.Checks.{Check, unless, when, first_refusal}
 use Rattle.octets.specs.Numbers.{in_bytes}
 use Rattle.answers.specs.Outputs.{written, max_bytes, max_bits}
@@ -101,11 +100,11 @@ module _ (v : ℕ) (list buffer : List ℕ) (wanted : Wanted) (l : is_list list 
       ∙ ap (λ (b : Bool). first_refusal (when b TooLong ∷ room_checks (variant v) wanted n)) (sym (given-limit (variant v) (message_of list buffer) Whole refl)))
 
   -- the answers behind those of the entries, for a message of as many bytes as the header has and the entries name together
-  pub list-message : known v ≡ true → (n t : ℕ) → t ≡ length (header_of list) + total_of list
-      → first_refusal (when (ltb max_bytes t) TooLong ∷ room_checks (variant v) wanted n) ≡ list_status v list buffer wanted n
+  pub list-message : known v ≡ true → (n t : ℕ) → t ≡ length (header_of list) + total_of list → (long : Bool) → ltb max_bytes t ≡ long
+      → first_refusal (when long TooLong ∷ room_checks (variant v) wanted n) ≡ list_status v list buffer wanted n
   unfolding list_status
-  list-message k n t et =
-      ap (λ (i : ℕ). first_refusal (when (ltb max_bytes i) TooLong ∷ room_checks (variant v) wanted n)) (et ∙ sym (message-length list buffer e))
+  list-message k n t et long el =
+      ap (λ (b : Bool). first_refusal (when b TooLong ∷ room_checks (variant v) wanted n)) (sym el ∙ ap (ltb max_bytes) (et ∙ sym (message-length list buffer e)))
       ∙ sym (row-second (before v list) (entries_checks list (length buffer) ++ behind v (message_of list buffer) wanted n) (passed-all (before v list) (k, (l, tt)))
       ∙ row-second (entries_checks list (length buffer)) (behind v (message_of list buffer) wanted n) e)
 

@@ -8,8 +8,7 @@ use native.Mathlib.Omega.{arith}
 use lib.Dec.{eqb, leb}
 use lib.ListN.{length, take, drop}
 use borrow.Author.Tests.{eqb-true, ltb-true, ltb-false, leb-true, not-true, lt-ltb}
-use Rattle.answers.specs.declared.Status.{Status}
-use Rattle.answers.specs.declared.Status.TheVariants.{Done}
+use Rattle.answers.specs.Refusals.{Status, Done}
 use Rattle.answers.specs.Checks.{first_refusal}
 use Rattle.answers.proofs.Rows.{passed-all, passing-says}
 use Rattle.standard.proofs.Tests.{and-true}

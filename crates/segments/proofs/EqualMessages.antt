@@ -9,7 +9,7 @@ use native.Mathlib.Omega.{arith}
 use lib.ListN.{length, take, drop}
 use lib.Seq.{take_at, drop_at, take-add, drop-drop}
 use borrow.Author.Tests.{le-ltb}
-use Rattle.answers.specs.declared.Status.TheVariants.{Done}
+use Rattle.answers.specs.Refusals.{Done}
 use Rattle.octets.specs.Numbers.{big_endian, in_bytes}
 use Rattle.octets.proofs.NumberLaws.{length-in_bytes, big_endian-in_bytes}
 use Rattle.standard.proofs.Tests.{lt-or-le}

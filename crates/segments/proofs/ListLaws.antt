@@ -2,20 +2,19 @@
 -- Assumes nothing.
 use mathlib.Core.Path.{◌≡◌, refl, sym, ap, ap₂, ◌∙◌, subst}
 use mathlib.Core.Bool.{true}
-use mathlib.Core.List.{List, [], ◌∷◌, ◌++◌, append_assoc, append-nil, flat_map, sum}
+use mathlib.Core.List.{List, [], ◌∷◌, ◌++◌, flat_map, sum, sum-append}
 use mathlib.Core.Logic.{⊎_elim}
 use Prim.Native.Nat.{ℕ, zero, suc, ◌+◌, ◌-◌, ◌≤◌, ◌<◌}
-use native.Mathlib.Nat.{add_assoc, le_of_suc-le-suc, eq-or-lt_of_le}
+use native.Mathlib.Nat.{add_assoc, zero-add, add-zero, le_of_suc-le-suc, eq-or-lt_of_le}
 use native.Mathlib.Numerals.{add-one}
 use native.Mathlib.Omega.{arith}
+use Rattle.std.proofs.lemmas.List.{flat_map_more}
 use lib.ListN.{length, length-append, length-take, length-drop}
 use Rattle.answers.specs.declared.Refusal.{Refusal}
-use Rattle.answers.specs.declared.Status.{Status}
-use Rattle.answers.specs.declared.Status.TheVariants.{Done, Refused}
+use Rattle.answers.specs.Refusals.{Status, Done, Refused, entry}
 use Rattle.answers.specs.Checks.{first_refusal}
 use Rattle.octets.specs.Numbers.{in_bytes}
 use Rattle.answers.specs.Outputs.{when_done}
-use Rattle.answers.specs.Refusals.{entry}
 use Rattle.octets.proofs.NumberLaws.{length-in_bytes}
 use Rattle.answers.proofs.Statuses.{not_done}
 use Rattle.answers.proofs.Rows.{by-ways, each-done, done-each, each_first, First, first_of}
@@ -32,21 +31,16 @@ use Rattle.segments.proofs.EntryLaws.{Fits, entry-fits, segment-checked, segment
 abbrev pub segments_up_to : List ℕ → List ℕ → ℕ → List ℕ
 segments_up_to list buffer k = flat_map (λ s. s) (tab k (segment_in list buffer))
 
-flat-snoc : (xs : List (List ℕ)) (x : List ℕ) → flat_map (λ s. s) (xs ++ (x ∷ [])) ≡ flat_map (λ s. s) xs ++ x
-unfolding flat_map
-flat-snoc [] x = append-nil x
-flat-snoc (y ∷ xs) x = ap (λ (r : List ℕ). y ++ r) (flat-snoc xs x) ∙ sym (append_assoc y (flat_map (λ s. s) xs) x)
-
-sum-snoc : (xs : List ℕ) (x : ℕ) → sum ◌+◌ 0 (xs ++ (x ∷ [])) ≡ sum ◌+◌ 0 xs + x
-unfolding sum
-sum-snoc [] x = omega arith
-sum-snoc (y ∷ xs) x = ap (λ (r : ℕ). y + r) (sum-snoc xs x) ∙ sym (add_assoc y (sum ◌+◌ 0 xs) x)
-
 pub segments-suc : (list buffer : List ℕ) (k : ℕ) → segments_up_to list buffer (suc k) ≡ segments_up_to list buffer k ++ segment_in list buffer k
-segments-suc list buffer k = ap (flat_map (λ s. s)) (tab-snoc k (segment_in list buffer)) ∙ flat-snoc (tab k (segment_in list buffer)) (segment_in list buffer k)
+unfolding flat_map
+segments-suc list buffer k = ap (flat_map (λ s. s)) (tab-snoc k (segment_in list buffer)) ∙ sym (flat_map_more (λ s. s) [] (tab k (segment_in list buffer)) (segment_in list buffer k))
 
 total-suc : (list : List ℕ) (k : ℕ) → total_up_to list (suc k) ≡ total_up_to list k + length_of list k
-total-suc list k = ap (sum ◌+◌ 0) (tab-snoc k (length_of list)) ∙ sum-snoc (tab k (length_of list)) (length_of list k)
+unfolding sum
+total-suc list k =
+    ap (sum ◌+◌ 0) (tab-snoc k (length_of list))
+    ∙ sum-append ◌+◌ 0 zero-add add_assoc (tab k (length_of list)) (length_of list k ∷ [])
+    ∙ ap (λ (n : ℕ). total_up_to list k + n) (add-zero (length_of list k))
 
 pub total-next : (list : List ℕ) (k : ℕ) → total_up_to list (k + 1) ≡ total_up_to list k + length_of list k
 total-next list k = ap (total_up_to list) (add-one k) ∙ total-suc list k

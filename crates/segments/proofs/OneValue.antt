@@ -8,7 +8,7 @@ use native.Mathlib.Nat.{not-suc-le-zero, le_of_suc-le-suc, eq-or-lt_of_le}
 use native.Mathlib.Omega.{arith}
 use lib.ListN.{length, take, drop, length-append, length-take, length-drop}
 use lib.Seq.{drop-append-add, take-add, drop-drop, take_at, drop_at}
-use Rattle.answers.specs.declared.Status.TheVariants.{Done}
+use Rattle.answers.specs.Refusals.{Done}
 use Rattle.octets.specs.Numbers.{Bytes, in_bytes}
 use Rattle.answers.proofs.Rows.{done-each}
 use Rattle.octets.proofs.ByteLaws.{take-bytes, drop-bytes, append-bytes, number-bytes}

@@ -2,8 +2,7 @@
 -- Assumes nothing.
 use Rattle.std.specs.Prelude.{◌≡◌, true, ℕ, suc, ◌+◌, ◌-◌, ◌≤◌, ◌<◌, length}
 use mathlib.Core.List.{List, sum}
-use Rattle.answers.specs.declared.Status.{Status}
-use Rattle.answers.specs.declared.Status.TheVariants.{Done}
+use Rattle.answers.specs.Refusals.{Status, Done}
 use Rattle.standard.specs.Grid.{tab}
 use Rattle.standard.specs.Families.{image_size}
 use Rattle.standard.specs.Variants.{variant}

@@ -2,7 +2,7 @@
 -- Assumes nothing.
 use Rattle.std.specs.Prelude.{List, ◌∷◌, ◌++◌, ℕ, ltb, length}
 use Rattle.answers.specs.declared.Refusal.TheVariants.{UnknownVariant, TooLong, BadList}
-use Rattle.answers.specs.declared.Status.{Status}
+use Rattle.answers.specs.Refusals.{Status}
 use Rattle.answers.specs.Checks.{Check, unless, when, first_refusal}
 use Rattle.answers.specs.Outputs.{written, max_bytes}
 use Rattle.standard.specs.Chain.{end_state}

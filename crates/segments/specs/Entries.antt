@@ -3,7 +3,7 @@
 use Rattle.std.specs.Prelude.{Bool, ◌&&◌, ℕ, zero, suc, ◌+◌, ◌*◌, ◌/◌, ◌%◌, eqb, ltb, leb, length, take, drop}
 use mathlib.Core.List.{List, [], ◌∷◌, ◌++◌, flat_map}
 use Rattle.answers.specs.declared.Refusal.TheVariants.{OutOfRange, BadList, Misordered, PastEnd}
-use Rattle.answers.specs.declared.Status.{Status}
+use Rattle.answers.specs.Refusals.{Status}
 use Rattle.answers.specs.Checks.{Check, unless, when, first_refusal, each}
 use Rattle.octets.specs.Numbers.{big_endian, in_bytes}
 use Rattle.answers.specs.Outputs.{when_done}

@@ -1,9 +1,8 @@
 -- All known values that are proved: those of the standard, and those for segment lists of a buffer of 6 bytes, stated by document 01 and document 02, or ours.
 -- Assumes nothing.
 use Rattle.std.specs.Prelude.{List, [], ◌∷◌, ◌++◌, ℕ, ◌/◌, ◌%◌, length}
-use Rattle.answers.specs.declared.Status.{Status}
+use Rattle.answers.specs.Refusals.{Status, answer}
 use Rattle.octets.specs.Numbers.{in_bytes}
-use Rattle.answers.specs.Refusals.{answer}
 use Rattle.standard.specs.KnownValues as standard
 use Rattle.standard.specs.KnownValues.{Row}
 use Rattle.segments.specs.Entries.{count, segment_status, segment_of, entries_status, segments_of, message_of}

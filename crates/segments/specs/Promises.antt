@@ -1,10 +1,9 @@
 -- What is promised of segment lists, beside the contracts.
 -- Assumes nothing.
-use Rattle.std.specs.Prelude.{◌≡◌, true, List, ◌++◌, ◌↔◌, ℕ, ◌+◌, ◌*◌, ◌≤◌, ◌<◌, length}
+use Rattle.std.specs.Prelude.{◌≡◌, true, List, ◌++◌, ◌↔◌, ℕ, ◌+◌, ◌*◌, ◌≤◌, ◌<◌, length, Ok}
 use Rattle.answers.specs.declared.Refusal.{Refusal}
-use Rattle.answers.specs.declared.Status.TheVariants.{Done, Refused}
+use Rattle.answers.specs.Refusals.{Done, Refused, entry}
 use Rattle.octets.specs.Numbers.{Bytes}
-use Rattle.answers.specs.Refusals.{entry}
 use Rattle.standard.specs.Chain.{blocks_of, DifferAt, end_state}
 use Rattle.standard.specs.Messages.{byte_bits}
 use Rattle.standard.specs.Families.{is_sponge}
@@ -12,7 +11,6 @@ use Rattle.standard.specs.Values.{DifferWithin, in_one_block}
 use Rattle.standard.specs.Variants.{variant}
 use Rattle.standard.specs.declared.Wanted.{Wanted}
 use Rattle.standard.specs.declared.Wanted.TheVariants.{EndState}
-use Rattle.segments.specs.declared.Step.TheVariants.{Entry}
 use Rattle.standard.specs.KnownValues.{AllHold}
 use Rattle.segments.specs.KnownValues.{all_values}
 use Rattle.segments.specs.Entries.{offset_of, length_of, is_list, count, segment_status, entries_status, segments_of, header_of, message_of}
@@ -116,7 +114,7 @@ SegmentsWithin = (list buffer : List ℕ) → entries_status list (length buffer
 -- A step at an entry that is there gives it, and the one after it is next.
 abbrev pub EntryGiven : Type 0
 EntryGiven = (list : List ℕ) (k : ℕ) → is_list list ≡ true → k < count list
-    → found_at list k ≡ record { step = Entry (offset_of list k) (length_of list k); next = k + 1 }
+    → found_at list k ≡ record { step = Ok (record { offset = offset_of list k; length = length_of list k }); next = k + 1 }
 
 -- Every known value, of the standard's definitions and of lists, is what the definitions give.
 abbrev pub AllValuesHold : Type 0

@@ -4,7 +4,7 @@
 
 ghost use Rattle.std.specs.Prelude.{◌≡◌, true, ◌+◌, ◌*◌, ◌≤◌, ◌<◌, length};
 ghost use Rattle.standard.specs.Messages.{bytes};
-ghost use Rattle.answers.specs.declared.Status.TheVariants.{Done};
+ghost use Rattle.answers.specs.Refusals.{Done};
 ghost use Rattle.answers.specs.Checks.{first_refusal};
 ghost use Rattle.answers.specs.Outputs.{max_bits};
 ghost use Rattle.hasher.specs.Running.{whole_so_far, updated};
@@ -14,7 +14,7 @@ ghost use Rattle.segments.specs.Steps.{step_status, found_at};
 ghost use Rattle.segments.specs.Cuts.{total_of};
 ghost use Rattle.segments.specs.Digests.{list_status, list_into};
 
-use answers::{MAX_MESSAGE_BYTES, Refusal, Status};
+use answers::{MAX_MESSAGE_BYTES, Refusal};
 use hasher::Hasher;
 use standard::Wanted;
 
@@ -37,7 +37,7 @@ fn end_at(list: &[u8], k: usize) -> u64
     requires { k < count list.now }
     ensures { result ≡ end_of list.now k }
 {
-    (offset_at(list, k) as u64) + (length_at(list, k) as u64)
+    u64::from(offset_at(list, k)) + u64::from(length_at(list, k))
 }
 
 // Where the entry before entry k ends: 0 for entry 0.
@@ -51,37 +51,46 @@ fn former_end(list: &[u8], k: usize) -> u64
     end_at(list, k - 1)
 }
 
-// Whole entries, and no more than 512 of them.
+// Whole entries, and no more than 512 of them. It stays a test, which private functions ask for: a type that holds it
+// would be made anew in each public call, since C gives bytes, and each clause would have one word more for them.
 pub fn is_list(list: &[u8]) -> bool
     ensures { result ≡ is_list list.now }
 {
     list.len() % 8 == 0 && list.len() <= 4096
 }
 
+// How many entries a list has.
+fn count(list: &[u8]) -> usize
+    ensures { result ≡ count list.now }
+{
+    list.len() / 8
+}
+
 // Whether there is an entry k: refusals 9, 7.
-fn check_step(list: &[u8], k: usize) -> Status
+fn check_step(list: &[u8], k: usize) -> Result<(), Refusal>
     ensures { result ≡ step_status list.now k }
 {
     if !is_list(list) {
-        return Status::Refused(Refusal::BadList);
+        return Err(Refusal::BadList);
     }
-    if list.len() / 8 <= k {
-        return Status::Refused(Refusal::OutOfRange);
+    if count(list) <= k {
+        return Err(Refusal::OutOfRange);
     }
-    Status::Done
+    Ok(())
 }
 
-// What a step gives: an entry's offset and length, or refusal 9 or 7.
-#[derive(Clone, Copy)]
-pub enum Step {
-    Entry(u32, u32),
-    Refused(Refusal),
+// An entry: where its segment begins in the buffer, and how many bytes it has.
+#[derive(Clone, Copy, PartialEq, Eq)]
+pub struct Entry {
+    pub offset: u32,
+    pub length: u32,
 }
 
-// What a step gives, and the number of the entry that is next after it.
+// What a step gives, and the number of the entry that is next after it. Not the step alone: which entry is next is
+// promised on a refusal too, and lent::advance and the theorem refused-stays read it.
 #[derive(Clone, Copy)]
 pub struct Found {
-    pub step: Step,
+    pub step: Result<Entry, Refusal>,
     pub next: usize,
 }
 
@@ -90,40 +99,40 @@ pub fn entry_at(list: &[u8], k: usize) -> Found
     ensures { result ≡ found_at list.now k }
 {
     match check_step(list, k) {
-        Status::Done => Found {
-            step: Step::Entry(offset_at(list, k), length_at(list, k)),
+        Ok(()) => Found {
+            step: Ok(Entry {
+                offset: offset_at(list, k),
+                length: length_at(list, k),
+            }),
             next: k + 1,
         },
-        Status::Refused(refusal) => Found {
-            step: Step::Refused(refusal),
+        Err(refusal) => Found {
+            step: Err(refusal),
             next: k,
         },
     }
 }
 
 // Refusals 10, 11 of one entry.
-fn check_bounds(list: &[u8], buffer: &[u8], k: usize) -> Status
+fn check_bounds(list: &[u8], buffer: &[u8], k: usize) -> Result<(), Refusal>
     requires list_value { is_list list.now ≡ true }
     requires k_bound { k < count list.now }
     ensures { result ≡ first_refusal (entry_checks list.now (length buffer.now) k) }
 {
-    if (offset_at(list, k) as u64) < former_end(list, k) {
-        return Status::Refused(Refusal::Misordered(k as u16));
+    if u64::from(offset_at(list, k)) < former_end(list, k) {
+        return Err(Refusal::Misordered(k as u16));
     }
     if (buffer.len() as u64) < end_at(list, k) {
-        return Status::Refused(Refusal::PastEnd(k as u16));
+        return Err(Refusal::PastEnd(k as u16));
     }
-    Status::Done
+    Ok(())
 }
 
 // Whether entry k names a segment of the buffer: refusals 9, 7, 10, 11.
-pub fn check_entry(list: &[u8], buffer: &[u8], k: usize) -> Status
+pub fn check_entry(list: &[u8], buffer: &[u8], k: usize) -> Result<(), Refusal>
     ensures { result ≡ segment_status list.now (length buffer.now) k }
 {
-    let s = check_step(list, k);
-    let Status::Done = s else {
-        return s;
-    };
+    check_step(list, k)?;
     check_bounds(list, buffer, k)
 }
 
@@ -132,31 +141,25 @@ pub fn segment<'a>(list: &[u8], buffer: &'a [u8], k: usize) -> &'a [u8]
     ensures { (result.now ≡ segment_of list.now buffer.now k)
         × (result.ref_ptr ≡ further (segment_at list.now (length buffer.now) k) buffer.entry.ref_ptr) }
 {
-    if let Status::Done = check_entry(list, buffer, k) {
-        let a = offset_at(list, k) as usize;
-        let e = end_at(list, k) as usize;
-        &buffer[a..e]
-    } else {
-        &buffer[0..0]
+    match check_entry(list, buffer, k) {
+        Ok(()) => {
+            let begin = offset_at(list, k) as usize;
+            let end = end_at(list, k) as usize;
+            &buffer[begin..end]
+        }
+        Err(_) => &buffer[0..0],
     }
 }
 
 // The first refusal that an entry gives.
-fn check_all(list: &[u8], buffer: &[u8]) -> Status
+fn check_all(list: &[u8], buffer: &[u8]) -> Result<(), Refusal>
     requires { is_list list.now ≡ true }
     ensures { result ≡ entries_status list.now (length buffer.now) }
 {
-    let n = list.len() / 8;
-    let mut k = 0;
-    while k < n {
-        let s = check_bounds(list, buffer, k);
-        if let Status::Done = s {
-            k += 1;
-        } else {
-            return s;
-        }
+    for k in 0..count(list) {
+        check_bounds(list, buffer, k)?;
     }
-    Status::Done
+    Ok(())
 }
 
 // The bytes of the message: two of count, the list, and what the entries name. No sum wraps: 512 lengths of four bytes
@@ -165,32 +168,32 @@ fn message_length(list: &[u8]) -> usize
     requires { is_list list.now ≡ true }
     ensures { result ≡ length (header_of list.now) + total_of list.now }
 {
-    let n = list.len() / 8;
     let mut sum: usize = 2 + list.len();
-    let mut k = 0;
-    while k < n {
+    for k in 0..count(list) {
         sum += length_at(list, k) as usize;
-        k += 1;
     }
     sum
 }
 
 // Refusals 1, 9, 10, 11, 4, 5, for an output of n bytes.
-fn check_list(variant: u32, list: &[u8], buffer: &[u8], wanted: Wanted, n: usize) -> Status
+fn check_list(
+    variant: u32,
+    list: &[u8],
+    buffer: &[u8],
+    wanted: Wanted,
+    n: usize,
+) -> Result<(), Refusal>
     ensures { result ≡ list_status variant list.now buffer.now wanted n }
 {
     if !chain::sizes::is_known(variant) {
-        return Status::Refused(Refusal::UnknownVariant);
+        return Err(Refusal::UnknownVariant);
     }
     if !is_list(list) {
-        return Status::Refused(Refusal::BadList);
+        return Err(Refusal::BadList);
     }
-    let s = check_all(list, buffer);
-    let Status::Done = s else {
-        return s;
-    };
+    check_all(list, buffer)?;
     if MAX_MESSAGE_BYTES < message_length(list) {
-        return Status::Refused(Refusal::TooLong);
+        return Err(Refusal::TooLong);
     }
     hasher::check_room(variant as u8, wanted, n)
 }
@@ -202,8 +205,8 @@ fn update_header(h: Hasher, list: &[u8]) -> Hasher
     requires h_value { (whole_so_far h ≡ true) × (h.total + 8 * length (header_of list.now) ≤ max_bits) }
     ensures { result ≡ (updated h (bytes (header_of list.now))).hasher }
 {
-    let count = octets::numbers::u16_bytes((list.len() / 8) as u16);
-    let counted = hasher::update(h, &count);
+    let front = octets::numbers::u16_bytes(count(list) as u16);
+    let counted = hasher::update(h, &front);
     let listed = hasher::update(counted.hasher, list);
     listed.hasher
 }
@@ -215,28 +218,27 @@ fn update_all(h: Hasher, list: &[u8], buffer: &[u8]) -> Hasher
     requires h_value { (whole_so_far h ≡ true) × (h.total + 8 * length (segments_of list.now buffer.now) ≤ max_bits) }
     ensures { result ≡ (updated h (bytes (segments_of list.now buffer.now))).hasher }
 {
-    let n = list.len() / 8;
     let mut g = h;
-    let mut k = 0;
-    while k < n {
-        let u = hasher::update(g, segment(list, buffer, k));
-        g = u.hasher;
-        k += 1;
+    for k in 0..count(list) {
+        g = hasher::update(g, segment(list, buffer, k)).hasher;
     }
     g
 }
 
 // The digest over a list and its segments, or the image of the end state: refusals 1, 9, 10, 11, 4, 5. A refusal leaves
 // every byte.
-pub fn hash_list(variant: u32, list: &[u8], buffer: &[u8], wanted: Wanted, out: &mut [u8]) -> Status
+pub fn hash_list(
+    variant: u32,
+    list: &[u8],
+    buffer: &[u8],
+    wanted: Wanted,
+    out: &mut [u8],
+) -> Result<(), Refusal>
     ensures { (result ≡ list_status variant list.now buffer.now wanted
         (length out.old))
         × (out.new ≡ list_into variant list.now buffer.now wanted out.old) }
 {
-    let s = check_list(variant, list, buffer, wanted, out.len());
-    let Status::Done = s else {
-        return s;
-    };
+    check_list(variant, list, buffer, wanted, out.len())?;
     let begun = hasher::start(variant);
     let led = update_header(begun.hasher, list);
     let h = update_all(led, list, buffer);

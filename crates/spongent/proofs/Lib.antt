@@ -11,4 +11,3 @@ pub mod WordStates
 pub mod LanePlaces
 pub mod LookUpRound
 pub mod TableLaws
-pub mod WordRounds

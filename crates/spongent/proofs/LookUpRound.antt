@@ -78,16 +78,16 @@ module _ (box : List ℕ) (n : ℕ) (least : 0 < n) (most : n ≤ 36) (w : List 
   pub looked-none : Looked box n w 0 (replicate 8 0)
   looked-none m h = (λ l. absurd (omega arith), λ l. no_pairs m)
 
-  module _ (j c lanes : ℕ) (out out' : List ℕ) (more : 8 * j < n) (ec : c ≡ min 8 (n - 8 * j)) (el : lanes ≡ spread_word box c (get_or w j 0))
+  module _ (j c lanes : ℕ) (out out' : List ℕ) (more : 8 * j < n) (ec : c ≡ min (n - 8 * j) 8) (el : lanes ≡ spread_word box c (get_or w j 0))
       (put : (m : ℕ) → pair_in out' m ≡ lanes_into lanes (16 * j) n m 4 (pair_in out m)) where
     narrow : c ≤ 8
-    narrow = rw ec (min-le_left 8 (n - 8 * j))
+    narrow = rw ec (min-le_right (n - 8 * j) 8)
 
     inside : 8 * j + c ≤ n
-    inside = let h : c ≤ n - 8 * j = rw ec (min-le_right 8 (n - 8 * j)) in omega arith
+    inside = let h : c ≤ n - 8 * j = rw ec (min-le_left (n - 8 * j) 8) in omega arith
 
     enough : (i : ℕ) → i < 8 → i < n - 8 * j → i < c
-    enough i h l = rw ec (le-min h l)
+    enough i h l = rw ec (le-min l h)
 
     lane-is : (b : ℕ) → b < 4 → lane lanes b ≡ row (given box (get_or w j 0) b) c
     lane-is b h = ap (λ (l : ℕ). lane l b) el ∙ spread-lane box (get_or w j 0) b c h narrow

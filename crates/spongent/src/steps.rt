@@ -11,21 +11,13 @@ ghost use Rattle.standard.specs.Variants.{variant};
 ghost use Rattle.spongent.specs.Parameters.{spongent_of, taps_of};
 ghost use Rattle.spongent.specs.Pairs.{Joined, pair_at, plane_pair};
 
-use octets::widen;
 use standard::Direction;
 
 // The byte with its bits in the reverse order.
 pub fn in_reverse(b: u8) -> u8
     ensures { result ≡ reversal 8 b }
 {
-    b % 2 * 128
-        + b / 2 % 2 * 64
-        + b / 4 % 2 * 32
-        + b / 8 % 2 * 16
-        + b / 16 % 2 * 8
-        + b / 32 % 2 * 4
-        + b / 64 % 2 * 2
-        + b / 128 % 2
+    b.reverse_bits()
 }
 
 // l_counter has w bits, in the first byte of the state. retnuo_cl is the same in reverse, from the top bit of the state
@@ -37,13 +29,11 @@ pub fn next_counter(w: usize, c: u8) -> u8
     requires { (6 ≤ w) × (w ≤ 8) }
     ensures { result ≡ next_counter w (taps_of w) c }
 {
-    if w == 6 {
-        return c % 32 * 2 + (c / 32 ^ c / 16) % 2;
+    match w {
+        6 => c % 32 * 2 + (c / 32 ^ c / 16) % 2,
+        7 => c % 64 * 2 + (c / 64 ^ c / 32) % 2,
+        _ => c % 128 * 2 + (c / 128 ^ (c / 8 ^ (c / 4 ^ c / 2))) % 2,
     }
-    if w == 7 {
-        return c % 64 * 2 + (c / 64 ^ c / 32) % 2;
-    }
-    c % 128 * 2 + (c / 128 ^ (c / 8 ^ (c / 4 ^ c / 2))) % 2
 }
 
 // The counter of w bits before c.
@@ -51,13 +41,11 @@ fn previous_counter(w: usize, c: u8) -> u8
     requires { (6 ≤ w) × ((w ≤ 8) × (c < 2 ^ w)) }
     ensures { result ≡ previous_counter w (taps_of w) c }
 {
-    if w == 6 {
-        return (c ^ c / 32) % 2 * 32 + c / 2;
+    match w {
+        6 => (c ^ c / 32) % 2 * 32 + c / 2,
+        7 => (c ^ c / 64) % 2 * 64 + c / 2,
+        _ => (c ^ (c / 16 ^ (c / 8 ^ c / 4))) % 2 * 128 + c / 2,
     }
-    if w == 7 {
-        return (c ^ c / 64) % 2 * 64 + c / 2;
-    }
-    (c ^ (c / 16 ^ (c / 8 ^ c / 4))) % 2 * 128 + c / 2
 }
 
 // The reversed counter of w bits after d.
@@ -65,13 +53,11 @@ pub fn next_reversed(w: usize, d: u8) -> u8
     requires { (6 ≤ w) × (w ≤ 8) }
     ensures { result ≡ next_reversed 8 w (taps_of w) d }
 {
-    if w == 6 {
-        return (d / 4 ^ d / 8) % 2 * 128 + d / 8 * 4;
+    match w {
+        6 => (d / 4 ^ d / 8) % 2 * 128 + d / 8 * 4,
+        7 => (d / 2 ^ d / 4) % 2 * 128 + d / 4 * 2,
+        _ => (d ^ (d / 16 ^ (d / 32 ^ d / 64))) % 2 * 128 + d / 2,
     }
-    if w == 7 {
-        return (d / 2 ^ d / 4) % 2 * 128 + d / 4 * 2;
-    }
-    (d ^ (d / 16 ^ (d / 32 ^ d / 64))) % 2 * 128 + d / 2
 }
 
 // The reversed counter of w bits before d.
@@ -79,13 +65,11 @@ fn previous_reversed(w: usize, d: u8) -> u8
     requires { (6 ≤ w) × ((w ≤ 8) × (d % 2 ^ (8 - w) ≡ 0)) }
     ensures { result ≡ previous_reversed 8 w (taps_of w) d }
 {
-    if w == 6 {
-        return d % 128 * 2 + (d / 128 ^ d / 4) % 2 * 4;
+    match w {
+        6 => d % 128 * 2 + (d / 128 ^ d / 4) % 2 * 4,
+        7 => d % 128 * 2 + (d / 128 ^ d / 2) % 2 * 2,
+        _ => d % 128 * 2 + (d / 128 ^ (d / 8 ^ (d / 16 ^ d / 32))) % 2,
     }
-    if w == 7 {
-        return d % 128 * 2 + (d / 128 ^ d / 2) % 2 * 2;
-    }
-    d % 128 * 2 + (d / 128 ^ (d / 8 ^ (d / 16 ^ d / 32))) % 2
 }
 
 // The counter of the round after the one with c.
@@ -117,9 +101,9 @@ pub fn c_addition(s: [u8; 36], n: usize, counter: u8, reversed: u8) -> [u8; 36]
         ≡ c_addition (8 * n) counter (take (8 * n) (bits_in low_first s)) ++ drop (8 * n) (bits_in low_first s) }
 {
     let mut out = s;
-    out[0] = out[0] ^ counter;
+    out[0] ^= counter;
     let last = n - 1;
-    out[last] = out[last] ^ reversed;
+    out[last] ^= reversed;
     out
 }
 
@@ -138,10 +122,8 @@ pub fn s_box_layer(s: [u8; 36], n: usize, table: &[u8; 16]) -> [u8; 36]
         ≡ s_box_layer table.now (take (8 * n) (bits_in low_first s)) ++ drop (8 * n) (bits_in low_first s) }
 {
     let mut out = s;
-    let mut i: usize = 0;
-    while i < n {
+    for i in 0..n {
         out[i] = s_box_byte(out[i], table);
-        i += 1;
     }
     out
 }
@@ -166,10 +148,8 @@ fn with_plane(pairs: [u8; 144], s: [u8; 36], from: usize, b: u8) -> [u8; 144]
         × ((j : ℕ) → j < from → get_or result j 0 ≡ get_or pairs j 0) }
 {
     let mut out = pairs;
-    let mut i: usize = 0;
-    while i < 36 {
+    for i in 0..36 {
         out[from + i] = pair(s[i], b);
-        i += 1;
     }
     out
 }
@@ -191,10 +171,10 @@ fn joined(w: u8, x: u8, y: u8, z: u8) -> u8
     requires { (w < 4) × ((x < 4) × ((y < 4) × (z < 4))) }
     ensures { (result % 4 ≡ w) × ((result / 4 % 4 ≡ x) × ((result / 16 % 4 ≡ y) × (result / 64 % 4 ≡ z))) }
 {
-    let all = widen::u8_to_u64(w)
-        + widen::u8_to_u64(x) * 0x100
-        + widen::u8_to_u64(y) * 0x10000
-        + widen::u8_to_u64(z) * 0x1000000;
+    let all = u64::from(w)
+        + u64::from(x) * 0x100
+        + u64::from(y) * 0x10000
+        + u64::from(z) * 0x1000000;
     (all * 0x1041040 / 0x1000000 % 0x100) as u8
 }
 
@@ -217,10 +197,8 @@ fn all_joined(pairs: [u8; 144], n: usize) -> [u8; 36]
         × ((k : ℕ) → n ≤ k → get_or result k 0 ≡ 0) }
 {
     let mut out = [0u8; 36];
-    let mut k: usize = 0;
-    while k < 36 {
-        out[k] = joined_at(&pairs, n, k);
-        k += 1;
+    for (k, byte) in out.iter_mut().enumerate() {
+        *byte = joined_at(&pairs, n, k);
     }
     out
 }
@@ -242,15 +220,13 @@ fn pairs_in(s: [u8; 36], n: usize) -> [u8; 144]
     ensures { (j : ℕ) → j < 4 * n → get_or result j 0 ≡ pair_at s j }
 {
     let mut out = [0u8; 144];
-    let mut k: usize = 0;
-    while k < n {
+    for k in 0..n {
         let x = s[k];
         let j = 4 * k;
         out[j] = x % 4;
         out[j + 1] = x / 4 % 4;
         out[j + 2] = x / 16 % 4;
         out[j + 3] = x / 64 % 4;
-        k += 1;
     }
     out
 }
@@ -270,15 +246,14 @@ fn all_gathered(pairs: [u8; 144], n: usize) -> [u8; 36]
         × ((k : ℕ) → n ≤ k → get_or result k 0 ≡ 0) }
 {
     let mut out = [0u8; 36];
-    let mut i: usize = 0;
-    while i < n {
+    for i in 0..n {
         out[i] = gathered(pairs[i], pairs[n + i], pairs[2 * n + i], pairs[3 * n + i]);
-        i += 1;
     }
     out
 }
 
-// The inverse of p_layer on the first t bits, with zeros after them.
+// The inverse of p_layer on the first t bits, with zeros after them. It shares no loop with p_layer: there a byte gives
+// to the planes, here the planes give to a byte.
 pub fn p_layer_back(s: [u8; 36], t: usize) -> [u8; 36]
     requires { (8 ≤ t) × ((t ≤ 288) × (t % 8 ≡ 0)) }
     ensures { bits_in low_first result ≡ p_layer t 4 (take t (bits_in low_first s)) ++ replicate (288 - t) false }
@@ -337,13 +312,11 @@ pub fn permuted(v: u8, s: [u8; 36], way: Direction) -> [u8; 36]
     let mut out = s;
     let mut counter = start_counter(v, way);
     let mut reversed = in_reverse(counter);
-    let mut k: usize = 0;
-    while k < n {
+    for _k in 0..n {
         let after = round(out, t, counter, reversed, way);
         out = after;
         counter = stepped_counter(w, counter, way);
         reversed = stepped_reversed(w, reversed, way);
-        k += 1;
     }
     out
 }

@@ -2,14 +2,15 @@
 use mathlib.Core.Path.{◌≡◌, sym, ap, ◌∙◌}
 use mathlib.Core.List.{List, [], ◌∷◌, ◌++◌, foldl-append}
 use Prim.Native.Nat.{ℕ, ◌+◌, ◌-◌, ◌*◌, ◌/◌, ◌%◌, ◌<◌}
-use native.Mathlib.Nat.{zero-add, add-mul-mod_self_left}
+use native.Mathlib.Nat.{zero-add}
 use native.Mathlib.Numerals.{add-one}
 use native.Mathlib.Omega.{arith}
 use lib.ListN.{length, get_or, set, take, drop}
 use lib.Seq.{take-suc, paste-suc}
 use Rattle.standard.proofs.Tab.{length-tab, get_d-tab}
 use Rattle.octets.specs.Text.{from_decimal}
-use Rattle.vectors.specs.Words.{pair_value, said_bytes}
+use Rattle.std.specs.Prelude.{unwrap_or}
+use Rattle.vectors.specs.Words.{digit_value, pair_value, said_bytes}
 
 -- one element more over the front
 front-more : (d s : List ℕ) (i : ℕ) → i < length d → i < length s → set (take i s ++ drop i d) i (get_or s i 0) ≡ take (i + 1) s ++ drop (i + 1) d
@@ -22,9 +23,7 @@ digit-more word i h = rw (add-one, take-suc word i 0 h) (foldl-append (λ (n cod
 
 -- and the same in 32 bits
 number-more-low : (x d : ℕ) → (x % 4294967296 * 10 + d) % 4294967296 ≡ (x * 10 + d) % 4294967296
-number-more-low x d =
-    let whole : x * 10 + d ≡ x % 4294967296 * 10 + d + 4294967296 * (x / 4294967296 * 10) = omega arith in
-    sym (ap (λ (n : ℕ). n % 4294967296) whole ∙ add-mul-mod_self_left (x % 4294967296 * 10 + d) 4294967296 (x / 4294967296 * 10))
+number-more-low x d = omega arith
 
 pub number_more : (word : List ℕ) (i n r : ℕ) → i < length word → n ≡ from_decimal (take i word) % 4294967296
     → r ≡ (n * 10 + (get_or word i 0 - 48)) % 4294967296 → r ≡ from_decimal (take (i + 1) word) % 4294967296
@@ -32,6 +31,11 @@ number_more word i n r h e er =
     er ∙ ap (λ (m : ℕ). (m * 10 + (get_or word i 0 - 48)) % 4294967296) e
     ∙ number-more-low (from_decimal (take i word)) (get_or word i 0 - 48)
     ∙ sym (ap (λ (m : ℕ). m % 4294967296) (digit-more word i h))
+
+-- a digit is less than 16
+pub digit-small : (c : ℕ) → unwrap_or (digit_value c) 0 < 16
+unfolding digit_value
+digit-small c = grind arith
 
 -- one byte more
 pub byte_more : (word out₀ out : List ℕ) (i b : ℕ) → i < length word / 2 → i < length out₀

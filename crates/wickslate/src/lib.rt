@@ -20,10 +20,10 @@ ghost use Rattle.manifest.specs.Records.{manifest_status};
 ghost use Rattle.lent.specs.Cursors.{moved_on};
 ghost use Rattle.wickslate.specs.Exports.{wanted_of, offset_given, length_given};
 
-use answers::Status;
+use answers::Refusal;
 use hasher::Hasher;
 use lent::Cursor;
-use segments::Step;
+use segments::Entry;
 use standard::Wanted;
 
 // Begins a message: refusal 1.
@@ -80,14 +80,15 @@ pub extern "C" fn wickslate_end_state(h: &Hasher, out: &mut [u8]) -> u32
     answers::answer_of(lent::end_state(h, out))
 }
 
-// 0 asks for the digest, any other number for the end state.
+// 0 asks for the digest, any other number for the end state. It stays a number: the C interface gives one to
+// wickslate_hash, wickslate_hash_bits and wickslate_hash_list.
 fn wanted_of(n: u32) -> Wanted
     ensures { result ≡ wanted_of n }
 {
-    if n == 0 {
-        return Wanted::Digest;
+    match n {
+        0 => Wanted::Digest,
+        _ => Wanted::EndState,
     }
-    Wanted::EndState
 }
 
 // The digest of a whole message or, if `wanted` is not 0, its end state: refusals 1, 4, 5.
@@ -141,8 +142,7 @@ pub extern "C" fn wickslate_unpermute(variant: u32, image: &mut [u8]) -> u32
 pub extern "C" fn wickslate_lesamnta_encrypt(key: &[u8; 16], state: &mut [u8; 32])
     ensures { state.new ≡ ciphered Forward key.now state.old }
 {
-    let enciphered = lesamnta::encrypt(*key, *state);
-    *state = enciphered;
+    *state = lesamnta::encrypt(*key, *state);
 }
 
 // Its inverse under the key.
@@ -150,8 +150,7 @@ pub extern "C" fn wickslate_lesamnta_encrypt(key: &[u8; 16], state: &mut [u8; 32
 pub extern "C" fn wickslate_lesamnta_decrypt(key: &[u8; 16], state: &mut [u8; 32])
     ensures { state.new ≡ ciphered Backward key.now state.old }
 {
-    let deciphered = lesamnta::decrypt(*key, *state);
-    *state = deciphered;
+    *state = lesamnta::decrypt(*key, *state);
 }
 
 // The block that, at that place among the blocks of the padded message, leads to the end state of the image:
@@ -199,18 +198,18 @@ pub extern "C" fn wickslate_check_entry(list: &[u8], buffer: &[u8], k: usize) ->
 }
 
 // Writes a step's entry through two lent numbers, and gives its answer; a refusal leaves both unchanged.
-fn give(s: Step, offset: &mut u32, length: &mut u32) -> u32
+fn give(s: Result<Entry, Refusal>, offset: &mut u32, length: &mut u32) -> u32
     ensures { (result ≡ step_answer s)
         × (offset.new ≡ offset_given s offset.old)
         × (length.new ≡ length_given s length.old) }
 {
     match s {
-        Step::Entry(o, l) => {
-            *offset = o;
-            *length = l;
+        Ok(entry) => {
+            *offset = entry.offset;
+            *length = entry.length;
             0
         }
-        Step::Refused(refusal) => answers::answer_of(Status::Refused(refusal)),
+        Err(refusal) => answers::answer_of(Err(refusal)),
     }
 }
 
@@ -221,19 +220,13 @@ pub extern "C" fn wickslate_entry(list: &[u8], k: usize, offset: &mut u32, lengt
         × (offset.new ≡ offset_given (found_at list.now k).step offset.old)
         × (length.new ≡ length_given (found_at list.now k).step length.old) }
 {
-    let f = segments::entry_at(list, k);
-    let s = f.step;
-    give(s, offset, length)
+    give(segments::entry_at(list, k).step, offset, length)
 }
 
 // A step of a cursor: refusals 9, 7. It gives the next entry's offset and length and moves on; if it is refused, all
 // three are unchanged.
 #[unsafe(no_mangle)]
-pub extern "C" fn wickslate_advance<'s, 'a>(
-    c: &'s mut Cursor<'a>,
-    offset: &mut u32,
-    length: &mut u32,
-) -> u32
+pub extern "C" fn wickslate_advance(c: &mut Cursor, offset: &mut u32, length: &mut u32) -> u32
     ensures { (result ≡ step_answer (found_at c.old.list.now c.old.next).step)
         × (c.new ≡ moved_on c.old)
         × (offset.new

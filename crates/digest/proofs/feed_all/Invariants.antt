@@ -2,8 +2,5 @@
 use Rattle.digest.proofs.ReadLaws.{left_of}
 use Rattle.digest.proofs.feed_all.Given as goal
 
-abbrev pub invariant-loop-fed : goal.invariant-loop-fed
-invariant-loop-fed g l = Unit {0}
-
 abbrev pub decreases-loop-fed : goal.decreases-loop-fed
 decreases-loop-fed g l = left_of l.fed

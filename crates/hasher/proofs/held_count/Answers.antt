@@ -1,7 +1,6 @@
 -- `hasher::held_count` meets its contract: none in a closed running hash, and the bits past the last whole block in an open one. Assumes nothing.
 use mathlib.Core.Path.{sym, ap, ◌∙◌}
 use Prim.Native.Nat.{ℕ, ◌%◌}
-use native.Mathlib.Nat.{mod-lt}
 use native.Mathlib.Omega.{arith}
 use borrow.Author.Tests.{eq-eqb, ne_eqb}
 use Rattle.standard.proofs.Variants.{bounds}
@@ -13,11 +12,6 @@ returns-then-h-eq1 c = sym (closed-count c.args.h (eq-eqb _ _ c.if-h-eq1.true))
 
 pub nonzero_rem-result : goal.nonzero_rem-result
 nonzero_rem-result c = omega (arith, c.block_bits.ensures, (bounds c.args.h.variant c.requires).rate-least)
-
-pub overflow_cast-result : goal.overflow_cast-result
-overflow_cast-result c =
-    let b = bounds c.args.h.variant c.requires in
-    omega (arith, mod-lt c.args.h.total {m = c.block_bits.result} (omega (arith, c.block_bits.ensures, b.rate-least)), c.block_bits.ensures, b.rate-most)
 
 pub returns : goal.returns
 returns c =

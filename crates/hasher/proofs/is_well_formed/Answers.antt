@@ -1,6 +1,7 @@
 -- `hasher::is_well_formed` meets its contract: the tests one by one. Assumes nothing.
-use mathlib.Core.Path.{◌≡◌, sym, ◌∙◌}
-use mathlib.Core.Bool.{true}
+use mathlib.Core.Path.{◌≡◌, sym, ap, ◌∙◌}
+use mathlib.Core.Bool.{true, false}
+use mathlib.Core.Logic.{⊎_elim}
 use borrow.Author.Tests.{le-leb, lt-leb}
 use Rattle.standard.specs.Variants.{known}
 use Rattle.hasher.specs.Running.{well_formed}
@@ -9,42 +10,25 @@ use Rattle.hasher.proofs.is_well_formed.Goals as goal
 
 pub returns-then-not-is_known : goal.returns-then-not-is_known
 unfolding well_formed
-returns-then-not-is_known c = rw (sym c.is_known.ensures ∙ c.if-not-is_known.true)
+returns-then-not-is_known c =
+    let is : known c.args.h.variant ≡ c.is_known.result = sym (c.is_known.ensures ∙ ap known c.from.ensures) in
+    ⊎_elim
+    (λ e. let unknown : known c.args.h.variant ≡ false = is ∙ e in rw unknown)
+    (⊎_elim
+    (λ e. let named : known c.args.h.variant ≡ true = is ∙ e.0 in rw (named, lt-leb _ _ e.1))
+    (λ e. let named : known c.args.h.variant ≡ true = is ∙ e.0 in rw (named, le-leb _ _ e.1, lt-leb _ _ e.2)))
+    c.then-not-is_known.either
 
-pub returns-then-h-gt1 : goal.returns-then-h-gt1
+pub returns-then-clear_from : goal.returns-then-clear_from
 unfolding well_formed
-returns-then-h-gt1 c =
-    let named : known c.args.h.variant ≡ true = sym c.is_known.ensures ∙ c.if-not-is_known.false in
-    rw (named, lt-leb _ _ c.if-h-gt1.true)
+returns-then-clear_from c =
+    let named : known c.args.h.variant ≡ true = sym (c.is_known.ensures ∙ ap known c.from.ensures) ∙ c.if-not-is_known.false in
+    rw (named, le-leb _ _ c.if-h-gt1.false, le-leb _ _ c.if-h-gt-MAX_MESSAGE_BITS.false, spare _ named, ← c.state_bits.ensures, sym c.clear_from.ensures ∙ c.if-clear_from.true, ← c.held_count.ensures)
+    c.clear_from-then-clear_from.ensures
 
-pub returns-then-h-gt-MAX_MESSAGE_BITS : goal.returns-then-h-gt-MAX_MESSAGE_BITS
+pub returns-else-clear_from : goal.returns-else-clear_from
 unfolding well_formed
-returns-then-h-gt-MAX_MESSAGE_BITS c =
-    let named : known c.args.h.variant ≡ true = sym c.is_known.ensures ∙ c.if-not-is_known.false in
-    rw (named, le-leb _ _ c.if-h-gt1.false, lt-leb _ _ c.if-h-gt-MAX_MESSAGE_BITS.true)
-
-pub clear_from-requires : goal.clear_from-requires
-clear_from-requires c = tt
-
-pub returns-then-not-clear_from : goal.returns-then-not-clear_from
-unfolding well_formed
-returns-then-not-clear_from c =
-    let named : known c.args.h.variant ≡ true = sym c.is_known.ensures ∙ c.if-not-is_known.false in
-    let k = named in
-    rw (k, le-leb _ _ c.if-h-gt1.false, le-leb _ _ c.if-h-gt-MAX_MESSAGE_BITS.false, spare _ k, ← c.state_bits.ensures, sym c.clear_from.ensures ∙ c.if-not-clear_from.true)
-
-pub held_count-requires : goal.held_count-requires
-held_count-requires c =
-    let named : known c.args.h.variant ≡ true = sym c.is_known.ensures ∙ c.if-not-is_known.false in
-    named
-
-pub clear_from-requires-2 : goal.clear_from-requires-2
-clear_from-requires-2 c = tt
-
-pub returns : goal.returns
-unfolding well_formed
-returns c =
-    let named : known c.args.h.variant ≡ true = sym c.is_known.ensures ∙ c.if-not-is_known.false in
-    let k = named in
-    rw (k, le-leb _ _ c.if-h-gt1.false, le-leb _ _ c.if-h-gt-MAX_MESSAGE_BITS.false, spare _ k, ← c.state_bits.ensures, sym c.clear_from.ensures ∙ c.if-not-clear_from.false, ← c.held_count.ensures)
-    c.clear_from-2.ensures
+returns-else-clear_from c =
+    let named : known c.args.h.variant ≡ true = sym (c.is_known.ensures ∙ ap known c.from.ensures) ∙ c.if-not-is_known.false in
+    rw (named, le-leb _ _ c.if-h-gt1.false, le-leb _ _ c.if-h-gt-MAX_MESSAGE_BITS.false, spare _ named, ← c.state_bits.ensures, sym c.clear_from.ensures ∙ c.if-clear_from.false)
+    c.if-clear_from.false

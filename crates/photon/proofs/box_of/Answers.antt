@@ -7,16 +7,20 @@ use Rattle.photon.specs.Parameters.{photon_of}
 use Rattle.photon.proofs.ParametersOf.{present-of}
 use Rattle.photon.proofs.box_of.Goals as goal
 
-pub returns-then-v-eq5 : goal.returns-then-v-eq5
+pub returns-in-Forward-eq5 : goal.returns-in-Forward-eq5
 unfolding photon_of variant aes
-returns-then-v-eq5 c k = rw (c.if-v-eq5.true, c.in-Forward.is)
+returns-in-Forward-eq5 c k = let arm = c.in-Forward-eq5 in rw (arm.is-1, arm.is-0)
 
-pub returns-then-v-eq5-2 : goal.returns-then-v-eq5-2
+pub returns-in-Forward-default : goal.returns-in-Forward-default
+returns-in-Forward-default c k =
+    let arm = c.in-Forward-default in
+    rw (arm.is-0, (present-of c.args.v (omega arith) (omega arith)).0) (c.widened.ensures k)
+
+pub returns-in-Backward-eq5 : goal.returns-in-Backward-eq5
 unfolding photon_of variant unaes
-returns-then-v-eq5-2 c k = rw (c.if-v-eq5-2.true, c.in-Backward.is)
+returns-in-Backward-eq5 c k = let arm = c.in-Backward-eq5 in rw (arm.is-1, arm.is-0)
 
-pub returns-else-v-eq5 : goal.returns-else-v-eq5
-returns-else-v-eq5 c k = rw (c.in-Forward.is, (present-of c.args.v (omega arith) (omega arith)).0) (c.widened.ensures k)
-
-pub returns-else-v-eq5-2 : goal.returns-else-v-eq5-2
-returns-else-v-eq5-2 c k = rw (c.in-Backward.is, (present-of c.args.v (omega arith) (omega arith)).1) (c.widened-in-Backward.ensures k)
+pub returns-in-Backward-default : goal.returns-in-Backward-default
+returns-in-Backward-default c k =
+    let arm = c.in-Backward-default in
+    rw (arm.is-0, (present-of c.args.v (omega arith) (omega arith)).1) (c.widened-in-Backward-default.ensures k)

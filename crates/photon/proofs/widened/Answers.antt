@@ -1,11 +1,6 @@
--- `photon::widened` meets its contract: after k turns the first k entries are in place, and behind them are zeros. Assumes nothing.
-use mathlib.Core.Path.{◌≡◌, refl, sym, ◌∙◌}
-use mathlib.Core.Logic.{⊎_elim}
-use Prim.Native.Nat.{ℕ, zero, suc}
-use native.Mathlib.Omega.{arith}
-use lib.ListN.{get_or, replicate, get_or-eq_default}
-use Rattle.standard.proofs.Tests.{lt-or-le}
-use Rattle.octets.proofs.Upto.{upto-none, upto-more}
+-- `photon::widened` meets its contract: the table is in front, and behind it are zeros. Assumes nothing.
+use Rattle.std.proofs.Common.{◌≡◌, ℕ, zero, suc, refl, List, [], ◌∷◌, ◌++◌, get_or}
+use lib.ListN.{replicate}
 use Rattle.photon.proofs.widened.Goals as goal
 
 zero-at : (n k : ℕ) → ◌≡◌ {A = ℕ} (get_or (replicate n 0) k 0) 0
@@ -13,16 +8,11 @@ zero-at zero k = refl
 zero-at (suc n) zero = refl
 zero-at (suc n) (suc k) = zero-at n k
 
-pub loop-k-init : goal.loop-k-init
-loop-k-init c = (omega arith, upto-none _ refl)
-
-pub loop-k-preserved : goal.loop-k-preserved
-loop-k-preserved c =
-    let l = c.loop-k in
-    (omega arith, upto-more l.k _ l.out _ (omega arith) refl l.invariant.1)
+-- zeros after a list are not seen
+padded : (xs : List ℕ) (n k : ℕ) → ◌≡◌ {A = ℕ} (get_or (xs ++ replicate n 0) k 0) (get_or xs k 0)
+padded [] n k = zero-at n k
+padded (x ∷ xs) n zero = refl
+padded (x ∷ xs) n (suc k) = padded xs n k
 
 pub returns : goal.returns
-returns c = λ k.
-    let l = c.loop-k in
-    ⊎_elim (λ h. l.invariant.1.done k (omega arith))
-    (λ h. l.invariant.1.rest k (omega arith) ∙ zero-at 256 k ∙ sym (get_or-eq_default c.args.table 0 (omega arith))) (lt-or-le k 16)
+returns c k = rw c.copy_from_slice.ensures.after (padded c.args.table 240 k)

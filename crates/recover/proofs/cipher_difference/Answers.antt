@@ -8,5 +8,5 @@ use Rattle.recover.proofs.cipher_difference.Goals as goal
 pub returns : goal.returns
 returns c =
     let r = c.xored in
-    cipher-between c.args.s c.args.end c.requires (omega arith) c.decrypt_front-x.result c.at_front-enciphered.result c.second_half-half.result r.result
-    c.decrypt_front-x.ensures c.at_front-enciphered.ensures c.second_half-half.ensures (bytes_lt state_room r.result _ r.type_inv) (omega arith) r.ensures
+    cipher-between c.args.s c.args.end c.requires (omega arith) c.decrypt_front.result c.at_front-enciphered.result c.second_half-half.result r.result
+    c.decrypt_front.ensures c.at_front-enciphered.ensures c.second_half-half.ensures (bytes_lt state_room r.result _ r.type_inv) (omega arith) r.ensures

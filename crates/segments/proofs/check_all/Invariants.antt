@@ -1,14 +1,11 @@
 -- `segments::check_all` meets its contract: the entries passed so far are Done. Assumes nothing.
 use mathlib.Core.Path.{◌≡◌}
-use Prim.Native.Nat.{ℕ, ◌-◌, ◌≤◌, ◌<◌}
+use Prim.Native.Nat.{ℕ, ◌<◌}
 use lib.ListN.{length}
-use Rattle.answers.specs.declared.Status.TheVariants.{Done}
+use Rattle.answers.specs.Refusals.{Done}
 use Rattle.answers.specs.Checks.{first_refusal}
 use Rattle.segments.specs.Entries.{entry_checks}
 use Rattle.segments.proofs.check_all.Given as goal
 
 abbrev pub invariant-loop-k : goal.invariant-loop-k
-invariant-loop-k l = (l.k ≤ l.n) × ((j : ℕ) → j < l.k → first_refusal (entry_checks l.list (length l.buffer) j) ≡ Done)
-
-abbrev pub decreases-loop-k : goal.decreases-loop-k
-decreases-loop-k l = l.n - l.k
+invariant-loop-k l = (j : ℕ) → j < l.k → first_refusal (entry_checks l.list (length l.buffer) j) ≡ Done

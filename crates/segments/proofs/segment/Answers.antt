@@ -5,22 +5,22 @@ use Rattle.segments.specs.Entries.{segment_of, segment_at}
 use Rattle.segments.proofs.EntryLaws.{segment-checked, entry-fits, segment-taken}
 use Rattle.segments.proofs.segment.Goals as goal
 
-pub offset_at-a-requires : goal.offset_at-a-requires
-offset_at-a-requires c = (segment-checked _ _ _ (sym c.check_entry.ensures ∙ c.in-Done.is)).there
+pub offset_at-begin-requires : goal.offset_at-begin-requires
+offset_at-begin-requires c = (segment-checked _ _ _ (sym c.check_entry.ensures ∙ c.in-Ok.is)).there
 
-pub end_at-e-requires : goal.end_at-e-requires
-end_at-e-requires c = (segment-checked _ _ _ (sym c.check_entry.ensures ∙ c.in-Done.is)).there
+pub end_at-end-requires : goal.end_at-end-requires
+end_at-end-requires c = (segment-checked _ _ _ (sym c.check_entry.ensures ∙ c.in-Ok.is)).there
 
 pub slice_bounds-result-end : goal.slice_bounds-result-end
 slice_bounds-result-end c =
-    let d = sym c.check_entry.ensures ∙ c.in-Done.is in
-    omega (arith, (entry-fits _ _ _ (segment-checked _ _ _ d).entry).within, c.end_at-e.ensures)
+    let d = sym c.check_entry.ensures ∙ c.in-Ok.is in
+    omega (arith, (entry-fits _ _ _ (segment-checked _ _ _ d).entry).within, c.end_at-end.ensures)
 
-pub returns-in-Done : goal.returns-in-Done
-returns-in-Done c = segment-taken _ _ _ _ (sym c.check_entry.ensures ∙ c.in-Done.is) _ _ c.offset_at-a.ensures c.end_at-e.ensures
+pub returns-in-Ok : goal.returns-in-Ok
+returns-in-Ok c = segment-taken _ _ _ _ (sym c.check_entry.ensures ∙ c.in-Ok.is) _ _ c.offset_at-begin.ensures c.end_at-end.ensures
 
-pub returns-in_default : goal.returns-in_default
+pub returns-in-Err : goal.returns-in-Err
 unfolding segment_of segment_at
-returns-in_default c =
-    let e = sym c.check_entry.ensures ∙ c.in_default.is in
+returns-in-Err c =
+    let e = sym c.check_entry.ensures ∙ c.in-Err.is in
     (rw e, rw e)

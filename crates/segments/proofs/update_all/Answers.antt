@@ -10,19 +10,17 @@ use Rattle.segments.proofs.DigestLaws.{no-segment, next-segment, every-segment}
 use Rattle.segments.proofs.update_all.Goals as goal
 
 pub loop-k-init : goal.loop-k-init
-loop-k-init c = (omega arith, no-segment _ (owned _ _ c.well_formed.0) c.requires.fact _ _ c.requires.list_value.0 c.requires.list_value.1 c.requires.h_value.0 c.requires.h_value.1)
+loop-k-init c = no-segment _ (owned _ _ c.well_formed.0) c.requires.fact _ _ c.requires.list_value.0 c.requires.list_value.1 c.requires.h_value.0 c.requires.h_value.1
 
 pub loop-k-preserved : goal.loop-k-preserved
-loop-k-preserved c = (
-  omega arith,
-  ap (λ (u : Advanced). u.hasher) c.update-u.ensures
-      ∙ next-segment _ (owned _ _ c.well_formed.0) c.requires.fact _ _ c.requires.list_value.0 c.requires.list_value.1 c.requires.h_value.0 c.requires.h_value.1 c.loop-k.k (omega arith) _ _ c.loop-k.invariant.1 c.segment.ensures.0,
-)
+loop-k-preserved c =
+    ap (λ (u : Advanced). u.hasher) c.update.ensures
+    ∙ next-segment _ (owned _ _ c.well_formed.0) c.requires.fact _ _ c.requires.list_value.0 c.requires.list_value.1 c.requires.h_value.0 c.requires.h_value.1 c.loop-k.k (omega arith) _ _ c.loop-k.invariant c.segment.ensures.0
 
 pub returns : goal.returns
 returns c =
     let a = c.args in
     let e : c.loop-k.k ≡ count a.list.now = omega arith in
-    c.loop-k.invariant.1
+    c.loop-k.invariant
     ∙ ap (λ k. onward a.h (segments_up_to a.list.now a.buffer.now k)) e
     ∙ every-segment a.h (owned _ _ c.well_formed.0) c.requires.fact a.list.now a.buffer.now c.requires.list_value.0 c.requires.list_value.1 c.requires.h_value.0 c.requires.h_value.1

@@ -4,5 +4,5 @@ use Rattle.answers.proofs.text.write_refusal.Goals as goal
 
 pub returns : goal.returns
 returns c =
-    let n = c.number_of.ensures in
-    rw (← n) (record { out_after = c.write_line.ensures.out_after; value = (omega (arith, c.write_line.ensures.value.0), omega (arith, c.write_line.ensures.value.1)) })
+    let n = c.number.ensures in
+    rw (← n, ← c.from.ensures) (record { out_after = c.write_line.ensures.out_after; value = (omega (arith, c.write_line.ensures.value.0), omega (arith, c.write_line.ensures.value.1)) })

@@ -6,9 +6,6 @@ use Rattle.chain.proofs.images.is_image.Goals as goal
 pub returns-then-image-image_bytes : goal.returns-then-image-image_bytes
 returns-then-image-image_bytes c = sym (not-length c.args.v c.requires c.args.image.now (λ e. c.if-image-image_bytes.true (e ∙ sym c.image_bytes.ensures)))
 
-pub clear_from-requires : goal.clear_from-requires
-clear_from-requires c = tt
-
 pub returns : goal.returns
 returns c =
     let a = c.args in

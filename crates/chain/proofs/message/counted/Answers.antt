@@ -1,5 +1,6 @@
 -- `chain::message::counted` meets its contract, for each family. Assumes nothing.
 use mathlib.Core.Path.{◌≡◌, sym, ap, ◌∙◌, subst}
+use mathlib.Core.Logic.{⊎_elim}
 use Prim.Native.Nat.{ℕ, ◌%◌, ◌^◌, ◌<◌, ◌≤◌}
 use native.Mathlib.Omega.{arith}
 use Rattle.standard.specs.Messages.{counted_of}
@@ -21,16 +22,14 @@ nonzero_rem-result c = power_pos c.args.k c.requires.1
 pub returns-in-Photon : goal.returns-in-Photon
 returns-in-Photon c =
     let a = c.args in
-    let n = numbers_of a.v c.requires.0 c.family_of-family.ensures c.in-Photon.is in
-    told a.v a.b a.k c.requires.1 (omega arith) _ (sym (photon-counts a.v n.0 n.1 a.k a.b))
+    rw c.from-x.ensures
+    (told a.v a.b a.k c.requires.1 (omega arith) _
+    (⊎_elim (λ is. let n = numbers_of a.v c.requires.0 c.family_of.ensures is in sym (photon-counts a.v n.0 n.1 a.k a.b))
+    (λ is. sym (lesamnta-counts a.v (numbers_of a.v c.requires.0 c.family_of.ensures is) a.k a.b)) c.in-Photon.is))
 
 pub returns-in-Spongent : goal.returns-in-Spongent
 returns-in-Spongent c =
     let a = c.args in
-    let n = numbers_of a.v c.requires.0 c.family_of-family.ensures c.in-Spongent.is in
-    told a.v a.b a.k c.requires.1 (omega arith) _ (ap (λ (n : ℕ). a.b % n) (power a.k c.requires.1) ∙ sym (spongent-counts a.v n.0 n.1 a.k a.b))
-
-pub returns-in-Lesamnta : goal.returns-in-Lesamnta
-returns-in-Lesamnta c =
-    let a = c.args in
-    told a.v a.b a.k c.requires.1 (omega arith) _ (sym (lesamnta-counts a.v (numbers_of a.v c.requires.0 c.family_of-family.ensures c.in-Lesamnta.is) a.k a.b))
+    let n = numbers_of a.v c.requires.0 c.family_of.ensures c.in-Spongent.is in
+    rw c.from-x.ensures
+    (told a.v a.b a.k c.requires.1 (omega arith) _ (ap (λ (n : ℕ). a.b % n) (power a.k c.requires.1) ∙ sym (spongent-counts a.v n.0 n.1 a.k a.b)))

@@ -11,7 +11,7 @@ returns-then-count-eq0 c =
     rw c.if-count-eq0.true (c.requires.holds ∙ ap (packed_state (variant v)) (run-start v c.requires.v_value _ _))
 
 pub outcome_after-requires : goal.outcome_after-requires
-outcome_after-requires c = (c.requires.v_value, c.requires.nibbles_bound.0, c.requires.nibbles_bound.1)
+outcome_after-requires c = (c.requires.v_value, c.requires.count_bound)
 
 pub returns : goal.returns
 returns c = c.outcome_after.ensures

@@ -1,5 +1,5 @@
 -- `chain::padding::data_blocks` meets its contract. Assumes nothing.
-use mathlib.Core.Path.{sym, ap, ◌∙◌}
+use mathlib.Core.Path.{◌≡◌, sym, ap, ◌∙◌}
 use mathlib.Core.Bool.{Bool, cond}
 use Prim.Native.Nat.{ℕ, ◌+◌, ◌/◌}
 use native.Mathlib.Nat.{div-le_self}
@@ -29,4 +29,5 @@ returns c =
     let v = c.args.v in
     let n : ℕ = c.args.bits in
     let told = sym c.is_sponge.ensures ∙ c.if-is_sponge.false in
-    (ap (λ (b : Bool). cond b (n / (variant v).r + 1) ((n + 127) / 128)) (sym told), omega arith)
+    let up : c.div_ceil.result ≡ (n + 127) / 128 = omega arith in
+    (up ∙ ap (λ (b : Bool). cond b (n / (variant v).r + 1) ((n + 127) / 128)) (sym told), omega arith)

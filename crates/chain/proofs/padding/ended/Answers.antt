@@ -21,7 +21,7 @@ returns-then-is_sponge c =
     (sym (ap (λ (b : Bool). run H (state_in H c.args.s) (cond b [] (length_block c.args.bits ∷ []))) told ∙ run_none H (state_in H c.args.s)))
 
 pub run_blocks-requires : goal.run_blocks-requires
-run_blocks-requires c = record { v_value = c.requires.v_value; holds = c.requires.holds; nibbles_bound = (omega arith, omega arith) }
+run_blocks-requires c = record { v_value = c.requires.v_value; holds = c.requires.holds; count_bound = omega arith }
 
 pub returns : goal.returns
 returns c =

@@ -18,11 +18,11 @@ width c = omega arith
 pub with_padding_bit-requires : goal.with_padding_bit-requires
 with_padding_bit-requires c =
     let k = c.args.c % 8 in
-    (omega arith, shr_lt k (8 - k) (rw (width c.args.c) (bytes_lt 16 c.args.held _ c.well_formed.0 (c.args.c / 8))))
+    rw c.from-x.ensures (omega arith, shr_lt k (8 - k) (rw (width c.args.c) (bytes_lt 16 c.args.held _ c.well_formed.0 (c.args.c / 8))))
 
 pub returns : goal.returns
 returns c =
     let k = c.args.c % 8 in
     let x = get_or c.args.held (c.args.c / 8) 0 in
     c.with_padding_bit.ensures
-    ∙ ap (λ (bs : List Bool). bs ++ true ∷ replicate (7 - k) false) (sym (high-take k (8 - k) x) ∙ ap (λ (n : ℕ). take k (bits_of high_first n x)) (width c.args.c))
+    ∙ rw c.from-x.ensures (ap (λ (bs : List Bool). bs ++ true ∷ replicate (7 - k) false) (sym (high-take k (8 - k) x) ∙ ap (λ (n : ℕ). take k (bits_of high_first n x)) (width c.args.c)))

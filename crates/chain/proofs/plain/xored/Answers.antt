@@ -7,12 +7,12 @@ use Rattle.standard.proofs.BitLaws.{bytes_xor-none, bytes_xor-more, bits_in-byte
 use Rattle.chain.proofs.plain.xored.Goals as goal
 
 pub loop-i-init : goal.loop-i-init
-loop-i-init c = (omega arith, omega arith, sym (bytes_xor-none c.args.s))
+loop-i-init c = sym (bytes_xor-none c.args.s)
 
 pub loop-i-preserved : goal.loop-i-preserved
-loop-i-preserved c = (c.loop-i.invariant.0, omega arith, rw (add-one, c.loop-i.invariant.2) (bytes_xor-more c.args.s c.args.b.now c.loop-i.i (omega arith) (omega arith)))
+loop-i-preserved c = rw (add-one, c.loop-i.invariant) (bytes_xor-more c.args.s c.args.b.now c.loop-i.i (omega arith) (omega arith))
 
 pub returns : goal.returns
 returns c o =
     let b = c.args.b.now in
-    rw (c.loop-i.invariant.2, take_all c.loop-i.i b (omega arith)) (bits_in-bytes_xor o c.args.s b)
+    rw (c.loop-i.invariant, take_all c.loop-i.i b (omega arith)) (bits_in-bytes_xor o c.args.s b)

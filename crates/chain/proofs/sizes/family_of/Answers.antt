@@ -6,13 +6,15 @@ use Rattle.spongent.proofs.ParametersOf.{family-of}
 use Rattle.chain.proofs.FamilyLaws.{lesamnta-only}
 use Rattle.chain.proofs.sizes.family_of.Goals as goal
 
-pub returns-then-v-le5 : goal.returns-then-v-le5
-returns-then-v-le5 c = rw (photon-variant c.args.v (known-low c.args.v c.requires) c.if-v-le5.true)
-
-pub returns-then-v-le10 : goal.returns-then-v-le10
-returns-then-v-le10 c =
+pub returns-in-0-to-5 : goal.returns-in-0-to-5
+returns-in-0-to-5 c =
     let v = c.args.v in
-    rw (family-of v (omega arith) c.if-v-le10.true)
+    rw (photon-variant v (known-low v c.requires) (omega arith))
 
-pub returns : goal.returns
-returns c = lesamnta-only c.args.v (omega (arith, known-high c.args.v c.requires))
+pub returns-in-6-to-10 : goal.returns-in-6-to-10
+returns-in-6-to-10 c =
+    let v = c.args.v in
+    rw (family-of v (omega arith) (omega arith))
+
+pub returns-in_default : goal.returns-in_default
+returns-in_default c = lesamnta-only c.args.v (omega (arith, known-high c.args.v c.requires))

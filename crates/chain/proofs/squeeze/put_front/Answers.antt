@@ -12,40 +12,32 @@ use Rattle.chain.proofs.SqueezeLaws.{front-size, front_kept, front-next}
 use Rattle.chain.proofs.squeeze.put_front.Goals as goal
 
 pub loop-i-init : goal.loop-i-init
-loop-i-init c = (omega arith, c.requires.out_len.0, c.requires.out_value ∙ ap (pack high_first state_room) (sym (append-nil _)))
-
-pub nibble_of-requires : goal.nibble_of-requires
-nibble_of-requires c = tt
+loop-i-init c = c.requires.out_value ∙ ap (pack high_first state_room) (sym (append-nil _))
 
 pub put_nibble-requires : goal.put_nibble-requires
 put_nibble-requires c =
     let l = c.loop-i in
-    let known = c.shared_slice_known-1.given in
     let a = c.args in
-    let size = front-size a.out.now a.s.now l.invariant.1 c.requires.out_len.1 a.p l.i (omega arith) l.out l.invariant.2 in
-    let cell = nibble-is a.s.now (λ i. omega (arith, known i)) l.i (omega arith) in
+    let size = front-size a.out.now a.s.now c.requires.out_len.0 c.requires.out_len.1 a.p l.i (omega arith) l.out l.invariant in
+    let cell = nibble-is a.s.now (λ i. omega (arith, c.type_inv.s i)) l.i (omega arith) in
     record {
       p_bound = (omega (arith, size), omega (arith, c.nibble_of.ensures, cell, cell-in-lt 4 a.s.now l.i));
-      out_value = front_kept a.out.now a.s.now l.invariant.1 c.requires.out_len.1 a.p l.i (omega arith) l.out l.invariant.2
+      out_value = front_kept a.out.now a.s.now c.requires.out_len.0 c.requires.out_len.1 a.p l.i (omega arith) l.out l.invariant
           ∙ ap (λ (n : ℕ). pack high_first n (unpack high_first (4 * (a.p + l.i)) l.out)) (sym size);
     }
 
 pub loop-i-preserved : goal.loop-i-preserved
 loop-i-preserved c =
     let l = c.loop-i in
-    let known = c.shared_slice_known-1.given in
     let a = c.args in
-    let cell = nibble-is a.s.now (λ i. omega (arith, known i)) l.i (omega arith) in (
-      omega arith,
-      l.invariant.1,
-      front-next a.out.now a.s.now l.invariant.1 c.requires.out_len.1 a.p l.i (omega arith) l.out l.invariant.2 (omega arith) _ _
-          (c.nibble_of.ensures ∙ cell) c.put_nibble.ensures,
-    )
+    let cell = nibble-is a.s.now (λ i. omega (arith, c.type_inv.s i)) l.i (omega arith) in
+    front-next a.out.now a.s.now c.requires.out_len.0 c.requires.out_len.1 a.p l.i (omega arith) l.out l.invariant (omega arith) _ _
+    (c.nibble_of.ensures ∙ cell) c.put_nibble.ensures
 
 pub shape_of-out : goal.shape_of-out
-shape_of-out c = ap length c.loop-i.invariant.2 ∙ length-pack high_first state_room _ ∙ sym c.loop-i.invariant.1
+shape_of-out c = ap length c.loop-i.invariant ∙ length-pack high_first state_room _ ∙ sym c.requires.out_len.0
 
 pub returns : goal.returns
 returns c =
     let e : c.loop-i.i ≡ c.args.q = omega arith in
-    rw e at c.loop-i.invariant.2
+    rw e at c.loop-i.invariant

@@ -19,26 +19,26 @@ same-front H S T e = ap (λ (X : List Bool). take (output_bits H) (bits_in high_
 
 pub front-requires : goal.front-requires
 front-requires c =
-    let n = numbers_of c.args.v c.requires.0 c.family_of-family.ensures c.in-Photon.is in
+    let n = numbers_of c.args.v c.requires.0 c.family_of.ensures c.in-Photon.is in
     n
 
 pub front-requires-in-Spongent : goal.front-requires-in-Spongent
 front-requires-in-Spongent c =
-    let n = numbers_of c.args.v c.requires.0 c.family_of-family.ensures c.in-Spongent.is in
+    let n = numbers_of c.args.v c.requires.0 c.family_of.ensures c.in-Spongent.is in
     n
 
 pub returns-in-Photon : goal.returns-in-Photon
 returns-in-Photon c =
-    let n = numbers_of c.args.v c.requires.0 c.family_of-family.ensures c.in-Photon.is in
+    let n = numbers_of c.args.v c.requires.0 c.family_of.ensures c.in-Photon.is in
     c.front.ensures ∙ same-front (variant c.args.v) _ _ (photon-holds c.args.v n.0 n.1 c.args.w.now)
 
 pub returns-in-Spongent : goal.returns-in-Spongent
 returns-in-Spongent c =
-    let n = numbers_of c.args.v c.requires.0 c.family_of-family.ensures c.in-Spongent.is in
+    let n = numbers_of c.args.v c.requires.0 c.family_of.ensures c.in-Spongent.is in
     c.front-in-Spongent.ensures ∙ same-front (variant c.args.v) _ _ (spongent-holds c.args.v n.0 n.1 c.args.w.now)
 
 -- Lesamnta-LW is no sponge
 pub returns-in-Lesamnta : goal.returns-in-Lesamnta
 returns-in-Lesamnta c =
-    let e = numbers_of c.args.v c.requires.0 c.family_of-family.ensures c.in-Lesamnta.is in
+    let e = numbers_of c.args.v c.requires.0 c.family_of.ensures c.in-Lesamnta.is in
     absurd (omega (arith, sponge-high c.args.v c.requires.1))

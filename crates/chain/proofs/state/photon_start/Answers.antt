@@ -1,10 +1,11 @@
 -- `chain::state::photon_start` meets its contract: the bytes of each variant, computed. Assumes nothing.
-use mathlib.Core.Path.{◌≡◌, refl, ap, ◌∙◌}
+use mathlib.Core.Path.{◌≡◌, refl, ap, ap₂, ◌∙◌}
 use mathlib.Core.List.{List, [], ◌∷◌}
-use Prim.Native.Nat.{ℕ, ◌+◌, ◌-◌, ◌≤◌, ◌<◌}
+use Prim.Native.Nat.{ℕ, ◌-◌, ◌≤◌}
 use native.Mathlib.Omega.{arith}
-use lib.Dec.{lit<, lit≤}
-use lib.ListN.{get_or, set, replicate}
+use borrow.Rule.Slice.PartMut.{put_mid}
+use lib.Dec.{lit≤}
+use lib.ListN.{length, take, drop, get_or, replicate}
 use Rattle.standard.specs.Bits.{low_bits, low_value, ordered, bits_of, value_of, filled, pack}
 use Rattle.standard.specs.Chain.{start_state}
 use Rattle.standard.specs.Families.{image_size}
@@ -19,9 +20,7 @@ ends = (0 ∷ 0 ∷ 0 ∷ 0 ∷ []) ∷ (0x01 ∷ 0x41 ∷ 0x41 ∷ 0x00 ∷ [])
 
 -- four bytes put at the end of an image of n
 abbrev built : ℕ → List ℕ → List ℕ
-built n e =
-    let k : ℕ = n - 4 in
-    set (set (set (set (replicate state_room 0) k (get_or e 0 0)) (k + 1) (get_or e 1 0)) (k + 2) (get_or e 2 0)) (k + 3) (get_or e 3 0)
+built n end = put_mid (n - 4) (n - (n - 4)) (replicate state_room 0) end
 
 -- where they are put
 module _ (v n : ℕ) (b : (1 ≤ v) × (v ≤ 5)) (e : n ≡ image_size (variant v)) where
@@ -29,27 +28,24 @@ module _ (v n : ℕ) (b : (1 ≤ v) × (v ≤ 5)) (e : n ≡ image_size (variant
   unfolding variant
   enough = omega (arith, one-to-five (λ k. 4 ≤ image_size (variant k)) (lit≤ tt) (lit≤ tt) (lit≤ tt) (lit≤ tt) (lit≤ tt) v b.0 b.1)
 
-  within : (i : ℕ) → i < 4 → n - 4 + i < state_room
-  within i h = omega (arith, enough, (bounds v (known-true v b.0 (omega arith))).image-most)
+pub overflow_sub-out : goal.overflow_sub-out
+overflow_sub-out c = enough c.args.v _ c.requires c.image_bytes-end.ensures
 
-pub overflow_sub-k : goal.overflow_sub-k
-overflow_sub-k c = enough c.args.v _ c.requires c.image_bytes-k.ensures
+pub slice_bounds-out-end : goal.slice_bounds-out-end
+slice_bounds-out-end c =
+    let v = c.args.v in
+    omega (arith, enough v _ c.requires c.image_bytes-end.ensures, (bounds v (known-true v c.requires.0 (omega arith))).image-most)
 
-pub bounds-out-k : goal.bounds-out-k
-bounds-out-k c = omega (arith, within _ _ c.requires c.image_bytes-k.ensures 0 (lit< tt))
-
-pub bounds-out-k-2 : goal.bounds-out-k-2
-bounds-out-k-2 c = within _ _ c.requires c.image_bytes-k.ensures 1 (lit< tt)
-
-pub bounds-out-k-3 : goal.bounds-out-k-3
-bounds-out-k-3 c = within _ _ c.requires c.image_bytes-k.ensures 2 (lit< tt)
-
-pub bounds-out-k-4 : goal.bounds-out-k-4
-bounds-out-k-4 c = within _ _ c.requires c.image_bytes-k.ensures 3 (lit< tt)
+pub copy_from_slice-requires : goal.copy_from_slice-requires
+unfolding variant
+copy_from_slice-requires c =
+    rw (c.from.ensures, c.image_bytes-end.ensures)
+    (one-to-five (λ k. length (take (image_size (variant k) - (image_size (variant k) - 4)) (drop (image_size (variant k) - 4) (replicate state_room 0))) ≡ length (get_or ends k []))
+    refl refl refl refl refl c.args.v c.requires.0 c.requires.1)
 
 pub returns : goal.returns
 unfolding variant start_state low_bits low_value ordered bits_of value_of filled pack
 returns c =
     let v = c.args.v in
-    ap (λ (n : ℕ). built n (get_or ends v [])) c.image_bytes-k.ensures
+    ap₂ built c.image_bytes-end.ensures (c.copy_from_slice.ensures.after ∙ ap (λ (k : ℕ). get_or ends k []) c.from.ensures)
     ∙ one-to-five (λ k. built (image_size (variant k)) (get_or ends k []) ≡ packed_state (variant k) (start_state (variant k))) refl refl refl refl refl v c.requires.0 c.requires.1

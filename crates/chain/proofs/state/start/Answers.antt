@@ -23,13 +23,13 @@ unfolding variant start_state lesamnta_start bits_of_words flat_map low_bits low
 chain-start v e = sym (ap (λ (n : ℕ). packed_state (variant n) (start_state (variant n))) e)
 
 pub photon_start-requires : goal.photon_start-requires
-photon_start-requires c = numbers_of c.args.v c.requires c.family_of-family.ensures c.in-Photon.is
+photon_start-requires c = numbers_of c.args.v c.requires c.family_of.ensures c.in-Photon.is
 
 pub returns-in-Spongent : goal.returns-in-Spongent
 unfolding variant start_state low_bits low_value ordered bits_of value_of filled pack
 returns-in-Spongent c =
-    let n = numbers_of c.args.v c.requires c.family_of-family.ensures c.in-Spongent.is in
+    let n = numbers_of c.args.v c.requires c.family_of.ensures c.in-Spongent.is in
     six-to-ten (λ k. replicate state_room 0 ≡ packed_state (variant k) (start_state (variant k))) refl refl refl refl refl c.args.v n.0 n.1
 
 pub returns-in-Lesamnta : goal.returns-in-Lesamnta
-returns-in-Lesamnta c = chain-start c.args.v (numbers_of c.args.v c.requires c.family_of-family.ensures c.in-Lesamnta.is)
+returns-in-Lesamnta c = chain-start c.args.v (numbers_of c.args.v c.requires c.family_of.ensures c.in-Lesamnta.is)

@@ -1,33 +1,16 @@
 -- `hasher::running::grown_bits` meets its contract: the bytes before the last one, and what counts of it. Assumes nothing.
-use mathlib.Core.Path.{sym, ap, ◌∙◌}
-use native.Mathlib.Omega.{arith}
+use mathlib.Core.Path.{ap, ◌∙◌}
 use lib.ListN.{length}
-use Rattle.standard.proofs.PartBytes.{front-size}
 use Rattle.chain.proofs.MessageLaws.{BitNumber, bit-number}
 use Rattle.hasher.specs.Running.{variant_of, grown}
 use Rattle.hasher.proofs.WellFormed.{facts}
 use Rattle.hasher.proofs.PartPieces.{part_length, part-clear, part-front}
 use Rattle.hasher.proofs.running.grown_bits.Goals as goal
 
-pub overflow_sub-n : goal.overflow_sub-n
-overflow_sub-n c =
-    let number : BitNumber c.args.k (length c.args.piece.now) = bit-number c.args.k (length c.args.piece.now) c.requires.h_value.1 in
-    omega (arith, number.some)
-
-pub bounds-piece-n : goal.bounds-piece-n
-bounds-piece-n c =
-    let number : BitNumber c.args.k (length c.args.piece.now) = bit-number c.args.k (length c.args.piece.now) c.requires.h_value.1 in
-    omega (arith, number.some)
-
 pub counted_byte-last-requires : goal.counted_byte-last-requires
 counted_byte-last-requires c =
     let number : BitNumber c.args.k (length c.args.piece.now) = bit-number c.args.k (length c.args.piece.now) c.requires.h_value.1 in
     ((facts c.args.h c.requires.fact.0).named, number.most)
-
-pub slice_bounds-grown-end : goal.slice_bounds-grown-end
-slice_bounds-grown-end c =
-    let number : BitNumber c.args.k (length c.args.piece.now) = bit-number c.args.k (length c.args.piece.now) c.requires.h_value.1 in
-    sym (front-size c.args.piece.now number.some)
 
 pub grown-requires : goal.grown-requires
 grown-requires c =

@@ -6,12 +6,11 @@ use native.Mathlib.Omega.{arith}
 use Rattle.standard.specs.Bits.{high_first}
 use Rattle.standard.specs.Messages.{given_bits}
 use Rattle.standard.proofs.BitLaws.{length-bits_in}
-use Rattle.answers.specs.declared.Status.TheVariants.{Done}
+use Rattle.answers.specs.Refusals.{Done}
 use Rattle.answers.specs.Checks.{first_refusal}
 use Rattle.chain.specs.declared.message.Ending.{Ending}
-use Rattle.chain.specs.declared.message.Ending.TheVariants.{Whole, Bits}
+use Rattle.chain.specs.declared.message.Ending.TheVariants.{Whole}
 use Rattle.chain.specs.MessageBytes.{given}
-use Rattle.chain.proofs.MessageLaws.{fits-number}
 use Rattle.hasher.specs.declared.Hasher.{Hasher}
 use Rattle.hasher.specs.Running.{variant_of, grown, update_checks}
 use Rattle.hasher.proofs.Calls.{Takes, update-says}
@@ -32,14 +31,5 @@ grown-requires c =
     let t = (takes c.args.h c.args.piece.now _ Whole c.in-Whole.is c.requires).follow in
     record { fact = t.opened; h_value = (t.whole, omega arith, omega (arith, t.few, length-bits_in high_first piece)); last_value = plain-clear piece }
 
-pub grown_bits-requires : goal.grown_bits-requires
-grown_bits-requires c =
-    let k = c.in-Bits.k in
-    let t = takes c.args.h c.args.piece.now _ (Bits k) c.in-Bits.is c.requires in
-    record { fact = t.follow.opened; h_value = (t.follow.whole, fits-number c.args.piece.now k t.fits); k_bound = t.follow.few }
-
 pub returns-in-Whole : goal.returns-in-Whole
 returns-in-Whole c = c.grown.ensures ∙ ap (grown c.args.h) (plain-front c.args.piece.now) ∙ sym (ap (next c.args.h c.args.piece.now) c.in-Whole.is)
-
-pub returns-in-Bits : goal.returns-in-Bits
-returns-in-Bits c = c.grown_bits.ensures ∙ sym (ap (next c.args.h c.args.piece.now) c.in-Bits.is)

@@ -1,25 +1,13 @@
 -- `hasher::running::started_over` meets its contract: the check, and the fresh running hash. Assumes nothing.
 use mathlib.Core.Path.{◌≡◌, sym, ◌∙◌}
 use mathlib.Core.Bool.{true}
-use native.Mathlib.Omega.{arith}
 use Rattle.standard.specs.Variants.{known}
-use Rattle.standard.proofs.Variants.{known-high}
 use Rattle.hasher.specs.Running.{started_over}
 use Rattle.hasher.proofs.running.started_over.Goals as goal
 
 pub returns-then-not-is_known : goal.returns-then-not-is_known
 unfolding started_over
 returns-then-not-is_known c = rw (sym c.is_known.ensures ∙ c.if-not-is_known.true)
-
-pub overflow_cast-variant : goal.overflow_cast-variant
-overflow_cast-variant c =
-    let named : known c.args.variant ≡ true = sym c.is_known.ensures ∙ c.if-not-is_known.false in
-    omega (arith, known-high c.args.variant named)
-
-pub fresh-requires : goal.fresh-requires
-fresh-requires c =
-    let named : known c.args.variant ≡ true = sym c.is_known.ensures ∙ c.if-not-is_known.false in
-    named
 
 pub returns : goal.returns
 unfolding started_over

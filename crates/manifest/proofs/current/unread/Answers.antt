@@ -5,4 +5,4 @@ use Rattle.hasher.proofs.Calls.{start-unknown}
 use Rattle.manifest.proofs.current.unread.Goals as goal
 
 pub returns : goal.returns
-returns c = rw (c.start-refused.ensures, start-unknown 0 refl)
+returns c = rw (c.start.ensures, start-unknown 0 refl)

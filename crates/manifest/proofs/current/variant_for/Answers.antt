@@ -1,19 +1,27 @@
 -- `manifest::current::variant_for` meets its contract. Assumes nothing.
+use mathlib.Core.Path.{sym, ◌∙◌}
 use borrow.Author.Tests.{le-leb, lt-leb}
 use Rattle.manifest.specs.Progress.{variant_for}
-use Rattle.manifest.proofs.RecordLaws.{found-listed, none-listed}
+use Rattle.manifest.proofs.RecordLaws.{found-some, found-none}
 use Rattle.manifest.proofs.current.variant_for.Goals as goal
 
-pub returns-then-manifest-k : goal.returns-then-manifest-k
+pub returns-in_default : goal.returns-in_default
 unfolding variant_for
-returns-then-manifest-k c = rw (none-listed _ _ _ c.record_for-k.ensures.0 c.if-manifest-k.true)
+returns-in_default c = rw (found-none _ _ (sym c.record_for.ensures.found ∙ c.in_default.is))
 
 pub returns-then-n-gt-MAX_MESSAGE_BYTES : goal.returns-then-n-gt-MAX_MESSAGE_BYTES
 unfolding variant_for
-returns-then-n-gt-MAX_MESSAGE_BYTES c = rw (found-listed _ _ _ c.record_for-k.ensures.0 c.if-manifest-k.false, lt-leb _ _ c.if-n-gt-MAX_MESSAGE_BYTES.true)
+returns-then-n-gt-MAX_MESSAGE_BYTES c =
+    let found = found-some _ _ _ (sym c.record_for.ensures.found ∙ c.in-Some.is) in
+    rw (found.0, lt-leb _ _ c.if-n-gt-MAX_MESSAGE_BYTES.true)
+
+pub variant_at-requires : goal.variant_at-requires
+variant_at-requires c =
+    let found = found-some _ _ _ (sym c.record_for.ensures.found ∙ c.in-Some.is) in
+    rw c.bytes.ensures found.2
 
 pub returns : goal.returns
 unfolding variant_for
 returns c =
-    let e = c.record_for-k.ensures.0 in
-    rw (found-listed _ _ _ e c.if-manifest-k.false, le-leb _ _ c.if-n-gt-MAX_MESSAGE_BYTES.false, c.variant_at.ensures, ← e)
+    let found = found-some _ _ _ (sym c.record_for.ensures.found ∙ c.in-Some.is) in
+    rw (found.0, le-leb _ _ c.if-n-gt-MAX_MESSAGE_BYTES.false, ← found.1) (c.from.ensures ∙ rw (← c.bytes.ensures) c.variant_at.ensures)

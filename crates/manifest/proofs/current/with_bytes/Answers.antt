@@ -21,4 +21,4 @@ some h z [] l room = absurd (omega arith)
 some h z (b ∷ part) l room = sym (byte-by-byte h z b part room)
 
 pub returns : goal.returns
-returns c = ap (λ (a : Advanced). a.hasher) c.update-u.ensures ∙ some _ (owned c.args.h _ c.well_formed.0).sized _ c.requires.in_bounds c.requires.part_bound
+returns c = ap (λ (a : Advanced). a.hasher) c.update.ensures ∙ some _ (owned c.args.h _ c.well_formed.0).sized _ c.requires.in_bounds c.requires.part_bound

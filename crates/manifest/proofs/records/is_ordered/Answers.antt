@@ -1,34 +1,22 @@
--- `manifest::records::is_ordered` meets its contract: the records passed so far rise. Assumes nothing.
-use mathlib.Core.Path.{◌≡◌, sym, ◌∙◌}
-use mathlib.Core.Bool.{true}
+-- `manifest::records::is_ordered` meets its contract: every record rises. Assumes nothing.
+use mathlib.Core.Path.{refl, sym, ◌∙◌}
 use native.Mathlib.Omega.{arith}
-use borrow.Author.Count.{below_none, below_more}
-use Rattle.manifest.specs.Records.{is_manifest, record_count, rises_at}
+use Rattle.std.proofs.Common.{rules}
+use Rattle.std.proofs.lemmas.Iterator.{YieldsList-from_range}
+use Rattle.std.proofs.lemmas.Iterator.Search.{all_from_yields_List}
+use Rattle.manifest.specs.Records.{record_count, rises_at}
 use Rattle.manifest.specs.Lookups.{is_ordered}
-use Rattle.manifest.proofs.RecordLaws.{every_below-all, every_below-not}
+use Rattle.manifest.proofs.RecordLaws.{every-listed}
 use Rattle.manifest.proofs.records.is_ordered.Goals as goal
 
-pub returns-then-not-is_manifest : goal.returns-then-not-is_manifest
+pub returns-then-is_manifest : goal.returns-then-is_manifest
 unfolding is_ordered
-returns-then-not-is_manifest c = rw (sym c.is_manifest.ensures ∙ c.if-not-is_manifest.true)
-
-pub loop-k-init : goal.loop-k-init
-loop-k-init c = (omega arith, below_none _)
-
-pub returns-then-not-rises_at : goal.returns-then-not-rises_at
-unfolding is_ordered
-returns-then-not-rises_at c =
-    let whole : is_manifest c.args.manifest.now ≡ true = sym c.is_manifest.ensures ∙ c.if-not-is_manifest.false in
+returns-then-is_manifest c =
     let manifest = c.args.manifest.now in
-    rw whole
-    (sym (every_below-not (record_count manifest) (rises_at manifest) c.loop-k.k (omega arith) (sym c.rises_at.ensures ∙ c.if-not-rises_at.true)))
+    rw (sym c.is_manifest.ensures ∙ c.if-is_manifest.true)
+    (all_from_yields_List (rises_at manifest) _ _ _ c.all.ensures.ran (YieldsList-from_range 0 _ (record_count manifest) refl (omega arith)) (λ x b q k. search rules)
+    ∙ every-listed _ (rises_at manifest))
 
-pub loop-k-preserved : goal.loop-k-preserved
-loop-k-preserved c = (omega arith, below_more _ _ c.loop-k.invariant.1 (sym c.rises_at.ensures ∙ c.if-not-rises_at.false))
-
-pub returns : goal.returns
+pub returns-else-is_manifest : goal.returns-else-is_manifest
 unfolding is_ordered
-returns c =
-    let whole : is_manifest c.args.manifest.now ≡ true = sym c.is_manifest.ensures ∙ c.if-not-is_manifest.false in
-    let manifest = c.args.manifest.now in
-    rw whole (sym (every_below-all (record_count manifest) (rises_at manifest) (λ j h. c.loop-k.invariant.1 j (omega arith))))
+returns-else-is_manifest c = rw (sym c.is_manifest.ensures ∙ c.if-is_manifest.false) c.if-is_manifest.false

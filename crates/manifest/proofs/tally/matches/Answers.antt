@@ -8,11 +8,11 @@ use Rattle.manifest.proofs.tally.matches.Goals as goal
 
 pub returns-in_default : goal.returns-in_default
 unfolding matches
-returns-in_default c = rw (← c.finish-ended.ensures, sym c.digest-status.ensures.0 ∙ c.in_default.is)
+returns-in_default c = rw (← c.finish.ensures, sym c.digest.ensures.0 ∙ c.in_default.is)
 
 pub is_same-requires : goal.is_same-requires
 is_same-requires c = omega (arith, ap length c.digest_field_at.ensures ∙ filled-length _ _ c.requires)
 
 pub returns : goal.returns
 unfolding matches
-returns c = rw (← c.finish-ended.ensures, sym c.digest-status.ensures.0 ∙ c.in-Done.is, ← c.digest-status.ensures.1, ← c.digest_field_at.ensures) c.is_same.ensures
+returns c = rw (← c.finish.ensures, sym c.digest.ensures.0 ∙ c.in-Ok.is, ← c.digest.ensures.1, ← c.digest_field_at.ensures) c.is_same.ensures

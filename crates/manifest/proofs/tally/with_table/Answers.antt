@@ -1,19 +1,20 @@
 -- `manifest::tally::with_table` meets its contract: the record of the axis decides. Assumes nothing.
-use native.Mathlib.Omega.{arith}
+use mathlib.Core.Path.{sym, ◌∙◌}
 use Rattle.manifest.specs.Progress.{with_table}
-use Rattle.manifest.proofs.RecordLaws.{manifest-few, found-listed, none-listed}
-use Rattle.manifest.proofs.OrderLaws.{ordered-parts}
+use Rattle.manifest.proofs.RecordLaws.{found-some, found-none}
 use Rattle.manifest.proofs.tally.with_table.Goals as goal
 
-pub with_listed-requires : goal.with_listed-requires
-with_listed-requires c = record { k_lt_max_records = omega (arith, manifest-few _ (ordered-parts _ c.requires.manifest_value).0); y_bound = c.requires.y_bound }
+pub matches-requires : goal.matches-requires
+matches-requires c =
+    let found = found-some _ _ _ (sym c.record_for.ensures.found ∙ c.in-Some.is) in
+    rw c.bytes.ensures found.2
 
-pub returns-then-k-manifest : goal.returns-then-k-manifest
+pub returns-in-Some : goal.returns-in-Some
 unfolding with_table
-returns-then-k-manifest c =
-    let e = c.record_for-k.ensures.0 in
-    rw (← c.axis_in.ensures, found-listed _ _ _ e c.if-k-manifest.true, ← e, ← c.matches.ensures) c.with_listed.ensures
+returns-in-Some c =
+    let found = found-some _ _ _ (sym c.record_for.ensures.found ∙ c.in-Some.is) in
+    rw (← c.axis_in.ensures, found.0, ← found.1, ← c.bytes.ensures, ← c.matches.ensures) c.with_listed.ensures
 
-pub returns : goal.returns
+pub returns-in-None : goal.returns-in-None
 unfolding with_table
-returns c = rw (← c.axis_in.ensures, none-listed _ _ _ c.record_for-k.ensures.0 c.if-k-manifest.false) c.with_unlisted.ensures
+returns-in-None c = rw (← c.axis_in.ensures, found-none _ _ (sym c.record_for.ensures.found ∙ c.in-None.is)) c.with_unlisted.ensures

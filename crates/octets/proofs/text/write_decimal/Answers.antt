@@ -1,47 +1,41 @@
--- `octets::text::write_decimal` meets its contract: the digits after those of the rest are written. Assumes nothing.
-use mathlib.Core.Path.{refl}
+-- `octets::text::write_decimal` meets its contract: the digits from place i on are written, and those before it are the
+-- rest's. Assumes nothing.
+use mathlib.Core.Path.{◌≡◌}
+use Prim.Native.Nat.{◌-◌, ◌+◌, ◌≤◌}
 use native.Mathlib.Omega.{arith}
-use lib.ListN.{length-set}
-use Rattle.octets.proofs.DecimalWriting.{later-none, later-place, later_more, later-all}
+use lib.ListN.{length, drop_of_length-le}
+use lib.Seq.{take_all}
+use Rattle.octets.specs.Text.{decimal}
+use Rattle.octets.proofs.WrittenAt.{written_at-none}
+use Rattle.octets.proofs.DecimalWriting.{digit-before, digits-left}
 use Rattle.octets.proofs.text.write_decimal.Goals as goal
 
-pub overflow_add-end : goal.overflow_add-end
-overflow_add-end c = omega (arith, c.digit_count.ensures)
-
-pub loop-rest-init : goal.loop-rest-init
-loop-rest-init c =
+pub loop-i-init : goal.loop-i-init
+loop-i-init c =
     let a = c.args in
-    (refl, later-none a.n a.at _ a.out.now (omega (arith, c.digit_count.ensures)))
+    let n = c.digit_count.result in
+    let size : length (decimal a.n) ≤ a.at + n - a.at = omega (arith, c.digit_count.ensures) in
+    record {
+      place = omega arith;
+      written = rw (drop_of_length-le (decimal a.n) size, written_at-none);
+      left = λ p. take_all (a.at + n - a.at) (decimal a.n) size;
+    }
 
-pub overflow_sub-i : goal.overflow_sub-i
-overflow_sub-i c = omega (arith, later-place c.loop-rest.invariant.1)
-
-pub bounds-out-i : goal.bounds-out-i
-bounds-out-i c =
-    let l = c.loop-rest in
-    omega (arith, l.invariant.0, later-place l.invariant.1)
-
-pub loop-rest-smaller : goal.loop-rest-smaller
-loop-rest-smaller c = omega arith
-
-pub loop-rest-preserved : goal.loop-rest-preserved
-loop-rest-preserved c =
-    let l = c.loop-rest in
+pub loop-i-preserved : goal.loop-i-preserved
+loop-i-preserved c =
     let a = c.args in
-    let more = later_more a.n a.at a.out.now l.rest l.i l.out (omega arith) (omega arith) l.invariant.1 in
-    (simp length-set l.invariant.0, rw c.last_digit.ensures more)
+    let l = c.loop-i in
+    let high : l.i ≤ a.at + length (decimal a.n) = omega (arith, c.digit_count.ensures) in
+    let left = l.invariant.left c.loop-i-test.true in
+    record {
+      place = omega arith;
+      written = rw (l.invariant.written, c.last_digit.ensures) (digit-before a.n a.at a.out.now (omega arith) l.rest l.i (omega arith) high left);
+      left = digits-left a.n a.at a.out.now (omega arith) l.rest l.i (omega arith) high left;
+    }
 
-pub bounds-out-at : goal.bounds-out-at
-bounds-out-at c =
-    let l = c.loop-rest in
-    omega (arith, l.invariant.0, later-place l.invariant.1)
-
-pub shape_of-out : goal.shape_of-out
-shape_of-out c = simp length-set c.loop-rest.invariant.0
-
-pub returns : goal.returns
-returns c =
-    let l = c.loop-rest in
-    let a = c.args in
-    let all = later-all a.n a.at a.out.now l.rest l.i l.out (omega arith) (omega arith) l.invariant.1 in
-    record { out_after = rw c.last_digit-2.ensures all; value = omega (arith, c.digit_count.ensures) }
+pub returns-clause-out_after : goal.returns-clause-out_after
+returns-clause-out_after c =
+    let l = c.loop-i in
+    let e : l.i ≡ c.args.at = omega (arith, l.invariant.place) in
+    let none : c.args.at - c.args.at ≡ 0 = omega arith in
+    rw (l.invariant.written, e, none)

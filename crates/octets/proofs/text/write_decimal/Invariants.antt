@@ -1,11 +1,15 @@
--- `octets::text::write_decimal` meets its contract: the digits after those of the rest are written. Assumes nothing.
+-- `octets::text::write_decimal` meets its contract: the digits from place i on are written, and those before it are the
+-- rest's. Assumes nothing.
 use mathlib.Core.Path.{◌≡◌}
-use lib.ListN.{length}
-use Rattle.octets.proofs.DecimalWriting.{Later}
+use Prim.Native.Nat.{◌-◌, ◌≤◌, ◌<◌}
+use lib.ListN.{take, drop}
+use Rattle.octets.specs.Slices.{written_at}
+use Rattle.octets.specs.Text.{decimal}
 use Rattle.octets.proofs.text.write_decimal.Given as goal
 
-abbrev pub invariant-loop-rest : goal.invariant-loop-rest
-invariant-loop-rest l = (length l.out ≡ length l.initial.out) × Later l.n l.at l.initial.out l.rest l.i l.out
-
-abbrev pub decreases-loop-rest : goal.decreases-loop-rest
-decreases-loop-rest l = l.rest
+abbrev pub invariant-loop-i : goal.invariant-loop-i
+invariant-loop-i l = record {
+  place : l.at ≤ l.i;
+  written : l.out ≡ written_at l.i (drop (l.i - l.at) (decimal l.n)) l.initial.out;
+  left : l.at < l.i → take (l.i - l.at) (decimal l.n) ≡ decimal l.rest;
+}

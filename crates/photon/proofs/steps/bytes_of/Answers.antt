@@ -8,23 +8,24 @@ use Rattle.standard.specs.Photon.{bits_of_matrix}
 use Rattle.standard.proofs.BitLaws.{length-pack}
 use Rattle.octets.proofs.Upto.{upto-none, upto-more}
 use Rattle.standard.specs.Layout.{state_room}
+use Rattle.photon.specs.Parameters.{width}
 use Rattle.photon.proofs.steps.bytes_of.Goals as goal
 
 pub loop-k-init : goal.loop-k-init
-loop-k-init c = (omega arith, upto-none _ refl)
+loop-k-init c = upto-none _ refl
 
 pub byte_of-requires : goal.byte_of-requires
-byte_of-requires c = record { fact = c.requires.fact; d_nonzero = c.requires.d_nonzero; small = c.requires.small; k_lt_state_room = omega arith }
+byte_of-requires c = record { d_nonzero = c.requires.d_nonzero; small = c.requires.small; k_lt_state_room = omega arith }
 
 pub loop-k-preserved : goal.loop-k-preserved
 loop-k-preserved c =
     let l = c.loop-k in
-    (omega arith, upto-more l.k _ l.out c.byte_of.result (omega arith) c.byte_of.ensures l.invariant.1)
+    upto-more l.k _ l.byte-items _ (omega arith) c.byte_of.ensures l.invariant
 
 pub returns : goal.returns
 returns c =
     let l = c.loop-k in
     let a = c.args in
-    let bits = bits_of_matrix a.w (window a.d a.g) in
-    ext_get_or 0 l.out (pack high_first state_room bits) (l.invariant.1.len ∙ sym (length-pack high_first state_room bits))
-    (λ k h. l.invariant.1.done k (omega (arith, l.invariant.1.len)))
+    let bits = bits_of_matrix (width a.cell) (window a.d a.g) in
+    ext_get_or 0 l.byte-items (pack high_first state_room bits) (l.invariant.len ∙ sym (length-pack high_first state_room bits))
+    (λ k h. l.invariant.done k (omega (arith, l.invariant.len)))

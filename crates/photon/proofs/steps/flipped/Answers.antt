@@ -6,12 +6,12 @@ use Rattle.octets.proofs.Upto.{upto-none, upto-more}
 use Rattle.photon.proofs.steps.flipped.Goals as goal
 
 pub loop-i-init : goal.loop-i-init
-loop-i-init c = (omega arith, upto-none _ c.well_formed.0.1.0.1)
+loop-i-init c = upto-none _ c.well_formed.0.1.0.1
 
 pub loop-i-preserved : goal.loop-i-preserved
 loop-i-preserved c =
     let l = c.loop-i in
-    (omega arith, upto-more l.i _ l.out _ (omega arith) refl l.invariant.1)
+    upto-more l.i _ l.out _ (omega arith) refl l.invariant
 
 pub returns : goal.returns
-returns c = window-reverse c.args.d c.loop-i.out c.args.g (λ i h. c.loop-i.invariant.1.done i (omega arith))
+returns c = window-reverse c.args.d c.loop-i.out c.args.g (λ i h. c.loop-i.invariant.done i (omega arith))

@@ -4,17 +4,17 @@ use Rattle.photon.proofs.ParametersOf.{four-back, five-back, same_back}
 use Rattle.photon.proofs.StepsOf.{mix-ready, mix-at}
 use Rattle.photon.proofs.steps.mix_back_of.Goals as goal
 
-pub returns-then-v-le3 : goal.returns-then-v-le3
-returns-then-v-le3 c = rw (← same_back _ c.requires.le_v.0 c.if-v-le3.true) c.mix_columns_of.ensures
-
 pub mix_columns-requires : goal.mix_columns-requires
-mix_columns-requires c = mix-ready (four-back _ c.if-v-eq4.true) _ c.requires.small
+mix_columns-requires c = mix-ready (four-back _ c.in-4.is) _ c.requires.small
 
-pub returns-then-v-eq4 : goal.returns-then-v-eq4
-returns-then-v-eq4 c = mix-at (four-back _ c.if-v-eq4.true) _ _ c.mix_columns.ensures
+pub returns-in-4 : goal.returns-in-4
+returns-in-4 c = mix-at (four-back _ c.in-4.is) _ _ c.mix_columns.ensures
 
-pub mix_columns-requires-2 : goal.mix_columns-requires-2
-mix_columns-requires-2 c = mix-ready (five-back c.args.v (omega arith)) _ c.requires.small
+pub mix_columns-requires-in-5 : goal.mix_columns-requires-in-5
+mix_columns-requires-in-5 c = mix-ready (five-back _ c.in-5.is) _ c.requires.small
 
-pub returns : goal.returns
-returns c = mix-at (five-back c.args.v (omega arith)) _ _ c.mix_columns-2.ensures
+pub returns-in-5 : goal.returns-in-5
+returns-in-5 c = mix-at (five-back _ c.in-5.is) _ _ c.mix_columns-in-5.ensures
+
+pub returns-in_default : goal.returns-in_default
+returns-in_default c = rw (← same_back _ c.requires.le_v.0 (omega arith)) c.mix_columns_of.ensures

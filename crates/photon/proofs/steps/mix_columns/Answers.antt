@@ -4,13 +4,10 @@ use native.Mathlib.Omega.{arith}
 use Rattle.photon.proofs.StepRows.{stepped-none, stepped-more, stepped-all}
 use Rattle.photon.proofs.steps.mix_columns.Goals as goal
 
-pub packed_rows-rows-requires : goal.packed_rows-rows-requires
-packed_rows-rows-requires c = tt
-
 pub loop-n-init : goal.loop-n-init
 loop-n-init c =
     let a = c.args in
-    (omega arith, c.requires.mixing.most, stepped-none a.d a.s a.poly c.requires.mixing a.z _ a.g c.requires.small c.packed_rows-rows.type_inv.1.0.1 c.packed_rows-rows.ensures)
+    (c.requires.mixing.most, stepped-none a.d a.s a.poly c.requires.mixing a.z _ a.g c.requires.small c.packed_rows-rows.type_inv.1.0.1 c.packed_rows-rows.ensures)
 
 pub row_sum-requires : goal.row_sum-requires
 row_sum-requires c =
@@ -22,9 +19,8 @@ loop-n-preserved c =
     let a = c.args in
     let l = c.loop-n in (
       omega arith,
-      omega arith,
       stepped-more a.d a.s a.poly c.requires.mixing a.z _ l.n l.rows c.row_sum.result (omega arith)
-          (λ j hj. c.row_sum.ensures a.d j c.requires.mixing c.requires.none_from (record { cell = λ i k hi hk. l.invariant.2.small (l.n + i) k (omega arith) hk }) hj) l.invariant.2,
+          (λ j hj. c.row_sum.ensures a.d j c.requires.mixing c.requires.none_from (record { cell = λ i k hi hk. l.invariant.1.small (l.n + i) k (omega arith) hk }) hj) l.invariant.1,
     )
 
 pub unpacked_rows-requires : goal.unpacked_rows-requires
@@ -34,5 +30,5 @@ pub returns : goal.returns
 returns c =
     let a = c.args in
     let l = c.loop-n in
-    stepped-all a.d a.s a.poly c.requires.mixing a.z _ a.g c.unpacked_rows.result l.n l.rows (omega arith) l.invariant.2
+    stepped-all a.d a.s a.poly c.requires.mixing a.z _ a.g c.unpacked_rows.result l.n l.rows (omega arith) l.invariant.1
     c.packed_rows-rows.ensures c.unpacked_rows.ensures

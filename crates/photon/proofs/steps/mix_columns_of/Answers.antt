@@ -5,31 +5,31 @@ use Rattle.photon.proofs.StepsOf.{mix-ready, mix-at}
 use Rattle.photon.proofs.steps.mix_columns_of.Goals as goal
 
 pub mix_columns-requires : goal.mix_columns-requires
-mix_columns-requires c = mix-ready (one _ c.if-v-eq1.true) _ c.requires.small
+mix_columns-requires c = mix-ready (one _ c.in-1.is) _ c.requires.small
 
-pub returns-then-v-eq1 : goal.returns-then-v-eq1
-returns-then-v-eq1 c = mix-at (one _ c.if-v-eq1.true) _ _ c.mix_columns.ensures
+pub returns-in-1 : goal.returns-in-1
+returns-in-1 c = mix-at (one _ c.in-1.is) _ _ c.mix_columns.ensures
 
-pub mix_columns-requires-then-v-eq2 : goal.mix_columns-requires-then-v-eq2
-mix_columns-requires-then-v-eq2 c = mix-ready (two _ c.if-v-eq2.true) _ c.requires.small
+pub mix_columns-requires-in-2 : goal.mix_columns-requires-in-2
+mix_columns-requires-in-2 c = mix-ready (two _ c.in-2.is) _ c.requires.small
 
-pub returns-then-v-eq2 : goal.returns-then-v-eq2
-returns-then-v-eq2 c = mix-at (two _ c.if-v-eq2.true) _ _ c.mix_columns-then-v-eq2.ensures
+pub returns-in-2 : goal.returns-in-2
+returns-in-2 c = mix-at (two _ c.in-2.is) _ _ c.mix_columns-in-2.ensures
 
-pub mix_columns-requires-then-v-eq3 : goal.mix_columns-requires-then-v-eq3
-mix_columns-requires-then-v-eq3 c = mix-ready (three _ c.if-v-eq3.true) _ c.requires.small
+pub mix_columns-requires-in-3 : goal.mix_columns-requires-in-3
+mix_columns-requires-in-3 c = mix-ready (three _ c.in-3.is) _ c.requires.small
 
-pub returns-then-v-eq3 : goal.returns-then-v-eq3
-returns-then-v-eq3 c = mix-at (three _ c.if-v-eq3.true) _ _ c.mix_columns-then-v-eq3.ensures
+pub returns-in-3 : goal.returns-in-3
+returns-in-3 c = mix-at (three _ c.in-3.is) _ _ c.mix_columns-in-3.ensures
 
-pub mix_columns-requires-then-v-eq4 : goal.mix_columns-requires-then-v-eq4
-mix_columns-requires-then-v-eq4 c = mix-ready (four _ c.if-v-eq4.true) _ c.requires.small
+pub mix_columns-requires-in-4 : goal.mix_columns-requires-in-4
+mix_columns-requires-in-4 c = mix-ready (four _ c.in-4.is) _ c.requires.small
 
-pub returns-then-v-eq4 : goal.returns-then-v-eq4
-returns-then-v-eq4 c = mix-at (four _ c.if-v-eq4.true) _ _ c.mix_columns-then-v-eq4.ensures
+pub returns-in-4 : goal.returns-in-4
+returns-in-4 c = mix-at (four _ c.in-4.is) _ _ c.mix_columns-in-4.ensures
 
-pub mix_columns-requires-2 : goal.mix_columns-requires-2
-mix_columns-requires-2 c = mix-ready (five c.args.v (omega arith)) _ c.requires.small
+pub mix_columns-requires-in_default : goal.mix_columns-requires-in_default
+mix_columns-requires-in_default c = mix-ready (five c.args.v (omega arith)) _ c.requires.small
 
-pub returns : goal.returns
-returns c = mix-at (five c.args.v (omega arith)) _ _ c.mix_columns-2.ensures
+pub returns-in_default : goal.returns-in_default
+returns-in_default c = mix-at (five c.args.v (omega arith)) _ _ c.mix_columns-in_default.ensures

@@ -5,15 +5,12 @@ use Rattle.octets.proofs.Upto.{upto-none, upto-more}
 use Rattle.photon.proofs.steps.packed_rows.Goals as goal
 
 pub loop-i-init : goal.loop-i-init
-loop-i-init c = (omega arith, upto-none _ refl)
-
-pub packed-requires : goal.packed-requires
-packed-requires c = tt
+loop-i-init c = upto-none _ refl
 
 pub loop-i-preserved : goal.loop-i-preserved
 loop-i-preserved c =
     let l = c.loop-i in
-    (omega arith, upto-more l.i _ l.out c.packed.result (omega arith) c.packed.ensures l.invariant.1)
+    upto-more l.i _ l.out c.packed.result (omega arith) c.packed.ensures l.invariant
 
 pub returns : goal.returns
-returns c i j hi hj = c.loop-i.invariant.1.done i (omega arith) j hj
+returns c i j hi hj = c.loop-i.invariant.done i (omega arith) j hj

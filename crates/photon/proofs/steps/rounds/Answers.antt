@@ -18,13 +18,13 @@ pub box_of-table-requires : goal.box_of-table-requires
 box_of-table-requires c = c.requires.le_v
 
 pub loop-n-init : goal.loop-n-init
-loop-n-init c = (omega arith, c.requires.small, refl)
+loop-n-init c = (c.requires.small, refl)
 
 pub round_with-next-requires : goal.round_with-next-requires
 round_with-next-requires c =
     let l = c.loop-n in
     let small : c.round_constant-rc.result < 16 = rw c.round_constant-rc.ensures (constant-lt c.args.way l.n (omega arith)) in
-    record { le_v = c.requires.le_v; d_value = c.size_of-d.ensures; ic_value = c.row_constants-ic.ensures; by_index = c.box_of-table.ensures; small = l.invariant.1; rc_bound = small }
+    record { le_v = c.requires.le_v; d_value = c.size_of-d.ensures; ic_value = c.row_constants-ic.ensures; by_index = c.box_of-table.ensures; small = l.invariant.0; rc_bound = small }
 
 pub loop-n-preserved : goal.loop-n-preserved
 loop-n-preserved c =
@@ -33,9 +33,8 @@ loop-n-preserved c =
     let p = photon_of c.args.v in
     let w = c.args.way in
     let small : k.result < 16 = rw k.ensures (constant-lt w l.n (omega arith)) in (
-      omega arith,
-      round-small p (sound c.args.v c.requires.le_v.0 c.requires.le_v.1) l.out l.invariant.1 k.result small w _ c.round_with-next.ensures,
-      c.round_with-next.ensures ∙ rw (l.invariant.2, k.ensures) (first_more p w (window p.d c.args.g) l.n (omega arith)),
+      round-small p (sound c.args.v c.requires.le_v.0 c.requires.le_v.1) l.out l.invariant.0 k.result small w _ c.round_with-next.ensures,
+      c.round_with-next.ensures ∙ rw (l.invariant.1, k.ensures) (first_more p w (window p.d c.args.g) l.n (omega arith)),
     )
 
 pub returns : goal.returns
@@ -43,4 +42,4 @@ returns c =
     let l = c.loop-n in
     let a = c.args in
     let p = photon_of a.v in
-    l.invariant.2 ∙ first-all p a.way (window p.d a.g) l.n (omega arith)
+    l.invariant.1 ∙ first-all p a.way (window p.d a.g) l.n (omega arith)

@@ -11,7 +11,7 @@ use Rattle.photon.proofs.steps.row_sum.Goals as goal
 pub loop-b-init : goal.loop-b-init
 loop-b-init c =
     let a = c.args in
-    (omega arith, λ d j m e k hj. no_bits (2 ^ a.s) a.poly d j a.z (λ i. lane j (get_or a.rows.now (a.n + i) 0)))
+    λ d j m e k hj. no_bits (2 ^ a.s) a.poly d j a.z (λ i. lane j (get_or a.rows.now (a.n + i) 0))
 
 pub doubled-twice-requires : goal.doubled-twice-requires
 doubled-twice-requires c = record { le_s = c.requires.n_bound.1; modulus = c.requires.modulus }
@@ -20,15 +20,13 @@ pub loop-b-preserved : goal.loop-b-preserved
 loop-b-preserved c =
     let l = c.loop-b in
     let a = c.args in
-    let up : l.b ≡ l.b - 1 + 1 = omega arith in (
-      omega arith,
-      λ d j m e k hj.
-          bit-taken d a.s a.poly m a.rows.now a.n k j hj a.z (l.b - 1) (omega arith) e _ _ _ c.bit_sum.ensures
-          (rw up at (l.invariant.1 d j m e k hj)) c.doubled-twice.ensures,
-    )
+    let up : l.b ≡ l.b - 1 + 1 = omega arith in
+    λ d j m e k hj.
+    bit-taken d a.s a.poly m a.rows.now a.n k j hj a.z (l.b - 1) (omega arith) e _ _ _ c.bit_sum.ensures
+    (rw up at (l.invariant d j m e k hj)) c.doubled-twice.ensures
 
 pub returns : goal.returns
 returns c = λ d j m e k hj.
     let l = c.loop-b in
     let end : l.b ≡ 0 = omega arith in
-    simp div-one at (rw end at (l.invariant.1 d j m e k hj))
+    simp div-one at (rw end at (l.invariant d j m e k hj))

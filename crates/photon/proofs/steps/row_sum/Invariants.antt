@@ -1,7 +1,7 @@
 -- `photon::steps::row_sum` meets its contract: before a turn the sum is that of the bits from bit b on. Assumes nothing.
 use mathlib.Core.Path.{◌≡◌}
 use mathlib.Core.List.{List}
-use Prim.Native.Nat.{ℕ, ◌/◌, ◌^◌, ◌≤◌, ◌<◌}
+use Prim.Native.Nat.{ℕ, ◌/◌, ◌^◌, ◌<◌}
 use Rattle.standard.specs.Grid.{tab}
 use Rattle.standard.specs.Field.{dot}
 use Rattle.photon.specs.Rows.{lane, column_from, Mixing, NoneFrom, SmallRows}
@@ -14,7 +14,4 @@ From rows n s poly z b sum =
     → lane j sum ≡ dot (2 ^ s) poly (tab d (λ i. lane i z / 2 ^ b)) (column_from d rows n j)
 
 abbrev pub invariant-loop-b : goal.invariant-loop-b
-invariant-loop-b l = (l.b ≤ 8) × From l.rows l.n l.s l.poly l.z l.b l.sum
-
-abbrev pub decreases-loop-b : goal.decreases-loop-b
-decreases-loop-b l = l.b
+invariant-loop-b l = From l.rows l.n l.s l.poly l.z l.b l.sum

@@ -34,15 +34,12 @@ same-rotation (suc e) Backward (suc i) j h =
     rw (less, far, round, add-mul-mod_self_left)
 
 pub loop-i-init : goal.loop-i-init
-loop-i-init c = (
-  omega arith,
-  omega arith,
-  record {
-    len = c.well_formed.0.1.0.1;
-    done = λ k l hk j hj. rw (c.rotation_from-from.ensures, lt-one l, same-rotation c.args.d c.args.way 0 j (omega arith), mul-zero, add-zero, mod-eq_of_lt hj);
-    rest = λ k l. refl;
-  },
-)
+loop-i-init c =
+    record {
+      len = c.well_formed.0.1.0.1;
+      done = λ k l hk j hj. rw (c.rotation_from-from.ensures, lt-one l, same-rotation c.args.d c.args.way 0 j (omega arith), mul-zero, add-zero, mod-eq_of_lt hj);
+      rest = λ k l. refl;
+    }
 
 pub rotation_of-by-requires : goal.rotation_of-by-requires
 rotation_of-by-requires c = record { le_d = (omega arith, omega arith); fact = rw c.rotation_from-from.ensures (either-row c.args.d c.args.way) }
@@ -54,8 +51,8 @@ pub loop-i-preserved : goal.loop-i-preserved
 loop-i-preserved c =
     let l = c.loop-i in
     let a = c.args in
-    let row : Rotated a.d c.rotation_from-from.result a.g l.i c.rotate_row.result = λ hi j h. rw (← c.rotation_of-by.ensures.1 hi, ← l.invariant.2.rest l.i (omega arith)) (c.rotate_row.ensures j h) in
-    (omega arith, omega arith, upto-more l.i _ l.out _ (omega arith) row l.invariant.2)
+    let row : Rotated a.d c.rotation_from-from.result a.g l.i c.rotate_row.result = λ hi j h. rw (← c.rotation_of-by.ensures.1 hi, ← l.invariant.rest l.i (omega arith)) (c.rotate_row.ensures j h) in
+    upto-more l.i _ l.out _ (omega arith) row l.invariant
 
 pub returns : goal.returns
 unfolding shift_rows
@@ -64,4 +61,4 @@ returns c =
     window-is a.d _ _
     (λ i j hi hj.
     rw (at-window a.d a.g i _ hi (mod-lt (j + shift_factor a.d a.way * i) (omega arith)), ← same-rotation a.d a.way i j hi, ← c.rotation_from-from.ensures)
-    (c.loop-i.invariant.2.done i (omega arith) hi j hj))
+    (c.loop-i.invariant.done i (omega arith) hi j hj))

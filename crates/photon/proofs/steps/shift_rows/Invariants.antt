@@ -2,7 +2,7 @@
 -- Assumes nothing.
 use mathlib.Core.Path.{◌≡◌}
 use mathlib.Core.List.{List, []}
-use Prim.Native.Nat.{ℕ, ◌+◌, ◌-◌, ◌%◌, ◌≤◌, ◌<◌}
+use Prim.Native.Nat.{ℕ, ◌+◌, ◌%◌, ◌<◌}
 use lib.ListN.{get_or}
 use Rattle.standard.specs.Grid.{Grid, at}
 use Rattle.octets.proofs.Upto.{Upto}
@@ -13,7 +13,4 @@ abbrev pub Rotated : ℕ → ℕ → Grid → ℕ → List ℕ → Type 0
 Rotated d from g k row = k < d → (j : ℕ) → j < d → get_or row j 0 ≡ at g k ((j + distance k from) % d)
 
 abbrev pub invariant-loop-i : goal.invariant-loop-i
-invariant-loop-i l = (1 ≤ l.i) × (l.i ≤ 8) × Upto [] (Rotated l.d l.from l.initial.out) 8 l.i l.initial.out l.out
-
-abbrev pub decreases-loop-i : goal.decreases-loop-i
-decreases-loop-i l = 8 - l.i
+invariant-loop-i l = Upto [] (Rotated l.d l.from l.initial.out) 8 l.i l.initial.out l.out

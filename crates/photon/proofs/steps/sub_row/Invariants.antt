@@ -1,12 +1,8 @@
--- `photon::steps::sub_row` meets its contract: after j turns the first j cells are looked up. Assumes nothing.
-use mathlib.Core.Path.{◌≡◌}
-use Prim.Native.Nat.{◌-◌, ◌≤◌}
-use lib.ListN.{get_or}
-use Rattle.octets.proofs.Upto.{Upto}
+-- `photon::steps::sub_row` meets its contract: the cells passed are looked up, the others as they were. Assumes nothing.
+use Rattle.std.proofs.Common.{◌≡◌, ℕ, ◌≤◌, ◌<◌, get_or}
 use Rattle.photon.proofs.steps.sub_row.Given as goal
 
-abbrev pub invariant-loop-j : goal.invariant-loop-j
-invariant-loop-j l = (l.j ≤ 8) × Upto 0 (λ k x. x ≡ get_or l.table (get_or l.initial.out k 0) 0) 8 l.j l.initial.out l.out
-
-abbrev pub decreases-loop-j : goal.decreases-loop-j
-decreases-loop-j l = 8 - l.j
+abbrev pub invariant-loop-cell : goal.invariant-loop-cell
+invariant-loop-cell l =
+    ((k : ℕ) → k < l.cell-index → get_or l.cell-items k 0 ≡ get_or l.table (get_or l.initial.cell-items k 0) 0)
+    × ((k : ℕ) → l.cell-index ≤ k → get_or l.cell-items k 0 ≡ get_or l.initial.cell-items k 0)

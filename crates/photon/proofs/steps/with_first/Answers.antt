@@ -20,7 +20,7 @@ first-only row p w x e ew hx (suc j) h =
 
 pub returns : goal.returns
 returns c = λ j h.
-    let w = c.u8_to_u64-first in
-    let p = c.packed-cells in
+    let w = c.from in
+    let p = c.packed in
     let a = c.args in
-    c.unpacked.ensures j h ∙ lane_xor j p.result w.result ∙ first-only a.row p.result w.result a.x p.ensures w.ensures.0 (omega arith) j h
+    c.unpacked.ensures j h ∙ lane_xor j p.result w.result ∙ first-only a.row p.result w.result a.x p.ensures w.ensures (omega arith) j h

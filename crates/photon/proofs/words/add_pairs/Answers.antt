@@ -12,7 +12,7 @@ place-lt : (m k d : ℕ) → 0 < d → (m + 2 * k) % d < d
 place-lt m k d pos = mod-lt _ pos
 
 pub loop-m-init : goal.loop-m-init
-loop-m-init c = (omega arith, upto-none _ c.requires.0)
+loop-m-init c = upto-none _ (omega arith)
 
 pub offset_bounds-w-m : goal.offset_bounds-w-m
 offset_bounds-w-m c = omega (arith, place-lt c.loop-m.m c.args.k c.args.d (omega arith))
@@ -26,13 +26,11 @@ byte_of-requires c = c.spot.ensures.1
 pub loop-m-preserved : goal.loop-m-preserved
 loop-m-preserved c =
     let l = c.loop-m in
-    let a = c.args in (
-      omega arith,
-      upto-more l.m _ l.f _ (omega arith)
-          (ap₂ (λ (x y : ℕ). bit_xor x (get_or a.table.now (16 + 256 * a.k + y) 0)) (l.invariant.1.rest l.m (omega arith))
-          (c.byte_of.ensures ∙ ap (λ (x : ℕ). get_or a.w.now ((l.m + 2 * a.k) % a.d) 0 / 2 ^ (8 * x) % 256) c.spot.ensures.0))
-          l.invariant.1,
-    )
+    let a = c.args in
+    upto-more l.m _ l.f _ (omega arith)
+    (ap₂ (λ (x y : ℕ). bit_xor x (get_or a.table.now (16 + 256 * a.k + y) 0)) (l.invariant.rest l.m (omega arith))
+    (c.byte_of.ensures ∙ ap (λ (x : ℕ). get_or a.w.now ((l.m + 2 * a.k) % a.d) 0 / 2 ^ (8 * x) % 256) c.spot.ensures.0))
+    l.invariant
 
 pub returns : goal.returns
-returns c = (c.loop-m.invariant.1.len, λ m h. c.loop-m.invariant.1.done m (omega arith))
+returns c m h = c.loop-m.invariant.done m (omega arith)

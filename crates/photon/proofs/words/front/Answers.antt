@@ -1,35 +1,35 @@
 -- `photon::words::front` meets its contract: the rows that hold the bits given out. Assumes nothing.
 use native.Mathlib.Omega.{arith}
 use lib.Dec.{lit≤}
-use Rattle.photon.proofs.ImageRows.{side4, front-rows}
+use Rattle.photon.proofs.ImageRows.{sides, front-rows}
 use Rattle.photon.proofs.words.front.Goals as goal
 
-pub image4-requires : goal.image4-requires
-image4-requires c = side4 1 (lit≤ tt) (lit≤ tt) 1 (lit≤ tt)
+pub image_of-requires : goal.image_of-requires
+image_of-requires c = sides 1 (lit≤ tt) (lit≤ tt) 1 (lit≤ tt)
 
-pub returns-then-v-eq1 : goal.returns-then-v-eq1
-returns-then-v-eq1 c = front-rows 1 (lit≤ tt) (lit≤ tt) _ c.if-v-eq1.true _ _ c.image4.ensures
+pub returns-in-1 : goal.returns-in-1
+returns-in-1 c = front-rows 1 (lit≤ tt) (lit≤ tt) _ c.in-1.is _ _ c.image_of.ensures
 
-pub image4-requires-then-v-eq2 : goal.image4-requires-then-v-eq2
-image4-requires-then-v-eq2 c = side4 2 (lit≤ tt) (lit≤ tt) 1 (lit≤ tt)
+pub image_of-requires-in-2 : goal.image_of-requires-in-2
+image_of-requires-in-2 c = sides 2 (lit≤ tt) (lit≤ tt) 1 (lit≤ tt)
 
-pub returns-then-v-eq2 : goal.returns-then-v-eq2
-returns-then-v-eq2 c = front-rows 2 (lit≤ tt) (lit≤ tt) _ c.if-v-eq2.true _ _ c.image4-then-v-eq2.ensures
+pub returns-in-2 : goal.returns-in-2
+returns-in-2 c = front-rows 2 (lit≤ tt) (lit≤ tt) _ c.in-2.is _ _ c.image_of-in-2.ensures
 
-pub image4-requires-then-v-eq3 : goal.image4-requires-then-v-eq3
-image4-requires-then-v-eq3 c = side4 3 (lit≤ tt) (lit≤ tt) 2 (lit≤ tt)
+pub image_of-requires-in-3 : goal.image_of-requires-in-3
+image_of-requires-in-3 c = sides 3 (lit≤ tt) (lit≤ tt) 2 (lit≤ tt)
 
-pub returns-then-v-eq3 : goal.returns-then-v-eq3
-returns-then-v-eq3 c = front-rows 3 (lit≤ tt) (lit≤ tt) _ c.if-v-eq3.true _ _ c.image4-then-v-eq3.ensures
+pub returns-in-3 : goal.returns-in-3
+returns-in-3 c = front-rows 3 (lit≤ tt) (lit≤ tt) _ c.in-3.is _ _ c.image_of-in-3.ensures
 
-pub image4-requires-then-v-eq4 : goal.image4-requires-then-v-eq4
-image4-requires-then-v-eq4 c = side4 4 (lit≤ tt) (lit≤ tt) 1 (lit≤ tt)
+pub image_of-requires-in-4 : goal.image_of-requires-in-4
+image_of-requires-in-4 c = sides 4 (lit≤ tt) (lit≤ tt) 1 (lit≤ tt)
 
-pub returns-then-v-eq4 : goal.returns-then-v-eq4
-returns-then-v-eq4 c = front-rows 4 (lit≤ tt) (lit≤ tt) _ c.if-v-eq4.true _ _ c.image4-then-v-eq4.ensures
+pub returns-in-4 : goal.returns-in-4
+returns-in-4 c = front-rows 4 (lit≤ tt) (lit≤ tt) _ c.in-4.is _ _ c.image_of-in-4.ensures
 
-pub image8-requires : goal.image8-requires
-image8-requires c = lit≤ tt
+pub image_of-requires-in_default : goal.image_of-requires-in_default
+image_of-requires-in_default c = sides 5 (lit≤ tt) (lit≤ tt) 1 (lit≤ tt)
 
-pub returns : goal.returns
-returns c = front-rows 5 (lit≤ tt) (lit≤ tt) c.args.v (omega arith) _ _ c.image8.ensures
+pub returns-in_default : goal.returns-in_default
+returns-in_default c = front-rows 5 (lit≤ tt) (lit≤ tt) c.args.v (omega arith) _ _ c.image_of-in_default.ensures

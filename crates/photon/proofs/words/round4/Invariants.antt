@@ -1,10 +1,6 @@
 -- `photon::words::round4` meets its contract: after k turns the first k bytes of each column are summed. Assumes nothing.
-use Prim.Native.Nat.{◌+◌, ◌-◌, ◌*◌, ◌≤◌}
 use Rattle.photon.proofs.WordRounds.{Summed}
 use Rattle.photon.proofs.words.round4.Given as goal
 
 abbrev pub invariant-loop-k : goal.invariant-loop-k
-invariant-loop-k l = (2 * l.k ≤ l.d + 1) × Summed l.v l.w l.c l.k l.f
-
-abbrev pub decreases-loop-k : goal.decreases-loop-k
-decreases-loop-k l = l.d + 1 - l.k
+invariant-loop-k l = Summed l.v l.w l.c l.k l.f

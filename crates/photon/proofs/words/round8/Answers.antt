@@ -4,19 +4,17 @@ use Rattle.photon.proofs.WordRounds.{shared-none, shared-more, shared-done}
 use Rattle.photon.proofs.words.round8.Goals as goal
 
 pub loop-k-init : goal.loop-k-init
-loop-k-init c = (omega arith, shared-none c.args.w.now c.args.c)
+loop-k-init c = shared-none c.args.w.now c.args.c
 
 pub add_shares-requires : goal.add_shares-requires
-add_shares-requires c = (c.loop-k.invariant.1.len, omega arith, c.requires.entries.size)
+add_shares-requires c = (omega arith, c.requires.size)
 
 pub loop-k-preserved : goal.loop-k-preserved
 loop-k-preserved c =
-    let l = c.loop-k in (
-      omega arith,
-      shared-more c.args.w.now c.args.table.now c.requires.entries c.args.c l.k (omega arith) l.f _ l.invariant.1 c.add_shares.ensures.0 c.add_shares.ensures.1,
-    )
+    let l = c.loop-k in
+    shared-more c.args.w.now c.args.table.now c.requires c.args.c l.k (omega arith) l.f _ l.invariant c.add_shares.ensures
 
 pub returns : goal.returns
 returns c =
     let l = c.loop-k in
-    (l.invariant.1.len, shared-done c.args.w.now c.args.c l.k (omega arith) l.f l.invariant.1)
+    shared-done c.args.w.now c.args.c l.k (omega arith) l.f l.invariant

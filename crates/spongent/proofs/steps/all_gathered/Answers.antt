@@ -11,7 +11,7 @@ use Rattle.spongent.proofs.Places.{Gathered, in-planes}
 use Rattle.spongent.proofs.steps.all_gathered.Goals as goal
 
 pub loop-i-init : goal.loop-i-init
-loop-i-init c = (omega arith, upto-none _ (omega arith))
+loop-i-init c = upto-none _ (omega arith)
 
 pub gathered-requires : goal.gathered-requires
 gathered-requires c =
@@ -23,14 +23,14 @@ gathered-requires c =
 pub loop-i-preserved : goal.loop-i-preserved
 loop-i-preserved c =
     let l = c.loop-i in
-    (omega arith, upto-more l.i _ l.out c.gathered.result (omega arith) c.gathered.ensures l.invariant.1)
+    upto-more l.i _ l.out c.gathered.result (omega arith) c.gathered.ensures l.invariant
 
 pub returns : goal.returns
 returns c =
     let l = c.loop-i in
     let a = c.args in
-    let at : (i : ℕ) → i < a.n → Gathered a.n a.pairs i (get_or l.out i 0) = λ i h. l.invariant.1.done i (omega arith) in (
+    let at : (i : ℕ) → i < a.n → Gathered a.n a.pairs i (get_or l.out i 0) = λ i h. l.invariant.done i (omega arith) in (
       in-planes a.n (λ j b i. plane_pair b (get_or l.out i 0) ≡ get_or a.pairs j 0)
           (λ i h. (at i h).0) (λ i h. (at i h).1.0) (λ i h. (at i h).1.1.0) (λ i h. (at i h).1.1.1),
-      (λ k h. l.invariant.1.rest k (omega arith) ∙ zeros-at 36 k),
+      (λ k h. l.invariant.rest k (omega arith) ∙ zeros-at 36 k),
     )

@@ -11,7 +11,7 @@ use Rattle.spongent.proofs.Places.{joined_at}
 use Rattle.spongent.proofs.steps.all_joined.Goals as goal
 
 pub loop-k-init : goal.loop-k-init
-loop-k-init c = (omega arith, upto-none _ (omega arith))
+loop-k-init c = upto-none _ (omega arith)
 
 pub joined_at-requires : goal.joined_at-requires
 joined_at-requires c = (omega arith, c.requires.1)
@@ -19,12 +19,12 @@ joined_at-requires c = (omega arith, c.requires.1)
 pub loop-k-preserved : goal.loop-k-preserved
 loop-k-preserved c =
     let l = c.loop-k in
-    (omega arith, upto-more l.k _ l.out c.joined_at.result (omega arith) c.joined_at.ensures l.invariant.1)
+    upto-more l.k _ l.byte-items c.joined_at.result (omega arith) c.joined_at.ensures l.invariant
 
 pub returns : goal.returns
 returns c =
     let l = c.loop-k in
     let a = c.args in (
-      (λ j h. joined_at a.pairs l.out j ((l.invariant.1.done (j / 4) (omega arith)).0 (omega arith))),
-      (λ k h. ⊎_elim (λ m. (l.invariant.1.done k (omega arith)).1 h) (λ m. l.invariant.1.rest k (omega arith) ∙ zeros-at 36 k) (lt-or-le k 36)),
+      (λ j h. joined_at a.pairs l.byte-items j ((l.invariant.done (j / 4) (omega arith)).0 (omega arith))),
+      (λ k h. ⊎_elim (λ m. (l.invariant.done k (omega arith)).1 h) (λ m. l.invariant.rest k (omega arith) ∙ zeros-at 36 k) (lt-or-le k 36)),
     )

@@ -10,19 +10,19 @@ use Rattle.standard.proofs.Tests.{same-below}
 use Rattle.spongent.specs.Parameters.{taps_of}
 use Rattle.spongent.proofs.steps.next_counter.Goals as goal
 
-pub returns-then-w-eq6 : goal.returns-then-w-eq6
+pub returns-in-6 : goal.returns-in-6
 unfolding taps_of next_counter tapped xor
-returns-then-w-eq6 c = rw c.if-w-eq6.true
+returns-in-6 c = rw c.in-6.is
     (same-below (λ x. x % 32 * 2 + bit_xor (x / 32) (x / 16) % 2) (next_counter 6 (taps_of 6)) 256 tt c.args.c (omega arith))
 
-pub returns-then-w-eq7 : goal.returns-then-w-eq7
+pub returns-in-7 : goal.returns-in-7
 unfolding taps_of next_counter tapped xor
-returns-then-w-eq7 c = rw c.if-w-eq7.true
+returns-in-7 c = rw c.in-7.is
     (same-below (λ x. x % 64 * 2 + bit_xor (x / 64) (x / 32) % 2) (next_counter 7 (taps_of 7)) 256 tt c.args.c (omega arith))
 
-pub returns : goal.returns
+pub returns-in_default : goal.returns-in_default
 unfolding taps_of next_counter tapped xor
-returns c =
+returns-in_default c =
     let a = c.args in
     let eight : a.w ≡ 8 = omega arith in
     rw eight

@@ -11,19 +11,19 @@ use Rattle.standard.proofs.Tests.{same-below}
 use Rattle.spongent.specs.Parameters.{taps_of}
 use Rattle.spongent.proofs.steps.next_reversed.Goals as goal
 
-pub returns-then-w-eq6 : goal.returns-then-w-eq6
+pub returns-in-6 : goal.returns-in-6
 unfolding taps_of next_reversed tapped xor
-returns-then-w-eq6 c = rw c.if-w-eq6.true
+returns-in-6 c = rw c.in-6.is
     (same-below (λ x. bit_xor (x / 4) (x / 8) % 2 * 128 + x / 8 * 4) (next_reversed 8 6 (taps_of 6)) 256 tt c.args.d (omega arith))
 
-pub returns-then-w-eq7 : goal.returns-then-w-eq7
+pub returns-in-7 : goal.returns-in-7
 unfolding taps_of next_reversed tapped xor
-returns-then-w-eq7 c = rw c.if-w-eq7.true
+returns-in-7 c = rw c.in-7.is
     (same-below (λ x. bit_xor (x / 2) (x / 4) % 2 * 128 + x / 4 * 2) (next_reversed 8 7 (taps_of 7)) 256 tt c.args.d (omega arith))
 
-pub returns : goal.returns
+pub returns-in_default : goal.returns-in_default
 unfolding taps_of next_reversed tapped xor
-returns c =
+returns-in_default c =
     let a = c.args in
     let eight : a.w ≡ 8 = omega arith in
     rw eight

@@ -31,15 +31,15 @@ module _ (s start out : List ℕ) (k : ℕ) (hk : k < 36) (u : Upto 0 (Right s) 
       (one_more (4 * k) _ _ _ (omega arith) (omega arith) first u)))
 
 pub loop-k-init : goal.loop-k-init
-loop-k-init c = (omega arith, upto-none _ (omega arith))
+loop-k-init c = upto-none _ (omega arith)
 
 pub loop-k-preserved : goal.loop-k-preserved
 loop-k-preserved c =
     let l = c.loop-k in
     let a = c.args in
-    (omega arith, byte_more a.s _ l.out l.k (omega arith) l.invariant.1)
+    byte_more a.s _ l.out l.k (omega arith) l.invariant
 
 pub returns : goal.returns
 returns c =
     let l = c.loop-k in
-    λ j h. l.invariant.1.done j (omega arith)
+    λ j h. l.invariant.done j (omega arith)

@@ -2,7 +2,7 @@
 -- Assumes nothing.
 use mathlib.Core.Path.{◌≡◌}
 use mathlib.Core.List.{List}
-use Prim.Native.Nat.{ℕ, ◌-◌, ◌*◌, ◌≤◌}
+use Prim.Native.Nat.{ℕ, ◌*◌}
 use Rattle.octets.proofs.Upto.{Upto}
 use Rattle.spongent.specs.Pairs.{pair_at}
 use Rattle.spongent.proofs.steps.pairs_in.Given as goal
@@ -11,7 +11,4 @@ abbrev pub Right : List ℕ → ℕ → ℕ → Type 0
 Right s j y = y ≡ pair_at s j
 
 abbrev pub invariant-loop-k : goal.invariant-loop-k
-invariant-loop-k l = (l.k ≤ l.n) × Upto 0 (Right l.s) 144 (4 * l.k) l.initial.out l.out
-
-abbrev pub decreases-loop-k : goal.decreases-loop-k
-decreases-loop-k l = l.n - l.k
+invariant-loop-k l = Upto 0 (Right l.s) 144 (4 * l.k) l.initial.out l.out

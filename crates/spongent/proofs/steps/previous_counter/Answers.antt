@@ -11,19 +11,19 @@ use Rattle.standard.proofs.Tests.{same-below}
 use Rattle.spongent.specs.Parameters.{taps_of}
 use Rattle.spongent.proofs.steps.previous_counter.Goals as goal
 
-pub returns-then-w-eq6 : goal.returns-then-w-eq6
+pub returns-in-6 : goal.returns-in-6
 unfolding taps_of previous_counter tapped xor
-returns-then-w-eq6 c = rw c.if-w-eq6.true
-    (same-below (λ x. bit_xor x (x / 32) % 2 * 32 + x / 2) (previous_counter 6 (taps_of 6)) 64 tt c.args.c (rw c.if-w-eq6.true at c.requires.1.1))
+returns-in-6 c = rw c.in-6.is
+    (same-below (λ x. bit_xor x (x / 32) % 2 * 32 + x / 2) (previous_counter 6 (taps_of 6)) 64 tt c.args.c (rw c.in-6.is at c.requires.1.1))
 
-pub returns-then-w-eq7 : goal.returns-then-w-eq7
+pub returns-in-7 : goal.returns-in-7
 unfolding taps_of previous_counter tapped xor
-returns-then-w-eq7 c = rw c.if-w-eq7.true
-    (same-below (λ x. bit_xor x (x / 64) % 2 * 64 + x / 2) (previous_counter 7 (taps_of 7)) 128 tt c.args.c (rw c.if-w-eq7.true at c.requires.1.1))
+returns-in-7 c = rw c.in-7.is
+    (same-below (λ x. bit_xor x (x / 64) % 2 * 64 + x / 2) (previous_counter 7 (taps_of 7)) 128 tt c.args.c (rw c.in-7.is at c.requires.1.1))
 
-pub returns : goal.returns
+pub returns-in_default : goal.returns-in_default
 unfolding taps_of previous_counter tapped xor
-returns c =
+returns-in_default c =
     let a = c.args in
     let eight : a.w ≡ 8 = omega arith in
     rw eight

@@ -21,28 +21,28 @@ abbrev shifted : ℕ → ℕ → ℕ
 shifted b d = d % 128 * 2 + bit_xor (d / 128) (d / b) % 2 * b
 
 pub overflow_add-result : goal.overflow_add-result
-overflow_add-result c = omega (arith, low-bits _ 6 c.args.d c.if-w-eq6.true c.requires.1.1)
+overflow_add-result c = omega (arith, low-bits _ 6 c.args.d c.in-6.is c.requires.1.1)
 
-pub returns-then-w-eq6 : goal.returns-then-w-eq6
+pub returns-in-6 : goal.returns-in-6
 unfolding taps_of previous_reversed tapped xor
-returns-then-w-eq6 c =
+returns-in-6 c =
     let d : ℕ = c.args.d in
-    let whole : 4 * (d / 4) ≡ d = omega (arith, low-bits _ 6 d c.if-w-eq6.true c.requires.1.1) in
-    rw c.if-w-eq6.true (rw whole at (same-below (λ k. shifted 4 (4 * k)) (λ k. previous_reversed 8 6 (taps_of 6) (4 * k)) 64 tt (d / 4) (omega arith)))
+    let whole : 4 * (d / 4) ≡ d = omega (arith, low-bits _ 6 d c.in-6.is c.requires.1.1) in
+    rw c.in-6.is (rw whole at (same-below (λ k. shifted 4 (4 * k)) (λ k. previous_reversed 8 6 (taps_of 6) (4 * k)) 64 tt (d / 4) (omega arith)))
 
-pub overflow_add-result-then-w-eq7 : goal.overflow_add-result-then-w-eq7
-overflow_add-result-then-w-eq7 c = omega (arith, low-bits _ 7 c.args.d c.if-w-eq7.true c.requires.1.1)
+pub overflow_add-result-in-7 : goal.overflow_add-result-in-7
+overflow_add-result-in-7 c = omega (arith, low-bits _ 7 c.args.d c.in-7.is c.requires.1.1)
 
-pub returns-then-w-eq7 : goal.returns-then-w-eq7
+pub returns-in-7 : goal.returns-in-7
 unfolding taps_of previous_reversed tapped xor
-returns-then-w-eq7 c =
+returns-in-7 c =
     let d : ℕ = c.args.d in
-    let whole : 2 * (d / 2) ≡ d = omega (arith, low-bits _ 7 d c.if-w-eq7.true c.requires.1.1) in
-    rw c.if-w-eq7.true (rw whole at (same-below (λ k. shifted 2 (2 * k)) (λ k. previous_reversed 8 7 (taps_of 7) (2 * k)) 128 tt (d / 2) (omega arith)))
+    let whole : 2 * (d / 2) ≡ d = omega (arith, low-bits _ 7 d c.in-7.is c.requires.1.1) in
+    rw c.in-7.is (rw whole at (same-below (λ k. shifted 2 (2 * k)) (λ k. previous_reversed 8 7 (taps_of 7) (2 * k)) 128 tt (d / 2) (omega arith)))
 
-pub returns : goal.returns
+pub returns-in_default : goal.returns-in_default
 unfolding taps_of previous_reversed tapped xor
-returns c =
+returns-in_default c =
     let a = c.args in
     let eight : a.w ≡ 8 = omega arith in
     rw eight

@@ -5,15 +5,15 @@ use Rattle.octets.proofs.FilledFrom.{filled_none, filled_more}
 use Rattle.spongent.proofs.steps.with_plane.Goals as goal
 
 pub loop-i-init : goal.loop-i-init
-loop-i-init c = (omega arith, filled_none _ _ _)
+loop-i-init c = filled_none _ _ _
 
 pub loop-i-preserved : goal.loop-i-preserved
 loop-i-preserved c =
     let l = c.loop-i in
     let a = c.args in
-    (omega arith, filled_more a.from _ l.i a.pairs l.out c.pair.result (omega arith) c.pair.ensures l.invariant.1)
+    filled_more a.from _ l.i a.pairs l.out c.pair.result (omega arith) c.pair.ensures l.invariant
 
 pub returns : goal.returns
 returns c =
-    let u = c.loop-i.invariant.1 in
+    let u = c.loop-i.invariant in
     ((λ i h. u.done i (omega arith)), u.before)

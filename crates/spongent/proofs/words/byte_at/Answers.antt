@@ -9,4 +9,4 @@ use Rattle.spongent.proofs.words.byte_at.Goals as goal
 pub returns : goal.returns
 returns c =
     let a = c.args in
-    (ap (λ (x : ℕ). x * 2 ^ (8 * a.k) % 2 ^ 64) c.u8_to_u64.ensures.0 ∙ byte-shifted a.x a.k (omega arith) (omega arith), omega arith)
+    (ap (λ (x : ℕ). x * 2 ^ (8 * a.k) % 2 ^ 64) c.from.ensures ∙ byte-shifted a.x a.k (omega arith) (omega arith), omega arith)

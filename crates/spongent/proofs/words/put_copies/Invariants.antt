@@ -1,12 +1,8 @@
 -- `put_copies` writes the look-ups of each byte of a word. The loop's invariant: the first i of them are written.
 -- Assumes nothing.
-use Prim.Native.Nat.{◌-◌, ◌≤◌}
 use Rattle.standard.specs.Spongent.{nibbles}
 use Rattle.spongent.proofs.TableLaws.{Copied}
 use Rattle.spongent.proofs.words.put_copies.Given as goal
 
 abbrev pub invariant-loop-i : goal.invariant-loop-i
-invariant-loop-i l = (l.i ≤ 2048) × Copied nibbles l.i l.initial.out l.out
-
-abbrev pub decreases-loop-i : goal.decreases-loop-i
-decreases-loop-i l = 2048 - l.i
+invariant-loop-i l = Copied nibbles l.i l.initial.out l.out

@@ -5,20 +5,15 @@ use Rattle.spongent.proofs.LanePlaces.{put-none, put-even, put-more, put_all}
 use Rattle.spongent.proofs.words.put_lanes.Goals as goal
 
 pub loop-p-init : goal.loop-p-init
-loop-p-init c = (omega arith, put-none)
+loop-p-init c = put-none
 
 pub put-requires : goal.put-requires
 put-requires c =
-    let l = c.loop-p in
-    let even = put-even l.invariant.1 (omega arith) in
-    (omega arith, (even, (omega arith, omega arith)))
+    let even = put-even c.loop-p.invariant (omega arith) in
+    (even, (omega arith, omega arith))
 
 pub loop-p-preserved : goal.loop-p-preserved
-loop-p-preserved c =
-    let l = c.loop-p in
-    (omega arith, put-more l.invariant.1 (omega arith) _ c.put.ensures.1)
+loop-p-preserved c = put-more c.loop-p.invariant (omega arith) _ c.put.ensures
 
 pub returns : goal.returns
-returns c =
-    let l = c.loop-p in
-    (omega arith, put_all l.invariant.1 (omega arith) (omega arith))
+returns c = put_all c.loop-p.invariant (omega arith) (omega arith)

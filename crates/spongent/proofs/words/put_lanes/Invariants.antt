@@ -1,13 +1,11 @@
 -- `put_lanes` puts the four lanes, the lowest first.
 -- Assumes nothing.
-use mathlib.Core.Path.{◌≡◌}
 use Prim.Native.Nat.{◌-◌, ◌*◌}
-use lib.ListN.{length}
 use Rattle.spongent.proofs.LanePlaces.{Put}
 use Rattle.spongent.proofs.words.put_lanes.Given as goal
 
 abbrev pub invariant-loop-p : goal.invariant-loop-p
-invariant-loop-p l = (length l.out ≡ 8) × Put l.lanes l.at l.n l.initial.out l.out l.rest l.p
+invariant-loop-p l = Put l.lanes l.at l.n l.initial.out l.out l.rest l.p
 
 abbrev pub decreases-loop-p : goal.decreases-loop-p
 decreases-loop-p l = 8 * l.n - l.p

@@ -6,5 +6,4 @@ use Rattle.spongent.proofs.words.step.Goals as goal
 pub returns : goal.returns
 returns c =
     let a = c.args in
-    let block = c.with_block-s in
-    stepped a.v c.requires.le_v.0 c.requires.le_v.1 a.bytes.now a.m c.requires.le_v.3 a.w.now block.result _ block.ensures.1 c.permute.ensures
+    stepped a.v c.requires.le_v.0 c.requires.le_v.1 a.bytes.now a.m c.requires.le_v.3 a.w.now _ _ c.xor_block.ensures c.permute.ensures

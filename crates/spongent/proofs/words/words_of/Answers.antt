@@ -11,19 +11,18 @@ use Rattle.spongent.proofs.WordStates.{state-read}
 use Rattle.spongent.proofs.words.words_of.Goals as goal
 
 pub loop-i-init : goal.loop-i-init
-loop-i-init c = (omega arith, refl, upto-none _ (length-bytes_in _))
+loop-i-init c = (refl, upto-none _ (length-bytes_in _))
 
 pub loop-i-preserved : goal.loop-i-preserved
 loop-i-preserved c =
     let l = c.loop-i in
     let s : List ℕ = c.args.s.now in (
-      omega arith,
-      simp length-set l.invariant.1,
-      rw c.byte_at.ensures.0 (filled_more s l.out l.i (get_or s l.i 0) (omega arith) (omega arith) c.byte_at.ensures.1 refl l.invariant.2),
+      simp length-set l.invariant.0,
+      rw c.byte_at.ensures.0 (filled_more s l.out l.i (get_or s l.i 0) (omega arith) (omega arith) c.byte_at.ensures.1 refl l.invariant.1),
     )
 
 pub returns : goal.returns
 returns c =
     let l = c.loop-i in
     let e : l.i ≡ 36 = omega arith in
-    state-read c.args.v c.requires.0 c.requires.1 c.args.s.now l.out (filled-all c.args.s.now l.out (omega arith) (rw e at l.invariant.2))
+    state-read c.args.v c.requires.0 c.requires.1 c.args.s.now l.out (filled-all c.args.s.now l.out (omega arith) (rw e at l.invariant.1))

@@ -1,13 +1,9 @@
 -- `words_of` holds the bytes of s. The loop's invariant: the first i bytes are in the words, and the others are zero.
 -- Assumes nothing.
 use mathlib.Core.Path.{◌≡◌}
-use Prim.Native.Nat.{◌-◌, ◌≤◌}
 use lib.ListN.{length}
 use Rattle.spongent.proofs.WordLaws.{Filled}
 use Rattle.spongent.proofs.words.words_of.Given as goal
 
 abbrev pub invariant-loop-i : goal.invariant-loop-i
-invariant-loop-i l = (l.i ≤ 36) × (length l.out ≡ 8) × Filled l.bytes l.i l.out
-
-abbrev pub decreases-loop-i : goal.decreases-loop-i
-decreases-loop-i l = 36 - l.i
+invariant-loop-i l = (length l.out ≡ 8) × Filled l.s l.i l.out

@@ -1,9 +1,0 @@
--- `digest::text::write_answer` meets its contract. Assumes nothing.
-use native.Mathlib.Omega.{arith}
-use Rattle.digest.proofs.text.write_answer.Goals as goal
-
-pub returns-in-Done : goal.returns-in-Done
-returns-in-Done c = rw c.in-Done.is (record { out_after = c.write_closed.ensures.out_after; value = c.write_closed.ensures.value })
-
-pub returns-in-Refused : goal.returns-in-Refused
-returns-in-Refused c = rw c.in-Refused.is (record { out_after = c.write_refusal.ensures.out_after; value = (c.write_refusal.ensures.value.0, omega (arith, c.write_refusal.ensures.value.1)) })
