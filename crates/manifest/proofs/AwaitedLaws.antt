@@ -1,7 +1,6 @@
 -- The axes that a report awaits at its beginning, as the code makes them: an array whose elements a closure gives.
 -- Assumes nothing.
 use mathlib.Core.Path.{◌≡◌, sym, subst, ◌∙◌}
-use mathlib.Core.Bool.{Bool, false}
 use mathlib.Core.List.{List}
 use Prim.Native.Nat.{ℕ, zero, suc, ◌+◌, ◌<◌}
 use native.Mathlib.Omega.{arith}
@@ -13,10 +12,10 @@ use Rattle.standard.specs.Grid.{tab}
 use Rattle.standard.proofs.Tab.{tab-self, tab-cong}
 
 -- a closure that keeps what it captures, and whose answer at each number is h of it
-module _ {F : Type 0} (g : Mut F (ℕ × Unit {0}) Bool) (f : F) (h : ℕ → Bool)
-    (answers : (i : ℕ) (y : Bool) (q : F) → Called g f (i, tt) y q → (q ≡ f) × (y ≡ h i)) where
+module _ {F : Type 0} (g : Mut F (ℕ × Unit {0}) ℕ) (f : F) (h : ℕ → ℕ)
+    (answers : (i : ℕ) (y : ℕ) (q : F) → Called g f (i, tt) y q → (q ≡ f) × (y ≡ h i)) where
   -- the n elements from i on
-  made_from : (ys : List Bool) (n i : ℕ) → IsFromFnResultFrom g f ys i n → (k : ℕ) (d : Bool) → k < n → get_or ys (i + k) d ≡ h (i + k)
+  made_from : (ys : List ℕ) (n i : ℕ) → IsFromFnResultFrom g f ys i n → (k : ℕ) (d : ℕ) → k < n → get_or ys (i + k) d ≡ h (i + k)
   made_from ys zero i made k d l = absurd (omega arith)
   made_from ys (suc n) i made zero d l =
       let same : i + 0 ≡ i = omega arith in
@@ -28,8 +27,8 @@ module _ {F : Type 0} (g : Mut F (ℕ × Unit {0}) Bool) (f : F) (h : ℕ → Bo
       rw same (made_from ys n (i + 1) (subst (λ (q : F). IsFromFnResultFrom g q ys (i + 1) n) now.0 made.4) k d (omega arith))
 
   -- the array is the table of h
-  pub made-tab : (ys : List Bool) (n : ℕ) → IsFromFnResult g f ys n → ys ≡ tab n h
+  pub made-tab : (ys : List ℕ) (n : ℕ) → IsFromFnResult g f ys n → ys ≡ tab n h
   made-tab ys n made =
-      sym (tab-self n ys false made.long)
-      ∙ tab-cong n (λ k. get_or ys k false) h
-      (λ k l. let same : 0 + k ≡ k = omega arith in subst (λ (i : ℕ). get_or ys i false ≡ h i) same (made_from ys n 0 made.each k false l))
+      sym (tab-self n ys 0 made.long)
+      ∙ tab-cong n (λ k. get_or ys k 0) h
+      (λ k l. let same : 0 + k ≡ k = omega arith in subst (λ (i : ℕ). get_or ys i 0 ≡ h i) same (made_from ys n 0 made.each k 0 l))

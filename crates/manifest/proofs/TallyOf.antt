@@ -32,8 +32,8 @@ abbrev pub awaits : List ℕ → List Table → ℕ → Bool
 awaits manifest ts k = not (is_told ts (axis_at manifest k))
 
 -- the same as the report keeps it
-abbrev pub awaited_by : List ℕ → (ℕ → Bool) → List Bool
-awaited_by manifest p = tab 512 (λ k. ltb k (record_count manifest) && p k)
+abbrev pub awaited_by : List ℕ → (ℕ → Bool) → List ℕ
+awaited_by manifest p = tab 512 (λ k. digit (ltb k (record_count manifest) && p k))
 
 -- the tally of a row of tables
 unfoldable pub tally_of : List ℕ → List Table → Tally
@@ -53,11 +53,11 @@ unfolding tally_of
 tallied-all manifest ts = each-counts-once (held manifest) ts
 
 -- its parts, for one manifest
-abbrev parts : List ℕ → ℕ → ℕ → ℕ → ℕ → List Bool → Tally
+abbrev parts : List ℕ → ℕ → ℕ → ℕ → ℕ → List ℕ → Tally
 parts manifest u e n x a = record { listed = record_count manifest; untold = u; equal = e; unequal = n; unlisted = x; awaited = a }
 
 -- equal parts, equal tallies
-parts_same : (manifest : List ℕ) {u u' e e' n n' x x' : ℕ} {a a' : List Bool} → u ≡ u' → e ≡ e' → n ≡ n' → x ≡ x' → a ≡ a'
+parts_same : (manifest : List ℕ) {u u' e e' n n' x x' : ℕ} {a a' : List ℕ} → u ≡ u' → e ≡ e' → n ≡ n' → x ≡ x' → a ≡ a'
     → parts manifest u e n x a ≡ parts manifest u' e' n' x' a'
 parts_same manifest pu pe pn px pa = rw (pu, pe, pn, px, pa)
 
@@ -65,10 +65,10 @@ parts_same manifest pu pe pn px pa = rw (pu, pe, pn, px, pa)
 
 -- what agrees on a record is kept alike
 kept-alike : (manifest : List ℕ) (p q : ℕ → Bool) (k : ℕ) → (k < record_count manifest → p k ≡ q k)
-    → (ltb k (record_count manifest) && p k) ≡ (ltb k (record_count manifest) && q k)
+    → digit (ltb k (record_count manifest) && p k) ≡ digit (ltb k (record_count manifest) && q k)
 kept-alike manifest p q k h =
     ⊎_elim
-    (λ e. ap (λ (b : Bool). ltb k (record_count manifest) && b) (h (ltb-true k (record_count manifest) e)))
+    (λ e. ap (λ (b : Bool). digit (ltb k (record_count manifest) && b)) (h (ltb-true k (record_count manifest) e)))
     (λ e. rw e)
     (either (ltb k (record_count manifest)))
 
@@ -165,17 +165,17 @@ module _ (manifest : List ℕ) (rising : Rising manifest) (ts : List Table) (t :
     awaits-no-more = awaits-snoc k here ∙ rw (eq-eqb k k refl, and_no)
 
     -- the untold axes are one less if it was awaited
-    one_less : count_below (awaits manifest ts) (record_count manifest) - digit (get_or (awaited_by manifest (awaits manifest ts)) (record_for manifest t.axis) false) ≡ count_below (awaits manifest (ts ++ t ∷ [])) (record_count manifest)
+    one_less : count_below (awaits manifest ts) (record_count manifest) - get_or (awaited_by manifest (awaits manifest ts)) (record_for manifest t.axis) 0 ≡ count_below (awaits manifest (ts ++ t ∷ [])) (record_count manifest)
     one_less =
-        let told = ap digit (get_d-tab 512 (λ i. ltb i (record_count manifest) && awaits manifest ts i) k false (omega (arith, here))) in
+        let told = get_d-tab 512 (λ i. digit (ltb i (record_count manifest) && awaits manifest ts i)) k 0 (omega (arith, here)) in
         let fewer = count_same (awaits manifest (ts ++ t ∷ [])) (λ i. awaits manifest ts i && not (eqb i k)) (record_count manifest) awaits-snoc in
         omega (arith, told, fewer, count-without (awaits manifest ts) k (record_count manifest))
 
     -- and it is taken out of what is awaited
-    struck : set (awaited_by manifest (awaits manifest ts)) (record_for manifest t.axis) false ≡ awaited_by manifest (awaits manifest (ts ++ t ∷ []))
+    struck : set (awaited_by manifest (awaits manifest ts)) (record_for manifest t.axis) 0 ≡ awaited_by manifest (awaits manifest (ts ++ t ∷ []))
     struck =
-        let gone : (ltb k (record_count manifest) && awaits manifest (ts ++ t ∷ []) k) ≡ false = rw (awaits-no-more, and_no) in
-        set-tab 512 _ _ k false gone (λ i n. kept-alike manifest (awaits manifest (ts ++ t ∷ [])) (awaits manifest ts) i (λ h. awaits-other i h n))
+        let gone : digit (ltb k (record_count manifest) && awaits manifest (ts ++ t ∷ []) k) ≡ 0 = rw (awaits-no-more, and_no) in
+        set-tab 512 _ _ k 0 gone (λ i n. kept-alike manifest (awaits manifest (ts ++ t ∷ [])) (awaits manifest ts) i (λ h. awaits-other i h n))
 
     -- whether it is what its record expects
     abbrev agrees : Bool
@@ -204,4 +204,4 @@ none_told manifest =
     parts_same manifest
     (sym (count-below (record_count manifest)))
     refl refl refl
-    (tab-cong 512 _ _ (λ k _. sym (and_yes (ltb k (record_count manifest)))))
+    (tab-cong 512 _ _ (λ k _. ap digit (sym (and_yes (ltb k (record_count manifest))))))

@@ -82,11 +82,11 @@ unfoldable pub with_listed : Tally → ℕ → Bool → Tally
 with_listed y k agrees =
     record {
       listed = y.listed;
-      untold = y.untold - digit (get_or y.awaited k false);
+      untold = y.untold - get_or y.awaited k 0;
       equal = y.equal + digit agrees;
       unequal = y.unequal + digit (not agrees);
       unlisted = y.unlisted;
-      awaited = set y.awaited k false;
+      awaited = set y.awaited k 0;
     }
 
 -- a table of no listed axis
@@ -129,8 +129,8 @@ unfoldable pub piece_taken : List ℕ → Report → List ℕ → Report
 piece_taken manifest r piece = cond (r.passed && is_ordered manifest) (foldl (byte_taken manifest) r piece) r
 
 -- every axis awaited, by its record
-unfoldable pub awaited_all : List ℕ → List Bool
-awaited_all manifest = tab max_records (λ k. ltb k (record_count manifest))
+unfoldable pub awaited_all : List ℕ → List ℕ
+awaited_all manifest = tab max_records (λ k. digit (ltb k (record_count manifest)))
 
 -- no table read yet
 unfoldable pub fresh_report : List ℕ → Report
@@ -154,7 +154,7 @@ abbrev pub empty_report : Report
 empty_report =
     record {
       passed = false;
-      tally = record { listed = 0; untold = 0; equal = 0; unequal = 0; unlisted = 0; awaited = replicate max_records false };
+      tally = record { listed = 0; untold = 0; equal = 0; unequal = 0; unlisted = 0; awaited = replicate max_records 0 };
       current = unread;
     }
 

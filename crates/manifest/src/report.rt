@@ -75,7 +75,7 @@ fn empty_report() -> Report
             equal: 0,
             unequal: 0,
             unlisted: 0,
-            awaited: [false; MAX_RECORDS],
+            awaited: [0; MAX_RECORDS],
         },
         current: current::unread(),
     }

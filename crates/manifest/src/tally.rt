@@ -13,7 +13,8 @@ use hasher::Hasher;
 use octets::compare::is_same;
 use std::array;
 
-// The tables read so far. awaited[k] says that no table of record k's axis has come.
+// The tables read so far. As long as no table of record k's axis has come, awaited[k] is 1. It is a byte and no bool:
+// what `update` and `summary_of` promise of a report, they promise of one with any bytes there.
 #[derive(Clone, Copy)]
 pub struct Tally {
     pub listed: u16,
@@ -21,15 +22,15 @@ pub struct Tally {
     pub equal: u16,
     pub unequal: u16,
     pub unlisted: u16,
-    pub awaited: [bool; MAX_RECORDS],
+    pub awaited: [u8; MAX_RECORDS],
 }
 
 // At the beginning every axis is awaited, by its record.
-pub fn awaited_all(manifest: &Ordered) -> [bool; MAX_RECORDS]
+pub fn awaited_all(manifest: &Ordered) -> [u8; MAX_RECORDS]
     ensures { result ≡ awaited_all manifest.now }
 {
     let n = manifest.count();
-    array::from_fn(|k| k < n)
+    array::from_fn(|k| u8::from(k < n))
 }
 
 // The number of axes that are listed: each record has its own.
@@ -68,7 +69,7 @@ fn with_listed(y: Tally, k: usize, agrees: bool) -> Tally
     ensures { result ≡ with_listed y k agrees }
 {
     let mut awaited = y.awaited;
-    awaited[k] = false;
+    awaited[k] = 0;
     Tally {
         untold: y.untold.saturating_sub(u16::from(y.awaited[k])),
         equal: y.equal + u16::from(agrees),
