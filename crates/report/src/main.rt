@@ -7,6 +7,8 @@
 mod input;
 mod text;
 
+ghost use Rattle.std.specs.Prelude.{◌≡◌, ◌≤◌, length, Err, IfErr};
+
 use answers::Refusal;
 use manifest::{MAX_RECORDS, RECORD_BYTES, Report};
 use reads::Fed;
@@ -21,7 +23,9 @@ const MAX_READS: u64 = 65535 * (6 + 4294967295);
 // Reads the file as far as there is room, and answers what it has, with what a read after it answered, or the opening if
 // it failed. A read that fails takes no byte: the next one goes on from the same place, and so the last one tells whether
 // all was read, also if one failed before.
-fn read_manifest<'a>(rt: &impl Files, room: &'a mut [u8]) -> (&'a [u8], std::io::Result<usize>) {
+fn read_manifest<'a>(rt: &impl Files, room: &'a mut [u8]) -> (&'a [u8], std::io::Result<usize>)
+    ensures { length result.0.now ≤ length room.old }
+{
     // Were standard input closed, the file would have its number: left open, it would be read as the tables. It is
     // closed at the end of this function.
     let mut file = match File::open(rt, "rig") {
@@ -59,20 +63,28 @@ fn show(rt: &impl Print, report: Result<Report, Refusal>) -> std::io::Result<()>
     rt.write_all(&lines[..n])
 }
 
-// The report of the tables in the input. Nothing but a complaint is printed if the input cannot be read.
+// The report of the tables in the input, if one was begun: for a manifest that was refused no byte of it is read.
+fn feed<R: Read>(
+    source: &mut R,
+    manifest: &[u8],
+    begun: Result<Report, Refusal>,
+) -> Result<Fed<Report>, Refusal>
+    ensures { IfErr begun (λ r. (result ≡ Err r) × (R.remaining source.new ≡ R.remaining source.old)) }
+{
+    Ok(feed_all(source, manifest, begun?))
+}
+
+// Nothing but a complaint is printed if the input cannot be read.
 fn report_on<R: Read>(
     rt: &(impl Print + Eprint),
     source: &mut R,
     manifest: &[u8],
     past: std::io::Result<usize>,
 ) -> std::io::Result<()> {
-    let begun = match input::after_manifest(manifest, past) {
-        Ok(begun) => begun,
-        Err(r) => return show(rt, Err(r)),
-    };
-    match feed_all(source, manifest, begun) {
-        Fed::More(report) | Fed::Ended(report) => show(rt, Ok(report)),
-        Fed::Failed => rt.eprintln("report: standard input cannot be read"),
+    match feed(source, manifest, input::after_manifest(manifest, past)) {
+        Ok(Fed::More(report) | Fed::Ended(report)) => show(rt, Ok(report)),
+        Ok(Fed::Failed) => rt.eprintln("report: standard input cannot be read"),
+        Err(r) => show(rt, Err(r)),
     }
 }
 
