@@ -83,6 +83,9 @@ pub fn front(v: u8, w: &[u64; 8]) -> [u8; 36]
 // ---- the table
 
 // The look-ups of each of the eight bytes of a word: shifted here, once, and not at each look-up.
+// It stays a function of its own. Put into its caller, its loop may end on a border of 32 bytes, where the linker decides,
+// and then a call that makes a table was measured to take up to a quarter longer.
+#[inline(never)]
 fn put_copies(out: &mut [u64], table: &[u64; 256])
     requires { (length out.old ≡ word_table_size) × ByteTable nibbles table.now }
     ensures { WordTable nibbles out.new }
