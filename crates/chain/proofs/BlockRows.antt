@@ -127,6 +127,9 @@ module _ (r : ℕ) (pos : 0 < r) (x : List Bool) where
         ∙ first-zeros r (length x / r + 1) (with_one x) (8 * length bytes - length x - 1)
         ∙ padded-first (length x) refl
 
+    pub marked-take : (j : ℕ) → j ≤ length x / r + 1 → take j (whole_blocks r (x ++ sponge_padding r (length x))) ≡ first_blocks r j (bits_in high_first bytes)
+    marked-take j h = ap (take j) (sym marked-first) ∙ first-take r (bits_in high_first bytes) (length x / r + 1) j h
+
     pub marked-at : (j : ℕ) → j < length x / r + 1 → get_or (whole_blocks r (x ++ sponge_padding r (length x))) j [] ≡ filled r (drop (j * r) (bits_in high_first bytes))
     marked-at j h =
         ap (λ (l : List (List Bool)). get_or l j []) (sym marked-first) ∙ first-at r (bits_in high_first bytes) (length x / r + 1) j h

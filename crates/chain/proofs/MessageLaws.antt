@@ -253,6 +253,9 @@ message-long v g k f long =
     ∙ row-second (number_checks g) (when (ltb max_bits (length (given_bits (variant v) g))) TooLong ∷ []) f
     ∙ rw (lt-ltb max_bits (length (given_bits (variant v) g)) long)
 
+pub message-unknown : (v : ℕ) (g : Given) → known v ≡ false → first_refusal (message_checks v g) ≡ Refused UnknownVariant
+message-unknown v g k = rw k
+
 -- ---- two ways to give the same bits
 
 -- where a bit number is checked among other checks, what is alike is answered alike

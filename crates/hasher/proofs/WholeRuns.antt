@@ -62,7 +62,7 @@ module _ (v : ℕ) (k : known v ≡ true) (m : Split) (count : ℕ) (e : count �
       after-long = run_length H (streams v k) (first_blocks H.r count (bits_after held bytes)) (state_in H s) (ap length started ∙ (streams v k).start-length)
 
       -- from there on, the length's
-      end-run : run H after (length_blocks H m.bits) ≡ end_state H M
+      pub end-run : run H after (length_blocks H m.bits) ≡ end_state H M
       unfolding end_state
       end-run = sym (run-append H (state_in H s) (first_blocks H.r count (bits_after held bytes)) (length_blocks H m.bits)) ∙ ap₂ (run H) started all_blocks
 

@@ -80,7 +80,7 @@ clear-byte x h =
     (λ l. width-set high_first 8 x (λ e. omega (arith, sym (mod-eq_of_lt h) ∙ e)) ∙ sym (ne_eqb x 0 (λ e. omega arith)))
     (lt-or-le x 1)
 
-clear-zero-bytes : (bytes : List ℕ) → Bytes bytes → clear (bits_in high_first bytes) ≡ zeros bytes
+pub clear-zero-bytes : (bytes : List ℕ) → Bytes bytes → clear (bits_in high_first bytes) ≡ zeros bytes
 unfolding bits_in
 clear-zero-bytes [] h = refl
 clear-zero-bytes (x ∷ bytes) h =

@@ -73,7 +73,7 @@ module _ (v : ℕ) (low : 1 ≤ v) (high : v ≤ 4) (bytes : List ℕ) (m : ℕ)
   TakenTo e w x = Taken (place_of (photon_of v)) (photon_of v).s (photon_of v).d bytes m e w x
 
   -- the first n cells are those of row 0
-  row-taken : (c n : ℕ) → c ≡ m → n ≤ (photon_of v).d → (w x : List ℕ)
+  pub row-taken : (c n : ℕ) → c ≡ m → n ≤ (photon_of v).d → (w x : List ℕ)
       → ((j : ℕ) → j < n → get_or x j 0 ≡ bit_xor (get_or w j 0) (cell_in 4 bytes (c + j) * 2 ^ 0))
       → ((j : ℕ) → n ≤ j → get_or x j 0 ≡ get_or w j 0)
       → TakenTo (0 * (photon_of v).d + n) w x
