@@ -37,7 +37,9 @@ Each edit is applied to a copy of its crate, and the checker refuses it. All pla
 lies in a function of its own, and each of these functions is refused by itself; one that shows nothing there, since
 a function that it calls is refused, where its place is tried alone. So each row is a wrong program, and its last
 column names the function (or the file of laws) and the fact at which it is refused, and says what that fact is. No row
-is refused for its form, that is, with words with which a right program of that form would be refused too.
+is refused for its form, that is, with words with which a right program of that form would be refused too, but those of
+`octets::text::write_decimal` and `manifest::ordered::Ordered::record_for`: there the slip needs a branch or a call, and
+the proof by hand names what is called. The fact is false of these wrong programs too.
 
 A place in a promise is a wrong promise of right code: of the functions of `lent`, and of the exported ones that take a
 reference to a struct. The checker proves those with no proof written by hand, and what fails is the fact `returns`:

@@ -32,12 +32,12 @@ slice_bounds-r-end c = omega (arith, short c.args.v c.requires.v_value.0 c.args.
 pub copy_from_slice-requires : goal.copy_from_slice-requires
 copy_from_slice-requires c =
     let m = c.args.image.now in
-    omega (arith, short c.args.v c.requires.v_value.0 m c.requires.image_value, length-take (length m) c.permuted-r.result)
+    omega (arith, short c.args.v c.requires.v_value.0 m c.requires.image_value, length-take (length m) c.permuted-r.result, length-take (length m) c.at_front-s.result)
 
 pub slice_bounds-copy_from_slice-end : goal.slice_bounds-copy_from_slice-end
 slice_bounds-copy_from_slice-end c =
     let m = c.args.image.now in
-    omega (arith, short c.args.v c.requires.v_value.0 m c.requires.image_value, length-take (length m) c.permuted-r.result)
+    omega (arith, short c.args.v c.requires.v_value.0 m c.requires.image_value, length-take (length m) c.permuted-r.result, length-take (length m) c.at_front-s.result)
 
 pub returns : goal.returns
 returns c =
