@@ -6,7 +6,7 @@ A module for the scripts beside it; it is no command.
 import re
 from dataclasses import dataclass, field
 
-MARKS = {"unfoldable", "abbrev", "pub", "axiom"}
+MARKS = {"unfoldable", "abbrev", "pub", "axiom", "pattern"}
 CLAUSES = {"requires", "ensures"}
 # A text, an escaped name, a separator, or a run of anything else: the lexical rules of antt
 ANTT = re.compile(r'(?P<space>\s+)|(?P<text>"(?:\\.|[^"\\])*")|«[^»]*»|[(){}.;,@]|[^\s(){}.;,@"«»]+')
